@@ -1,0 +1,22 @@
+-- The number of each refusal: the column "No." of document 01's table "Turned down". The one place that says it.
+use Prim.Native.Nat.{ℕ}
+use Rattle.refusals.specs.declared.Refusal.{Refusal}
+use Rattle.refusals.specs.declared.Refusal.the-variants.{Broken, QuestionOpen, NoSuchQuestion, Zero, ArenasOff, Range, NotWhole, NotInside, PastEnd, NoRun, CommitRefused, ChunkCount, TableFull, MemoryRefused, NoWholeChunk, HostRefused}
+
+abbrev pub number : Refusal → ℕ
+number Broken = 1
+number QuestionOpen = 2
+number NoSuchQuestion = 3
+number Zero = 4
+number ArenasOff = 5
+number Range = 6
+number NotWhole = 7
+number NotInside = 8
+number PastEnd = 9
+number NoRun = 10
+number CommitRefused = 11
+number ChunkCount = 12
+number TableFull = 13
+number MemoryRefused = 14
+number NoWholeChunk = 15
+number HostRefused = 16

@@ -1,0 +1,2 @@
+pub mod LowestLaws
+pub mod SearchLaws

@@ -53,7 +53,7 @@ pub fn low_ones(n: usize) -> u32
 }
 
 // w with the n bits from lo on set.
-pub fn set_word(w: u32, lo: usize, n: usize) -> u32
+fn set_word(w: u32, lo: usize, n: usize) -> u32
     requires { ⌜ (lo < 32) × (lo + n ≤ 32) ⌝ }
     ensures { λ r. ⌜ ((i : ℕ) → bit r i ≡ cond (within lo n i) true (bit w i)) ⌝ }
 {
@@ -61,7 +61,7 @@ pub fn set_word(w: u32, lo: usize, n: usize) -> u32
 }
 
 // w with the n bits from lo on clear.
-pub fn clear_word(w: u32, lo: usize, n: usize) -> u32
+fn clear_word(w: u32, lo: usize, n: usize) -> u32
     requires { ⌜ (lo < 32) × (lo + n ≤ 32) ⌝ }
     ensures { λ r. ⌜ ((i : ℕ) → bit r i ≡ cond (within lo n i) false (bit w i)) ⌝ }
 {
@@ -69,7 +69,7 @@ pub fn clear_word(w: u32, lo: usize, n: usize) -> u32
 }
 
 // w with the n bits from lo on made `on`.
-pub fn write_word(w: u32, lo: usize, n: usize, on: bool) -> u32
+fn write_word(w: u32, lo: usize, n: usize, on: bool) -> u32
     requires { ⌜ (lo < 32) × (lo + n ≤ 32) ⌝ }
     ensures { λ r. ⌜ ((i : ℕ) → bit r i ≡ cond (within lo n i) on (bit w i)) ⌝ }
 {
@@ -101,7 +101,7 @@ pub fn least(a: usize, b: usize) -> usize
 }
 
 // The n places from start on of a lent row made `on`, a word at a time.
-pub fn write_run(lent: &mut [u32], start: usize, n: usize, on: bool)
+fn write_run(lent: &mut [u32], start: usize, n: usize, on: bool)
     requires { ⌜ (start + n ≤ 32 * length (now lent)) × (start + n ≤ 65536) ⌝ }
     ensures { λ _. ⌜ now (lent .exit) ≡ writeRun on (now (lent .entry)) start n ⌝ }
 {

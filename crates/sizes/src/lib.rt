@@ -1,0 +1,3 @@
+// Size arithmetic: what the arena layer takes from bins.rs and os.rs.
+pub mod bins;
+pub mod os;

@@ -3,9 +3,13 @@
 use mathlib.Core.Path.{_≡_}
 use mathlib.Core.Bool.{Bool, true, false, _&&_}
 use mathlib.Core.List.{List}
-use Prim.Native.Nat.{ℕ, _+_, _/_, _%_, _^_, _≤_, _<_}
+use Prim.Native.Nat.{ℕ, _+_, _-_, _/_, _%_, _^_, _≤_, _<_}
 use lib.Dec.{leb, ltb, eqb}
 use lib.ListN.{getD}
+
+-- the mask of n low ones: "The masks of n low ones, n from 0 to 32" ("Map words")
+abbrev pub lowOnes : ℕ → ℕ
+lowOnes n = 2 ^ n - 1
 
 -- bit i of the number w
 unfoldable pub bit : ℕ → ℕ → Bool

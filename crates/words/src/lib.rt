@@ -2,9 +2,9 @@
 // masks, and the lowest set or clear bit of a word. Document 01, "Map words".
 ghost use mathlib.Core.Path.{_≡_};
 ghost use mathlib.Core.Bool.{true, false, cond};
-ghost use Prim.Native.Nat.{ℕ, _+_, _*_, _-_, _^_, _<_, _≤_, min};
+ghost use Prim.Native.Nat.{ℕ, _+_, _*_, _<_, _≤_, min};
 ghost use lib.ListN.{length};
-ghost use Rattle.words.specs.Bits.{bit, within, LowestBit};
+ghost use Rattle.words.specs.Bits.{lowOnes, bit, within, LowestBit};
 ghost use Rattle.words.specs.Rows.{writeRun, setRun, clearRun};
 
 // The masks of n low ones, n from 0 to 32. Only low_ones reads them.
@@ -47,7 +47,7 @@ const LOW_ONES: [u32; 33] = [
 // The mask of n low ones.
 pub fn low_ones(n: usize) -> u32
     requires { ⌜ n ≤ 32 ⌝ }
-    ensures { λ r. ⌜ r ≡ 2 ^ n - 1 ⌝ }
+    ensures { λ r. ⌜ r ≡ lowOnes n ⌝ }
 {
     LOW_ONES[n]
 }

@@ -1,0 +1,5 @@
+pub mod Record
+pub mod Registering
+pub mod Claiming
+pub mod Releasing
+pub mod Sweeping

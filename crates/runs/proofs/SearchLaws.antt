@@ -151,6 +151,41 @@ empty-step w carry n e h = (
     clear : (i : ℕ) → bit w i ≡ false
     clear i = ap (λ (x : ℕ). bit x i) e ∙ bit-high 0 0 i (omega arith) (omega arith)
 
+-- a word with no two free neighbours, before a run of which at least two places are missing
+module _ (w carry n : ℕ) (small : w < 2 ^ 32) (apart : bitAnd w (w / 2 ^ 1) ≡ 0) (missing : carry + 1 < n) where
+  -- of two neighbours one is not free
+  lone : (i : ℕ) → bit w i ≡ true → bit w (i + 1) ≡ true → ⊥
+  lone i e f =
+      not-both (bit (bitAnd w (w / 2 ^ 1)) i) (ap (λ (x : ℕ). bit x i) apart ∙ bit-high 0 0 i (omega arith) (omega arith))
+      (and-bit w (w / 2 ^ 1) i ∙ ap₂ _&&_ e (shr-bit w 1 i ∙ ap (bit w) (let z : 1 + i ≡ i + 1 = omega arith in z) ∙ f))
+
+  top : (k : ℕ) → k ≡ w / 2 ^ 31 → bit w 31 ≡ eqb (k % 2) 1
+  unfolding bit
+  top k e = ap (λ (x : ℕ). eqb (x % 2) 1) (sym e)
+
+  pub lone-step : (k : ℕ) → k ≡ w / 2 ^ 31 → Stepped w carry n (Carry k)
+  lone-step k e = (
+    omega arith,
+    λ f. lone 0 (f 0 (omega arith) (omega arith)) (f (0 + 1) (omega arith) (omega arith)),
+    λ t f. lone t (f t (omega arith) (omega arith)) (f (t + 1) (omega arith) (omega arith)),
+    below k (omega arith) (top k e),
+    λ j u v. above k (omega arith) (top k e) j u v,
+  )
+    where
+      below : (x : ℕ) → x < 2 → bit w 31 ≡ eqb (x % 2) 1 → bit w (31 - x) ≡ false
+      below zero h f = f
+      below (suc zero) h f = go (bit w 30) refl
+        where
+          go : (b : Bool) → bit w 30 ≡ b → b ≡ false
+          go false p = refl
+          go true p = absurd (lone 30 p f)
+      below (suc (suc x)) h f = absurd (omega arith)
+
+      above : (x : ℕ) → x < 2 → bit w 31 ≡ eqb (x % 2) 1 → (j : ℕ) → 32 - x ≤ j → j < 32 - x + x → bit w j ≡ true
+      above zero h f j u v = absurd (omega arith)
+      above (suc zero) h f j u v = ap (bit w) (let z : j ≡ 31 = omega arith in z) ∙ f
+      above (suc (suc x)) h f j u v = absurd (omega arith)
+
 module _ (w carry n low : ℕ) (small : w < 2 ^ 32) (room : carry < n) (lowest : LowestBit false w low) where
   pub before-step : n ≤ carry + low → Stepped w carry n Before
   before-step h = λ j u v. set-below w low lowest j (omega arith)

@@ -68,6 +68,12 @@ fn look(w: u32, carry: usize, n: usize) -> Step
     if w == 0 {
         return Step::Carry(0);
     }
+    // No two neighbours are free: nothing longer than 1 starts, ends or lies in the word.
+    if w & (w >> 1) == 0 {
+        if carry + 1 < n {
+            return Step::Carry((w >> 31) as usize);
+        }
+    }
     let low = words::lowest_clear(w) as usize;
     if n <= carry + low {
         return Step::Before;

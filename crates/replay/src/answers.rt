@@ -1,0 +1,79 @@
+// Our answer to a recorded call, as a number.
+ghost use mathlib.Core.Path.{_≡_};
+ghost use Rattle.replay.specs.Signed.{signedOf};
+use crate::line::Line;
+use crate::pool;
+use slice_pool::Allocated;
+use slice_pool::Freed;
+
+fn truth(yes: bool) -> u64 {
+    if yes { 1 } else { 0 }
+}
+
+// The low 32 bits.
+fn low(x: u64) -> u32 {
+    (x % 4294967296) as u32
+}
+
+// The number whose two's complement x is.
+fn signed(x: u64) -> i64
+    ensures { λ r. ⌜ r ≡ signedOf x ⌝ }
+{
+    if x < 9223372036854775808 {
+        return x as i64;
+    }
+    !((u64::MAX - x) as i64)
+}
+
+// Kinds 1 to 6, on numbers alone.
+fn of_numbers(kind: u64, a: u64, b: u64) -> u64 {
+    match kind {
+        1 => truth(sizes::bins::is_aligned_to(a, b)),
+        2 => sizes::os::page_align_up(a, b),
+        3 => clock::arm(low(a), low(b)) as u64,
+        4 => truth(clock::is_due(low(a), low(b))),
+        5 => clock::now_ms(a) as u64,
+        _ => clock::delay_ms(signed(a)) as u64,
+    }
+}
+
+// Kind 7: the run's address; the largest number where there is none.
+fn of_alloc(words: &mut [u32], slices: u64) -> u64 {
+    let got = slice_pool::alloc_run(words, slices);
+    match got {
+        Allocated::Run(at) => at,
+        Allocated::NotRun(_) => u64::MAX,
+    }
+}
+
+// Kind 8.
+fn of_free(words: &mut [u32], base: u64, size: u64) -> u64 {
+    let got = slice_pool::free_range(words, base, size);
+    match got {
+        Freed::Done => 1,
+        Freed::NotDone(_) => 0,
+    }
+}
+
+// Kinds 7 to 10, on the slice pool.
+fn of_pool(kind: u64, a: u64, b: u64, words: &mut [u32]) -> u64 {
+    if kind == 7 {
+        return of_alloc(words, a);
+    }
+    if kind == 8 {
+        return of_free(words, a, b);
+    }
+    if kind == 9 {
+        return truth(pool::hash(words) as u64 == a);
+    }
+    pool::clear(words);
+    1
+}
+
+// Whether our answer is the recorded one.
+pub fn agrees(l: Line, words: &mut [u32]) -> bool {
+    if l.kind <= 6 {
+        return of_numbers(l.kind, l.a, l.b) == l.r;
+    }
+    of_pool(l.kind, l.a, l.b, words) == l.r
+}

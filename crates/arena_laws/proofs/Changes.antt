@@ -19,7 +19,7 @@ use Rattle.arena.specs.Record.{withUsed, withDirty, withCommitted, withPending,
 use Rattle.arena.specs.Registering.{noBits, eachBit, newArena, grownArena}
 use Rattle.arena.specs.Claiming.{free, findRun, takeRun, giveBackRun, commitRun, dirtyRun, finishGrant}
 use Rattle.arena.specs.Releasing.{tellRun, pendRun, releaseRun}
-use Rattle.arena.specs.Sweeping.{disarm, borrowChunk, unpendChunk, returnChunk, rearmAt, rearm}
+use Rattle.arena.specs.Sweeping.{disarm, borrowChunk, unpendChunk, returnChunk, nextWait, rearmAt, rearm}
 use Rattle.arena_laws.specs.Rows.{Row, Rows}
 use Rattle.arena_laws.proofs.RowLaws.{row-write, bit-write, bit-in, bit-out, write-same, write-again, no-bits-row}
 
@@ -105,7 +105,7 @@ rearm-at-rows a now Nothing r = r
 pub rearm-rows : (a : Arena) (stamps : List ℕ) (force : Bool) (now delay : ℕ) → Rows a → Rows (rearm a stamps force now delay)
 unfolding rearm
 rearm-rows a stamps true now delay r = r
-rearm-rows a stamps false now delay r = rearm-at-rows a now _ r
+rearm-rows a stamps false now delay r = rearm-at-rows a now (nextWait a stamps now delay) r
 
 each-bit-row : (chunks : ℕ) (b : Bool) → Row (eachBit chunks b)
 each-bit-row chunks true = row-write true noBits 0 chunks no-bits-row

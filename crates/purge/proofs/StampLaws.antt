@@ -1,13 +1,13 @@
 -- The laws of a run of stamps: none, one more, its length, and a run in a part of a list as a run in the whole. Assumes nothing.
-use mathlib.Core.Path.{_≡_, refl, sym, ap, ap₂, _∙_}
+use mathlib.Core.Path.{_≡_, sym, ap, ap₂, _∙_}
 use mathlib.Core.List.{List, [], _∷_, _++_, append-assoc}
-use Prim.Native.Nat.{ℕ, zero, suc, _+_, _-_, _*_, _≤_, _<_}
+use Prim.Native.Nat.{ℕ, suc, _+_, _-_, _*_, _≤_, _<_}
 use native.Mathlib.Nat.{add-zero}
-use native.Mathlib.Numerals.{add-one}
 use native.Mathlib.Omega.{arith}
 use lib.ListN.{length, getD, set, take, drop, replicate, length-append, length-take, length-drop, length-replicate, take-append-drop, replicate-append-replicate}
 use lib.Seq.{set-at, drop-cons, take-take, take-add, drop-drop, drop-append-le}
 use Rattle.arena.specs.Releasing.{stampRun}
+use Rattle.purge.specs.Stamps.{stampsOf}
 
 -- ---- a turn of the loop over a run
 
@@ -48,3 +48,8 @@ stamp-part xs lo k s n at h l =
     ∙ ap₂ _++_ (take-take s k d (omega arith)) (append-assoc (replicate n at) (drop (s + n) p) (drop k d) ∙ ap (λ (t : List ℕ). replicate n at ++ t) back))
     ∙ sym (append-assoc (take lo xs) (take s d) (replicate n at ++ drop (lo + s + n) xs))
     ∙ ap (λ (t : List ℕ). t ++ (replicate n at ++ drop (lo + s + n) xs)) (sym (take-add lo s xs))
+
+-- an arena's stamps, as the part is lent
+pub stamps-part : (xs : List ℕ) (id : ℕ) → take (1024 * id + 1024 - 1024 * id) (drop (1024 * id) xs) ≡ stampsOf xs id
+unfolding stampsOf
+stamps-part xs id = ap (λ (k : ℕ). take k (drop (1024 * id) xs)) (let z : 1024 * id + 1024 - 1024 * id ≡ 1024 = omega arith in z)

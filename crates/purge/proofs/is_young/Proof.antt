@@ -1,7 +1,7 @@
 -- `purge::is_young` meets its contract. Assumes nothing.
-use borrow.Author.Needs.{needs}
 use mathlib.Core.Path.{ap, _∙_}
 use Prim.Native.Nat.{ℕ}
+use borrow.Author.Needs.{needs}
 use lib.Dec.{ltb}
 use Rattle.purge.proofs.PurgeLaws.{young-forced, young-by-age}
 use Rattle.purge.proofs.is_young.Statement.{statement}

@@ -54,6 +54,22 @@ least-at p s (suc k) x l m e h =
     ∙ least-at p (suc s) k x i (omega arith) e (λ t u v. h t (omega arith) v))
     (eq-or-lt-of-le l)
 
+-- what an answer says: the first place at which p holds, or that there is none
+abbrev pub First : (ℕ → Bool) → ℕ → ℕ → Found → Type 0
+First p s k (At x) = (s ≤ x) × (x < s + k) × (p x ≡ true) × ((t : ℕ) → s ≤ t → t < x → p t ≡ false)
+First p s k Nothing = (t : ℕ) → s ≤ t → t < s + k → p t ≡ false
+
+pub first-says : (p : ℕ → Bool) (s k : ℕ) → First p s k (least p s k)
+unfolding least
+first-says p s zero = λ t u v. absurd (omega arith)
+first-says p s (suc k) = go (p s) refl (least p (suc s) k) (first-says p (suc s) k)
+  where
+    go : (b : Bool) → p s ≡ b → (r : Found) → First p (suc s) k r → First p s (suc k) (cond b (At s) r)
+    go true e r h = (le-refl s, omega arith, e, λ t u v. absurd (omega arith))
+    go false e (At x) h =
+        (omega arith, omega arith, h .2, λ t u v. ⊎-elim (λ (q : s < t). h .3 t q v) (λ (q : t ≤ s). ap p (let z : t ≡ s = omega arith in z) ∙ e) (lt-or-le s t))
+    go false e Nothing h = λ t u v. ⊎-elim (λ (q : s < t). h t q (omega arith)) (λ (q : t ≤ s). ap p (let z : t ≡ s = omega arith in z) ∙ e) (lt-or-le s t)
+
 -- ---- the answer that is right is the one that is computed
 
 module _ (free : ℕ → Bool) (places n : ℕ) where

@@ -27,12 +27,13 @@ use Rattle.runs.specs.declared.Step.the-variants.{Before, From, Whole, C
 
 -- ---- tests
 
-same : (a b : Bool) → (a ≡ true → b ≡ true) → (b ≡ true → a ≡ true) → a ≡ b
+-- two tests, of which each is true where the other is, are equal
+pub same : (a b : Bool) → (a ≡ true → b ≡ true) → (b ≡ true → a ≡ true) → a ≡ b
 same true b f g = sym (f refl)
 same false true f g = absurd (true≢false (sym (g refl)))
 same false false f g = refl
 
-and-both : (a b : Bool) → a && b ≡ true → (a ≡ true) × (b ≡ true)
+pub and-both : (a b : Bool) → a && b ≡ true → (a ≡ true) × (b ≡ true)
 and-both true true e = (refl, refl)
 and-both true false e = absurd (true≢false (sym e))
 and-both false b e = absurd (true≢false (sym e))

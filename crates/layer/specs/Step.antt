@@ -1,0 +1,88 @@
+-- One call: the rules of document 01 put together. Assumes nothing.
+use mathlib.Core.Bool.{Bool, true, false, cond}
+use mathlib.Core.List.{List}
+use Prim.Native.Nat.{ℕ, _+_, _*_}
+use lib.Dec.{ltb}
+use lib.IntN.{ℤ, pos, negsuc}
+use Rattle.refusals.specs.declared.Refusal.the-variants.{Broken, QuestionOpen}
+use Rattle.clock.specs.Clock.{nowMs, delayMs}
+use Rattle.arena.specs.declared.Arena.{Arena}
+use Rattle.arena.specs.declared.Commitment.{Commitment}
+use Rattle.lookup.specs.Place.{bytesOf}
+use Rattle.layer.specs.declared.Settings.{Settings}
+use Rattle.layer.specs.declared.Sweep.{Sweep}
+use Rattle.layer.specs.declared.State.{State}
+use Rattle.layer.specs.declared.Question.{Question}
+use Rattle.layer.specs.declared.Question.the-variants.{Idle, Committing, Purging, Reserving, GivingBack}
+use Rattle.layer.specs.declared.Kind.{Kind}
+use Rattle.layer.specs.declared.Answer.{Answer}
+use Rattle.layer.specs.declared.Answer.the-variants.{Owns, Area}
+use Rattle.layer.specs.World.{World, Outcome, stateOf, reply, after, turnDown}
+use Rattle.layer.specs.Table.{at, isAt, findArena, sound}
+use Rattle.layer.specs.Registering.{reserveOf, manageOf, adoptOf}
+use Rattle.layer.specs.Claiming.{claimOf}
+use Rattle.layer.specs.Releasing.{releaseOf}
+use Rattle.layer.specs.Sweeping.{sweepFrom}
+use Rattle.layer.specs.Answering.{answerOf}
+
+-- the calls of the layer; later requests add cases
+pub data Call : Type 0 where
+  -- size, commit, allow large, exclusive
+  reserve : ℕ → Bool → Bool → Bool → Call
+  -- start, size, exclusive, node; the host's facts: in the segment map, reserved
+  manage : ℕ → ℕ → Bool → ℤ → Bool → Bool → Call
+  -- address, size
+  adopt : ℕ → ℕ → Call
+  -- arena id, chunks, whether a commit question is put: `chunk_alloc` (1, true), `chunk_claim` (1, false), `chunk_alloc_n` (n, true)
+  claim : ℤ → ℕ → Bool → Call
+  -- address, chunks, what is told of commitment, pending
+  release : ℕ → ℕ → Commitment → Bool → Call
+  -- force
+  sweep : Bool → Call
+  -- kind, yes, base
+  answer : Kind → Bool → ℕ → Call
+  -- address
+  owns : ℕ → Call
+  -- arena id
+  area : ℤ → Call
+
+-- "A sweep keeps its first clock and settings until it ends."
+abbrev pub sweepOf : Bool → ℕ → Settings → Sweep
+sweepOf force ns settings =
+    record { force = force; now = nowMs ns; delay = delayMs (settings .delay); decommit = settings .decommits; purged = 0 }
+
+-- "`arena_area` answers base and chunks × S, or 0 and 0."
+abbrev pub areaOf : ℕ → List Arena → ℕ → ℤ → Answer
+areaOf S l k (pos i) = cond (ltb i k) (Area (at l i .base) (bytesOf S (at l i))) (Area 0 0)
+areaOf S l k (negsuc i) = Area 0 0
+
+-- row 2: what is done where no question is open, and else the refusal
+abbrev pub gate : Question → Outcome → Outcome → Outcome
+gate Idle go stop = go
+gate (Committing id start n) go stop = stop
+gate (Purging id chunk w) go stop = stop
+gate (Reserving chunks bytes commit exclusive waiting) go stop = stop
+gate (GivingBack cause waiting) go stop = stop
+
+-- a call on a sound table
+module _ (S : ℕ) (l : List Arena) (stamps : List ℕ) (k : ℕ) (mark : Bool) (q : Question) (ns : ℕ) (settings : Settings) where
+  abbrev pub stepOn : Call → Outcome
+  stepOn (reserve size commit large exclusive) =
+      gate q (reserveOf S l stamps k mark size commit large exclusive (settings .page)) (after (turnDown QuestionOpen (stateOf k mark q)) l stamps)
+  stepOn (manage start size exclusive node mapped reserved) =
+      gate q (manageOf S l stamps k mark start size exclusive node mapped reserved) (after (turnDown QuestionOpen (stateOf k mark q)) l stamps)
+  stepOn (adopt address size) = gate q (adoptOf S l stamps k mark address size) (after (turnDown QuestionOpen (stateOf k mark q)) l stamps)
+  stepOn (claim id n commits) = gate q (claimOf S l stamps k mark id n commits settings) (after (turnDown QuestionOpen (stateOf k mark q)) l stamps)
+  stepOn (release address n told pending) =
+      gate q (releaseOf S l stamps k mark address n told pending (nowMs ns) (delayMs (settings .delay))) (after (turnDown QuestionOpen (stateOf k mark q)) l stamps)
+  stepOn (sweep force) = gate q (sweepFrom S stamps k mark (sweepOf force ns settings) k 0 l) (after (turnDown QuestionOpen (stateOf k mark q)) l stamps)
+  stepOn (answer kind granted base) = answerOf S l stamps k mark q kind granted base
+  stepOn (owns address) = after (reply (Owns (isAt (findArena S l k address))) (stateOf k mark q)) l stamps
+  stepOn (area id) = after (reply (areaOf S l k id) (stateOf k mark q)) l stamps
+
+-- any call on any lent table: "Order: 1; then 2, or 3 for answers; then the call's own."
+unfoldable pub step : ℕ → World → ℕ → Settings → Call → Outcome
+step S w ns settings c =
+    cond (sound S w (settings .page))
+    (stepOn S (w .records) (w .stamps) (w .state .count) (w .state .mark) (w .state .question) ns settings c)
+    (after (turnDown Broken (w .state)) (w .records) (w .stamps))

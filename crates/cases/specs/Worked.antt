@@ -3,7 +3,7 @@
 use mathlib.Core.Bool.{Bool, true, false, cond, not}
 use mathlib.Core.List.{List, [], _∷_}
 use Prim.Native.Nat.{ℕ}
-use lib.IntN.{pos}
+use lib.IntN.{pos, negsuc}
 use lib.ListN.{replicate}
 use Rattle.words.specs.Bits.{lowOnes, bitAt}
 use Rattle.runs.specs.declared.Found.{Found}
@@ -12,6 +12,10 @@ use Rattle.runs.specs.Lowest.{lowestRun}
 use Rattle.sizes.specs.Sizes.{pageAlignUp}
 use Rattle.clock.specs.Clock.{nowMs, delayMs, armed, isDue}
 use Rattle.slice_pool.specs.Pool.{allocRun, allocAddress, freeRange}
+use Rattle.arena.specs.declared.Arena.{Arena}
+use Rattle.layer.specs.World.{empty, blank}
+use Rattle.layer.specs.Table.{at}
+use Rattle.layer.specs.Registering.{manageOf}
 
 -- an answer as a number: the run's start, or 1,024 where there is none
 abbrev pub start : Found → ℕ
@@ -30,6 +34,10 @@ due at now = cond (isDue at now) 1 0
 abbrev pub freedThenRun : ℕ → ℕ → ℕ → ℕ
 freedThenRun base size n = allocAddress (allocRun (freeRange (replicate 2048 0) base size .words) n .answer)
 
+-- the first arena after an empty layer manages a range that the host has reserved; a chunk is 33,554,432 bytes
+abbrev pub managed : ℕ → ℕ → Arena
+managed start size = at (manageOf 33554432 (empty .records) (empty .stamps) 0 false start size false (negsuc 0) false true .world .records) 0
+
 unfoldable pub computed : List ℕ
 computed =
     lowOnes 0 ∷ lowOnes 32
@@ -43,6 +51,8 @@ computed =
     ∷ due 2147483646 0 ∷ due 2147483647 0
     ∷ nowMs 999999 ∷ nowMs 4294967296000000
     ∷ delayMs (pos 1073741824)
+    -- the first arena's base and chunks
+    ∷ managed 1 67108864 .base ∷ managed 1 67108864 .chunks
     ∷ pageAlignUp 4096 0 ∷ pageAlignUp 4096 18446744073709551615
     ∷ freedThenRun 65536 131072 2
     ∷ []
@@ -57,6 +67,7 @@ stated =
     ∷ 0 ∷ 1
     ∷ 1 ∷ 1
     ∷ 1073741823
+    ∷ 33554432 ∷ 1
     ∷ 4096 ∷ 18446744073709551615
     ∷ 65536
     ∷ []

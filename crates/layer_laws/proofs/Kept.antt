@@ -1,0 +1,266 @@
+-- Sound in, sound out: a call on a table that row 1 lets pass leaves one that row 1 lets pass. First what does not register. Assumes nothing.
+use mathlib.Core.Path.{_≡_, refl, sym, ap, _∙_, subst}
+use mathlib.Core.Bool.{Bool, true, false, cond, not, _&&_, true≢false}
+use mathlib.Core.List.{List, _++_}
+use Prim.Native.Nat.{ℕ, zero, suc, _+_, _-_, _*_, _/_, _%_, _<_, _≤_}
+use native.Mathlib.Nat.{zero-add}
+use native.Mathlib.Omega.{arith}
+use borrow.Author.Tests.{leb-true, ltb-true, eqb-true}
+use lib.Dec.{leb, ltb, eqb}
+use lib.IntN.{ℤ}
+use lib.ListN.{length, getD, set, take, drop, replicate, length-set, length-append, length-take, length-drop, length-replicate}
+use Rattle.words.specs.Bits.{bitAt}
+use Rattle.runs.specs.declared.Found.{Found}
+use Rattle.runs.specs.declared.Found.the-variants.{At, Nothing}
+use Rattle.runs.specs.Lowest.{least}
+use Rattle.runs.proofs.LowestLaws.{First, first-says}
+use Rattle.runs.proofs.SearchLaws.{and-both}
+use Rattle.arena.specs.declared.Arena.{Arena}
+use Rattle.arena.specs.declared.Commitment.{Commitment}
+use Rattle.arena.specs.declared.Commitment.the-variants.{Untold, Committed, Uncommitted}
+use Rattle.arena.specs.Claiming.{findRun, takeRun, giveBackRun, commitRun, dirtyRun, finishGrant}
+use Rattle.arena.specs.Releasing.{tellRun, pendRun, releaseRun, stampRun}
+use Rattle.arena.specs.Sweeping.{sweepDue, toAsk, nextAsked, disarm, borrowChunk, unpendChunk, returnChunk, nextWait, rearmAt, rearm}
+use Rattle.lookup.specs.Place.{isInside}
+use Rattle.lookup.proofs.SoundLaws.{SoundArena}
+use Rattle.purge.specs.Stamps.{stampsOf}
+use Rattle.arena_laws.specs.Rows.{Rows}
+use Rattle.arena_laws.proofs.RowLaws.{bit-in}
+use Rattle.arena_laws.proofs.Changes.{found-inside, take-rows, give-back-rows, commit-rows, dirty-rows, finish-rows, release-rows, disarm-rows, borrow-rows, return-rows, rearm-rows}
+use Rattle.arena_laws.proofs.Soundness.{take-sound, give-back-sound, dirty-sound, finish-sound, release-sound, disarm-sound, borrow-sound, return-sound, rearm-sound}
+use Rattle.layer.specs.declared.Settings.{Settings}
+use Rattle.layer.specs.declared.Sweep.{Sweep}
+use Rattle.layer.specs.declared.State.{State}
+use Rattle.layer.specs.declared.Question.{Question}
+use Rattle.layer.specs.declared.Question.the-variants.{Idle, Committing, Purging, Reserving, GivingBack}
+use Rattle.layer.specs.declared.Reply.{Reply}
+use Rattle.layer.specs.World.{World, Outcome, stateOf, worldOf, calm}
+use Rattle.layer.specs.Table.{at, isAt, findArena}
+use Rattle.layer.specs.Claiming.{serves, asksCommit, grantArena, grantReply, searchAt, searchOf, grantFound}
+use Rattle.layer.specs.Releasing.{releases, releaseReply, releaseIn, releaseAt, releaseOf}
+use Rattle.layer.specs.Sweeping.{purgeReply, sweptReply, visitAt, visit, sweepFrom}
+use Rattle.layer_laws.proofs.Tools.{by-cond, at-same, by-set}
+use Rattle.layer_laws.proofs.Facts.{SoundTable, SoundQuestion, put-sound}
+
+-- ---- a sound world
+
+pub record SoundWorld (S : ℕ) (w : World) : Type 0 where
+  pub table : SoundTable S (w .records) (w .state .count)
+  pub stamps : length (w .stamps) ≡ 32768
+  pub question : SoundQuestion (w .records) (w .state .count) (w .state .question)
+
+-- what a call leaves is sound
+abbrev pub Kept : ℕ → Outcome → Type 0
+Kept S o = SoundWorld S (o .world)
+
+-- ---- what a change leaves of a range
+
+pub take-range : (a : Arena) (s n : ℕ) → (takeRun a s n .base ≡ a .base) × (takeRun a s n .chunks ≡ a .chunks)
+unfolding takeRun
+take-range a s n = (refl, refl)
+
+pub give-back-range : (a : Arena) (s n : ℕ) → (giveBackRun a s n .base ≡ a .base) × (giveBackRun a s n .chunks ≡ a .chunks)
+unfolding giveBackRun
+give-back-range a s n = (refl, refl)
+
+pub dirty-range : (a : Arena) (s n : ℕ) → (dirtyRun a s n .base ≡ a .base) × (dirtyRun a s n .chunks ≡ a .chunks)
+unfolding dirtyRun
+dirty-range a s n = (refl, refl)
+
+pub finish-range : (a : Arena) (s n : ℕ) (commit : Bool) → (finishGrant a s n commit .base ≡ a .base) × (finishGrant a s n commit .chunks ≡ a .chunks)
+unfolding finishGrant dirtyRun commitRun
+finish-range a s n true = (refl, refl)
+finish-range a s n false = (refl, refl)
+
+pub release-range : (a : Arena) (s n : ℕ) (told : Commitment) (pending : Bool) (now delay : ℕ)
+    → (releaseRun a s n told pending now delay .base ≡ a .base) × (releaseRun a s n told pending now delay .chunks ≡ a .chunks)
+unfolding releaseRun pendRun tellRun giveBackRun
+release-range a s n Untold true now delay = (refl, refl)
+release-range a s n Untold false now delay = (refl, refl)
+release-range a s n Committed true now delay = (refl, refl)
+release-range a s n Committed false now delay = (refl, refl)
+release-range a s n Uncommitted true now delay = (refl, refl)
+release-range a s n Uncommitted false now delay = (refl, refl)
+
+pub disarm-range : (a : Arena) → (disarm a .base ≡ a .base) × (disarm a .chunks ≡ a .chunks)
+unfolding disarm
+disarm-range a = (refl, refl)
+
+pub borrow-range : (a : Arena) (j : ℕ) → (borrowChunk a j .base ≡ a .base) × (borrowChunk a j .chunks ≡ a .chunks)
+unfolding borrowChunk
+borrow-range a j = take-range a j 1
+
+pub return-range : (a : Arena) (j : ℕ) (granted decommit : Bool) → (returnChunk a j granted decommit .base ≡ a .base) × (returnChunk a j granted decommit .chunks ≡ a .chunks)
+unfolding returnChunk tellRun giveBackRun unpendChunk
+return-range a j true true = (refl, refl)
+return-range a j true false = (refl, refl)
+return-range a j false decommit = (refl, refl)
+
+rearm-at-range : (a : Arena) (now : ℕ) (f : Found) → (rearmAt a now f .base ≡ a .base) × (rearmAt a now f .chunks ≡ a .chunks)
+rearm-at-range a now (At w) = (refl, refl)
+rearm-at-range a now Nothing = (refl, refl)
+
+pub rearm-range : (a : Arena) (stamps : List ℕ) (force : Bool) (now delay : ℕ) → (rearm a stamps force now delay .base ≡ a .base) × (rearm a stamps force now delay .chunks ≡ a .chunks)
+unfolding rearm
+rearm-range a stamps true now delay = (refl, refl)
+rearm-range a stamps false now delay = rearm-at-range a now (nextWait a stamps now delay)
+
+-- the borrowed bit is set
+borrowed : (a : Arena) (j : ℕ) → Rows a → j < 1024 → bitAt (borrowChunk a j .used) j ≡ true
+unfolding borrowChunk takeRun
+borrowed a j r h = bit-in true (a .used) j 1 (r .used) (omega arith) j (omega arith) (omega arith)
+
+-- as many stamps as before
+pub stamp-length : (stamps : List ℕ) (s n x : ℕ) → s + n ≤ length stamps → length (stampRun stamps s n x) ≡ length stamps
+unfolding stampRun
+stamp-length stamps s n x h =
+    length-append (take s stamps) (replicate n x ++ drop (s + n) stamps)
+    ∙ (let a : length (take s stamps) ≡ s = simp length-take (omega arith) in
+    let b : length (replicate n x ++ drop (s + n) stamps) ≡ n + (length stamps - (s + n)) = length-append (replicate n x) (drop (s + n) stamps) ∙ simp (length-drop, length-replicate) in
+    omega arith)
+
+-- ---- claims
+
+module _ (S : ℕ) (l : List Arena) (stamps : List ℕ) (k : ℕ) (mark : Bool) (t : SoundTable S l k) (ls : length stamps ≡ 32768) where
+  pub calm-kept : (m : Bool) → SoundWorld S (worldOf l stamps (calm k m))
+  calm-kept m = record { table = t; stamps = ls; question = tt }
+
+  -- the run that was found in arena i, taken
+  module _ (i s n : ℕ) (h : i < k) (found : findRun (at l i) n ≡ At s) where
+    room : s + n ≤ at l i .chunks
+    room = found-inside (at l i) n s found
+
+    few : at l i .chunks ≤ 1024
+    few = t .each i h .range .few
+
+    there : i < length l
+    there = omega (arith, t .long, t .few)
+
+    taken-table : SoundTable S (set l i (takeRun (at l i) s n)) k
+    taken-table =
+        put-sound S l k i (takeRun (at l i) s n) t h (take-rows (at l i) s n (t .rows i h)) (take-sound S (at l i) s n (t .rows i h) (t .each i h) room)
+        (take-range (at l i) s n .0) (take-range (at l i) s n .1)
+
+    asked : SoundQuestion (set l i (takeRun (at l i) s n)) k (Committing i s n)
+    unfolding takeRun
+    asked =
+        subst (λ (b : Arena). (i < k) × (s + n ≤ b .chunks) × ((j : ℕ) → s ≤ j → j < s + n → bitAt (b .used) j ≡ true))
+        (sym (at-same l i (takeRun (at l i) s n) there))
+        (h, room, λ j u v. bit-in true (at l i .used) s n (t .rows i h .used) (omega (arith, room, few)) j u v)
+
+    dirtied-table : SoundTable S (set l i (dirtyRun (takeRun (at l i) s n) s n)) k
+    dirtied-table =
+        put-sound S l k i (dirtyRun (takeRun (at l i) s n) s n) t h (dirty-rows (takeRun (at l i) s n) s n (take-rows (at l i) s n (t .rows i h)))
+        (dirty-sound S (takeRun (at l i) s n) s n (take-rows (at l i) s n (t .rows i h)) (take-sound S (at l i) s n (t .rows i h) (t .each i h) room)
+        (omega (arith, room, take-range (at l i) s n .1)))
+        (dirty-range (takeRun (at l i) s n) s n .0 ∙ take-range (at l i) s n .0) (dirty-range (takeRun (at l i) s n) s n .1 ∙ take-range (at l i) s n .1)
+
+    pub grant-kept : (commits : Bool)
+        → SoundWorld S (worldOf (set l i (grantArena (at l i) s n commits)) stamps (grantReply S k mark i (at l i) s n commits .state))
+    unfolding grantArena grantReply
+    grant-kept commits = go (asksCommit (at l i) s n commits) refl
+      where
+        go : (b : Bool) → asksCommit (at l i) s n commits ≡ b → SoundWorld S (worldOf (set l i (grantArena (at l i) s n commits)) stamps (grantReply S k mark i (at l i) s n commits .state))
+        go true e = rw e (record { table = taken-table; stamps = ls; question = asked })
+        go false e = rw e (record { table = dirtied-table; stamps = ls; question = tt })
+
+  -- a search, where what a miss leaves is sound
+  pub search-kept : (id : ℤ) (n : ℕ) (commits : Bool) (missed : Reply) → SoundWorld S (worldOf l stamps (missed .state)) → Kept S (searchOf S l stamps k mark id n commits missed)
+  unfolding searchOf
+  search-kept id n commits missed m = go (least (serves id n l) 0 k) (first-says (serves id n l) 0 k)
+    where
+      run : (i : ℕ) → i < k → (f : Found) → findRun (at l i) n ≡ f → Kept S (grantFound S l stamps k mark i n commits f)
+      run i h (At s) e = grant-kept i s n h e commits
+      run i h Nothing e = calm-kept mark
+
+      go : (f : Found) → First (serves id n l) 0 k f → Kept S (searchAt S l stamps k mark n commits missed f)
+      go (At i) h = run i (omega (arith, h .1)) (findRun (at l i) n) refl
+      go Nothing h = m
+
+  -- ---- releases
+
+  stamped : (s n at-ms : ℕ) → s + n ≤ 32768 → length (stampRun stamps s n at-ms) ≡ 32768
+  stamped s n at-ms h = stamp-length stamps s n at-ms (omega (arith, ls)) ∙ ls
+
+  pub release-in-kept : (i offset n : ℕ) (told : Commitment) (pending : Bool) (now delay : ℕ) → i < k → Kept S (releaseIn S l stamps k mark i offset n told pending now delay)
+  unfolding releaseReply releases
+  release-in-kept i offset n told pending now delay h =
+      by-cond (Kept S) (releases S (at l i) offset n) _ _ granted (λ e. turned)
+    where
+      s : ℕ
+      s = offset / S
+
+      -- whatever a release in one arena answers, it leaves no question
+      calmed : releaseReply S k mark (at l i) offset n .state ≡ calm k mark
+      calmed =
+          by-cond (λ (r : Reply). r .state ≡ calm k mark) (eqb (offset % S) 0) _ _
+          (λ e. by-cond (λ (r : Reply). r .state ≡ calm k mark) (leb (offset / S + n) (at l i .chunks)) _ _ (λ f. refl) (λ f. refl)) (λ e. refl)
+
+      turned : SoundWorld S (worldOf l stamps (releaseReply S k mark (at l i) offset n .state))
+      turned = subst (λ (x : State). SoundWorld S (worldOf l stamps x)) (sym calmed) (calm-kept mark)
+
+      granted : releases S (at l i) offset n ≡ true
+          → SoundWorld S (worldOf (set l i (releaseRun (at l i) (offset / S) n told pending now delay)) (cond pending (stampRun stamps (1024 * i + offset / S) n now) stamps) (releaseReply S k mark (at l i) offset n .state))
+      granted e =
+          let room : offset / S + n ≤ at l i .chunks = leb-true (offset / S + n) (at l i .chunks) (and-both (eqb (offset % S) 0) _ e .1) in
+          let few : at l i .chunks ≤ 1024 = t .each i h .range .few in
+          subst (λ (x : State). SoundWorld S (worldOf (set l i (releaseRun (at l i) (offset / S) n told pending now delay)) (cond pending (stampRun stamps (1024 * i + offset / S) n now) stamps) x))
+          (sym calmed)
+          (record {
+            table = put-sound S l k i (releaseRun (at l i) (offset / S) n told pending now delay) t h (release-rows (at l i) (offset / S) n told pending now delay (t .rows i h))
+                (release-sound S (at l i) (offset / S) n told pending now delay (t .rows i h) (t .each i h) room)
+                (release-range (at l i) (offset / S) n told pending now delay .0) (release-range (at l i) (offset / S) n told pending now delay .1);
+            stamps = by-cond (λ (z : List ℕ). length z ≡ 32768) pending _ _ (λ f. stamped (1024 * i + offset / S) n now (omega (arith, room, few, t .few))) (λ f. ls);
+            question = tt;
+          })
+
+  pub release-kept : (address n : ℕ) (told : Commitment) (pending : Bool) (now delay : ℕ) → Kept S (releaseOf S l stamps k mark address n told pending now delay)
+  unfolding releaseOf findArena
+  release-kept address n told pending now delay =
+      by-cond (Kept S) (eqb n 0) _ _ (λ e. calm-kept mark) (λ e. go (least (λ i. isInside S (at l i) address) 0 k) (first-says (λ i. isInside S (at l i) address) 0 k))
+    where
+      go : (f : Found) → First (λ i. isInside S (at l i) address) 0 k f → Kept S (releaseAt S l stamps k mark address n told pending now delay f)
+      go (At i) h = release-in-kept i (address - at l i .base) n told pending now delay (omega (arith, h .1))
+      go Nothing h = calm-kept mark
+
+-- ---- sweeps
+
+-- the arenas from i on are sound, and the count is not above the places passed
+module _ (S : ℕ) (stamps : List ℕ) (k : ℕ) (mark : Bool) (w : Sweep) (ls : length stamps ≡ 32768) where
+  -- arena i, whose record is a (with the range of the table's), from place `from` on
+  pub visit-kept : (l : List Arena) (i from : ℕ) (a : Arena) (rest : List Arena → Outcome) → SoundTable S l k → i < k → Rows a → SoundArena S a
+      → a .base ≡ at l i .base → a .chunks ≡ at l i .chunks → w .purged ≤ 1024 * i + from
+      → ((m : List Arena) → SoundTable S m k → Kept S (rest m)) → Kept S (visit S stamps k mark w l i a from rest)
+  unfolding visit nextAsked purgeReply
+  visit-kept l i from a rest t h r x p q b go-on =
+      go (least (toAsk a (stampsOf stamps i) (w .force) (w .now) (w .delay)) from (a .chunks - from))
+      (first-says (toAsk a (stampsOf stamps i) (w .force) (w .now) (w .delay)) from (a .chunks - from))
+    where
+      there : i < length l
+      there = omega (arith, t .long, t .few)
+
+      go : (f : Found) → First (toAsk a (stampsOf stamps i) (w .force) (w .now) (w .delay)) from (a .chunks - from) f → Kept S (visitAt S stamps k mark w l i a rest f)
+      go (At j) f =
+          let inside : j < a .chunks = omega (arith, f .0, f .1) in
+          let few : a .chunks ≤ 1024 = x .range .few in
+          record {
+            table = put-sound S l k i (borrowChunk a j) t h (borrow-rows a j r) (borrow-sound S a j r x inside) (borrow-range a j .0 ∙ p) (borrow-range a j .1 ∙ q);
+            stamps = ls;
+            question = subst (λ (z : Arena). (i < k) × (j < z .chunks) × (bitAt (z .used) j ≡ true) × (w .purged ≤ 1024 * i + j)) (sym (at-same l i (borrowChunk a j) there))
+                (h, omega (arith, inside, borrow-range a j .1), borrowed a j r (omega (arith, inside, few)), omega (arith, f .0, b));
+          }
+      go Nothing f =
+          go-on (set l i (rearm a (stampsOf stamps i) (w .force) (w .now) (w .delay)))
+          (put-sound S l k i (rearm a (stampsOf stamps i) (w .force) (w .now) (w .delay)) t h (rearm-rows a (stampsOf stamps i) (w .force) (w .now) (w .delay) r)
+          (rearm-sound S a (stampsOf stamps i) (w .force) (w .now) (w .delay) x)
+          (rearm-range a (stampsOf stamps i) (w .force) (w .now) (w .delay) .0 ∙ p) (rearm-range a (stampsOf stamps i) (w .force) (w .now) (w .delay) .1 ∙ q))
+
+  pub sweep-kept : (f i : ℕ) (l : List Arena) → SoundTable S l k → i + f ≤ k → w .purged ≤ 1024 * i → Kept S (sweepFrom S stamps k mark w f i l)
+  unfolding sweepFrom sweptReply
+  sweep-kept zero i l t h b = record { table = t; stamps = ls; question = tt }
+  sweep-kept (suc f) i l t h b =
+      by-cond (Kept S) (sweepDue (at l i) (w .force) (w .now)) _ _
+      (λ e. visit-kept l i 0 (disarm (at l i)) (sweepFrom S stamps k mark w f (i + 1)) t (omega arith) (disarm-rows (at l i) (t .rows i (omega arith)))
+      (disarm-sound S (at l i) (t .each i (omega arith))) (disarm-range (at l i) .0) (disarm-range (at l i) .1) (omega arith)
+      (λ m u. sweep-kept f (i + 1) m u (omega arith) (omega arith)))
+      (λ e. sweep-kept f (i + 1) l t (omega arith) (omega arith))

@@ -1,0 +1,3 @@
+pub mod Tools
+pub mod Facts
+pub mod Kept

@@ -1,0 +1,40 @@
+-- Tests and tables, by cases. Assumes nothing.
+use mathlib.Core.Path.{_≡_, refl, sym, ap, _∙_, subst}
+use mathlib.Core.Bool.{Bool, true, false, cond, not, _&&_, _||_, true≢false}
+use mathlib.Core.List.{List}
+use mathlib.Core.Logic.{_⊎_, inl, inr}
+use Prim.Native.Nat.{ℕ, _<_, _≤_}
+use native.Mathlib.Omega.{arith}
+use native.Mathlib.Decide.{ℕ-discrete}
+use lib.ListN.{length, getD, set}
+use lib.Seq.{getD-set-same, getD-set-other}
+use Rattle.arena.specs.declared.Arena.{Arena}
+use Rattle.layer.specs.World.{blank}
+use Rattle.layer.specs.Table.{at}
+
+-- what holds of both ways of a test holds of the test
+pub by-cond : {A : Type 0} (P : A → Type 0) (b : Bool) (x y : A) → (b ≡ true → P x) → (b ≡ false → P y) → P (cond b x y)
+by-cond P true x y f g = f refl
+by-cond P false x y f g = g refl
+
+pub or-false : (a b : Bool) → a || b ≡ false → (a ≡ false) × (b ≡ false)
+or-false true b e = absurd (true≢false e)
+or-false false b e = (refl, e)
+
+pub not-of-true : (b : Bool) → not b ≡ true → b ≡ false
+not-of-true true e = absurd (true≢false (sym e))
+not-of-true false e = refl
+
+-- a record after a store: the one that was stored, or as it was
+pub at-same : (l : List Arena) (i : ℕ) (a : Arena) → i < length l → at (set l i a) i ≡ a
+at-same l i a h = getD-set-same l i a blank h
+
+pub at-other : (l : List Arena) (i j : ℕ) (a : Arena) → (j ≡ i → ⊥) → at (set l i a) j ≡ at l j
+at-other l i j a h = getD-set-other l i j a blank h
+
+pub by-set : (P : Arena → Type 0) (l : List Arena) (i : ℕ) (a : Arena) → i < length l → P a → (j : ℕ) → ((j ≡ i → ⊥) → P (at l j)) → P (at (set l i a) j)
+by-set P l i a h p j q = go (ℕ-discrete j i)
+  where
+    go : Dec (j ≡ i) → P (at (set l i a) j)
+    go (yes e) = subst (λ (x : ℕ). P (at (set l i a) x)) (sym e) (subst P (sym (at-same l i a h)) p)
+    go (no e) = subst P (sym (at-other l i j a e)) (q e)

@@ -1,0 +1,1 @@
+// What holds of the layer's rules: proofs/. No code stands here.

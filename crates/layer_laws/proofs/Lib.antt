@@ -1,3 +1,4 @@
 pub mod Tools
 pub mod Facts
 pub mod Kept
+pub mod Registered

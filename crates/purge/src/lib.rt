@@ -2,8 +2,8 @@
 // the next sweep is. And the stamps, which say since when each chunk is pending: one arena's are a part of
 // the lent slice of all.
 ghost use mathlib.Core.Path.{_≡_};
-ghost use mathlib.Core.Bool.{Bool, true, false, cond, not, _&&_};
-ghost use Prim.Native.Nat.{ℕ, _+_, _*_, _<_, _≤_};
+ghost use mathlib.Core.Bool.{false, cond, not, _&&_};
+ghost use Prim.Native.Nat.{_+_, _*_, _<_, _≤_};
 ghost use lib.ListN.{length};
 ghost use Rattle.words.specs.Bits.{bitAt};
 ghost use Rattle.arena.specs.Releasing.{stampRun};

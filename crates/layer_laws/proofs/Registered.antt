@@ -4,7 +4,7 @@ use mathlib.Core.Bool.{Bool, true, false, cond, not, _&&_, _||_, true≢false}
 use mathlib.Core.List.{List}
 use mathlib.Core.Logic.{_⊎_, inl, inr, ⊎-elim}
 use Prim.Native.Nat.{ℕ, zero, suc, _+_, _-_, _*_, _/_, _%_, _^_, _<_, _≤_}
-use native.Mathlib.Nat.{add-mul, div-add-mod', mul-mod-left, mul-div-cancel, mul-le-mul-right}
+use native.Mathlib.Nat.{add-mul, mul-comm, mul-sub, suc-mul, div-add-mod', mul-mod-left, mul-div-cancel, mul-le-mul-right}
 use native.Mathlib.Omega.{arith}
 use native.Mathlib.Decide.{ℕ-discrete}
 use borrow.Author.Tests.{leb-true, leb-false, ltb-true, ltb-false, eqb-true, eqb-false, lt-ltb, le-ltb}
@@ -49,6 +49,35 @@ good-range S l k base bytes e =
     let q = or-false (leb (2 ^ 64) (base + bytes)) _ (p .1) in
     record { somewhere = eqb-false base 0 (p .0); ends = leb-false (2 ^ 64) (base + bytes) (q .0); alone = overlaps-none S l k base bytes (q .1) }
 
+-- ---- what it means that an arena does not meet a range
+
+end-is : (S : ℕ) (a : Arena) → endOf S a ≡ a .base + bytesOf S a
+unfolding endOf
+end-is S a = refl
+
+pub meets-false : (S : ℕ) (a : Arena) (x y : ℕ) → meets S a x y ≡ false → 0 < y → (endOf S a ≤ x) ⊎ (x + y ≤ a .base)
+unfolding meets
+meets-false S a x y e h = go (ltb x (endOf S a)) refl (ltb (a .base) (x + y)) refl
+  where
+    go : (p : Bool) → ltb x (endOf S a) ≡ p → (q : Bool) → ltb (a .base) (x + y) ≡ q → (endOf S a ≤ x) ⊎ (x + y ≤ a .base)
+    go false u q v = inl (ltb-false x (endOf S a) u)
+    go true u false v = inr (ltb-false (a .base) (x + y) v)
+    go true u true v = absurd (true≢false (sym (ap₂ _&&_ (lt-ltb 0 y h) (ap₂ _&&_ u v)) ∙ e))
+
+pub meets-apart : (S : ℕ) (a : Arena) (x y : ℕ) → (endOf S a ≤ x) ⊎ (x + y ≤ a .base) → meets S a x y ≡ false
+unfolding meets
+meets-apart S a x y (inl h) = go (ltb 0 y)
+  where
+    go : (b : Bool) → b && (ltb x (endOf S a) && ltb (a .base) (x + y)) ≡ false
+    go true = ap (λ (t : Bool). t && ltb (a .base) (x + y)) (le-ltb x (endOf S a) h)
+    go false = refl
+meets-apart S a x y (inr h) = go (ltb 0 y) (ltb x (endOf S a))
+  where
+    go : (b c : Bool) → b && (c && ltb (a .base) (x + y)) ≡ false
+    go true true = le-ltb (a .base) (x + y) h
+    go true false = refl
+    go false c = refl
+
 -- ---- a new record at the end of the table
 
 module _ (S : ℕ) (l : List Arena) (k : ℕ) (a : Arena) (t : SoundTable S l k) (full : k < 32) where
@@ -74,6 +103,53 @@ module _ (S : ℕ) (l : List Arena) (k : ℕ) (a : Arena) (t : SoundTable S l k)
       go i j u v (no e) =
           ap₂ (λ (b c : Arena). meets S b (c .base) (bytesOf S c)) (at-other l k i a (λ (f : i ≡ k). omega (arith, below j v e))) (at-other l k j a e)
           ∙ t .apart i j u (below j v e)
+
+-- ---- the three kinds of new records
+
+pub reserved-rows : (base n : ℕ) (commit exclusive : Bool) → Rows (reservedArena base n commit exclusive)
+unfolding reservedArena
+reserved-rows base n commit exclusive = new-rows base n exclusive true (negsuc 0) false commit
+
+pub reserved-sound : (S base n : ℕ) (commit exclusive : Bool) → SoundRange S base n → SoundArena S (reservedArena base n commit exclusive)
+unfolding reservedArena
+reserved-sound S base n commit exclusive x = new-sound S base n exclusive true (negsuc 0) false commit x
+
+pub managed-rows : (base n : ℕ) (exclusive : Bool) (node : ℤ) → Rows (managedArena base n exclusive node)
+unfolding managedArena
+managed-rows base n exclusive node = new-rows base n exclusive false node true true
+
+pub managed-sound : (S base n : ℕ) (exclusive : Bool) (node : ℤ) → SoundRange S base n → SoundArena S (managedArena base n exclusive node)
+unfolding managedArena
+managed-sound S base n exclusive node x = new-sound S base n exclusive false node true true x
+
+pub adopted-rows : (base n : ℕ) → Rows (adoptedArena base n)
+unfolding adoptedArena
+adopted-rows base n = new-rows base n false true (negsuc 0) true true
+
+pub adopted-sound : (S base n : ℕ) → SoundRange S base n → SoundArena S (adoptedArena base n)
+unfolding adoptedArena
+adopted-sound S base n x = new-sound S base n false true (negsuc 0) true true x
+
+-- a new record's range is the one that it is made of
+pub reserved-range : (S base n : ℕ) (commit exclusive : Bool) → (reservedArena base n commit exclusive .base ≡ base) × (bytesOf S (reservedArena base n commit exclusive) ≡ n * S)
+unfolding reservedArena newArena bytesOf
+reserved-range S base n commit exclusive = (refl, refl)
+
+pub managed-range : (S base n : ℕ) (exclusive : Bool) (node : ℤ) → (managedArena base n exclusive node .base ≡ base) × (bytesOf S (managedArena base n exclusive node) ≡ n * S)
+unfolding managedArena newArena bytesOf
+managed-range S base n exclusive node = (refl, refl)
+
+pub adopted-range : (S base n : ℕ) → (adoptedArena base n .base ≡ base) × (bytesOf S (adoptedArena base n) ≡ n * S)
+unfolding adoptedArena newArena bytesOf
+adopted-range S base n = (refl, refl)
+
+-- products
+mul-pos : (m n : ℕ) → 1 ≤ m → 0 < n → 0 < m * n
+mul-pos zero n h p = absurd (omega arith)
+mul-pos (suc m) n h p = let z : suc m * n ≡ m * n + n = suc-mul m n in omega arith
+
+sub-mul : (m n k : ℕ) → (m - n) * k ≡ m * k - n * k
+sub-mul m n k = mul-comm (m - n) k ∙ mul-sub k m n ∙ ap₂ _-_ (mul-comm k m) (mul-comm k n)
 
 -- ---- registering
 
@@ -115,3 +191,169 @@ module _ (S : ℕ) (l : List Arena) (stamps : List ℕ) (k : ℕ) (mark : Bool) 
       subst (λ (z : State). SoundWorld S (worldOf (withRecord l k a) (withStamps stamps k) z)) (sym (state-new chunks e))
       (record { table = new-table S l k a t (f .2) r (x e) alone; stamps = new-stamps (f .2); question = tt }))
       (λ e. subst (λ (z : State). SoundWorld S (worldOf l stamps z)) (sym (state-old chunks e)) (calm-kept S l stamps k mark t ls mark))
+
+  -- ---- the calls
+
+  pub reserve-kept : (size : ℕ) (commit large exclusive : Bool) (page : ℕ) → Kept S (reserveOf S l stamps k mark size commit large exclusive page)
+  unfolding reserveOf reserveReply askMemory
+  reserve-kept size commit large exclusive page =
+      by-cond (λ (r : Reply). SoundWorld S (worldOf l stamps (r .state))) (tooLarge S size) _ _ (λ e. calm-kept S l stamps k mark t ls mark)
+      (λ e. record { table = t; stamps = ls; question = tt })
+
+  -- a whole number of chunks, as bytes and back
+  module _ (pos : 0 < S) where
+    whole : (x : ℕ) → x % S ≡ 0 → x / S * S ≡ x
+    whole x e = let z : x / S * S + x % S ≡ x = div-add-mod' x S in omega arith
+
+    -- the whole chunks of a managed range
+    pub managed-whole : (start size : ℕ) → (pastWhole S start size - firstWhole S start) / S * S ≡ pastWhole S start size - firstWhole S start
+    managed-whole start size =
+        ap (λ (x : ℕ). x / S * S) difference ∙ ap (λ (x : ℕ). x * S) (mul-div-cancel ((start + size) / S - chunksFor S start) pos) ∙ sym difference
+      where
+        difference : pastWhole S start size - firstWhole S start ≡ ((start + size) / S - chunksFor S start) * S
+        difference = sym (sub-mul ((start + size) / S) (chunksFor S start) S)
+
+    -- a range of whole chunks that row 6 lets pass, and that can be registered, is an arena's
+    pub arena-range : (base bytes : ℕ) → base % S ≡ 0 → bytes / S * S ≡ bytes → GoodRange S l k base bytes → registers k (bytes / S) ≡ true → SoundRange S base (bytes / S)
+    arena-range base bytes e w g r =
+        let f = registers-facts (bytes / S) r in
+        record { somewhere = g .somewhere; aligned = e; some = f .0; few = f .1; ends = subst (λ (x : ℕ). base + x < 2 ^ 64) (sym w) (g .ends) }
+
+    pub manage-kept : (start size : ℕ) (exclusive : Bool) (node : ℤ) (mapped reserved : Bool) → Kept S (manageOf S l stamps k mark start size exclusive node mapped reserved)
+    unfolding manageOf
+    manage-kept start size exclusive node mapped reserved =
+        by-cond (Kept S) (noWholeChunk S start size) _ _ (λ e. calm-kept S l stamps k mark t ls mark)
+        (λ e. by-cond (Kept S) (mapped || not reserved) _ _ (λ f. calm-kept S l stamps k mark t ls mark)
+        (λ f. by-cond (Kept S) (badRange S l k (firstWhole S start) (pastWhole S start size - firstWhole S start)) _ _ (λ g. calm-kept S l stamps k mark t ls mark)
+        (λ g. managed (good-range S l k (firstWhole S start) (pastWhole S start size - firstWhole S start) g))))
+      where
+        managed : GoodRange S l k (firstWhole S start) (pastWhole S start size - firstWhole S start)
+            → Kept S (register l stamps k mark ((pastWhole S start size - firstWhole S start) / S) (managedArena (firstWhole S start) ((pastWhole S start size - firstWhole S start) / S) exclusive node))
+        managed g =
+            register-kept ((pastWhole S start size - firstWhole S start) / S) (managedArena (firstWhole S start) ((pastWhole S start size - firstWhole S start) / S) exclusive node)
+            (managed-rows (firstWhole S start) ((pastWhole S start size - firstWhole S start) / S) exclusive node)
+            (λ r. managed-sound S (firstWhole S start) ((pastWhole S start size - firstWhole S start) / S) exclusive node
+            (arena-range (firstWhole S start) (pastWhole S start size - firstWhole S start) (mul-mod-left (chunksFor S start) S) (managed-whole start size) g r))
+            (λ i u. let z = managed-range S (firstWhole S start) ((pastWhole S start size - firstWhole S start) / S) exclusive node in
+            ap₂ (meets S (at l i)) (z .0) (z .1 ∙ managed-whole start size) ∙ g .alone i u)
+
+    -- ---- growth
+
+    -- the block of n chunks at the end of arena i, which meets no arena
+    module _ (i address n : ℕ) (h : i < k) (grow : grows S (at l i) address n ≡ true) (some : 0 < n) (good : GoodRange S l k address (n * S)) where
+      facts : (endOf S (at l i) ≡ address) × (at l i .chunks + n ≤ 1024)
+      unfolding grows
+      facts =
+          let p = and-both (at l i .owned) _ grow in
+          let q = and-both (not (at l i .exclusive)) _ (p .1) in
+          let r = and-both (eqb (endOf S (at l i)) address) _ (q .1) in
+          (eqb-true (endOf S (at l i)) address (r .0), leb-true (at l i .chunks + n) 1024 (r .1))
+
+      -- the range after: the old one and the block
+      longer : (at l i .chunks + n) * S ≡ bytesOf S (at l i) + n * S
+      unfolding bytesOf
+      longer = add-mul (at l i .chunks) n S
+
+      ends-at : at l i .base + bytesOf S (at l i) ≡ address
+      unfolding endOf
+      ends-at = facts .0
+
+      grown-range : SoundRange S (at l i .base) (at l i .chunks + n)
+      grown-range =
+          let x = t .each i h .range in
+          record { somewhere = x .somewhere; aligned = x .aligned; some = omega (arith, x .some); few = facts .1; ends = omega (arith, longer, ends-at, good .ends) }
+
+      -- bytes of a sound arena, and of the block
+      some-bytes : (j : ℕ) → j < k → 0 < bytesOf S (at l j)
+      unfolding bytesOf
+      some-bytes j u = mul-pos (at l j .chunks) S (t .each j u .range .some) pos
+
+      block : 0 < n * S
+      block = mul-pos n S some pos
+
+      grown-bytes : bytesOf S (grownArena (at l i) n) ≡ bytesOf S (at l i) + n * S
+      unfolding grownArena bytesOf
+      grown-bytes = longer
+
+      grown-base : grownArena (at l i) n .base ≡ at l i .base
+      unfolding grownArena
+      grown-base = refl
+
+      there : i < length l
+      there = omega (arith, t .long, t .few)
+
+      -- the arena that grew, and one after it
+      ahead : (y : ℕ) → i < y → y < k → meets S (grownArena (at l i) n) (at l y .base) (bytesOf S (at l y)) ≡ false
+      ahead y u v =
+          meets-apart S (grownArena (at l i) n) (at l y .base) (bytesOf S (at l y))
+          (⊎-elim
+          (λ (p : endOf S (at l i) ≤ at l y .base). ⊎-elim
+          (λ (q : endOf S (at l y) ≤ address). absurd (omega (arith, end-is S (at l y), facts .0, some-bytes y v)))
+          (λ (q : address + n * S ≤ at l y .base). inl (omega (arith, end-is S (grownArena (at l i) n), grown-bytes, grown-base, ends-at)))
+          (meets-false S (at l y) address (n * S) (good .alone y v) block))
+          (λ (p : at l y .base + bytesOf S (at l y) ≤ at l i .base). inr (omega (arith, grown-base)))
+          (meets-false S (at l i) (at l y .base) (bytesOf S (at l y)) (t .apart i y u v) (some-bytes y v)))
+
+      -- one before it
+      behind : (x : ℕ) → x < i → meets S (at l x) (grownArena (at l i) n .base) (bytesOf S (grownArena (at l i) n)) ≡ false
+      behind x u =
+          meets-apart S (at l x) (grownArena (at l i) n .base) (bytesOf S (grownArena (at l i) n))
+          (⊎-elim
+          (λ (p : endOf S (at l x) ≤ at l i .base). inl (omega (arith, grown-base)))
+          (λ (p : at l i .base + bytesOf S (at l i) ≤ at l x .base). ⊎-elim
+          (λ (q : endOf S (at l x) ≤ address). absurd (omega (arith, end-is S (at l x), ends-at, some-bytes x (omega arith))))
+          (λ (q : address + n * S ≤ at l x .base). inr (omega (arith, grown-bytes, grown-base, ends-at)))
+          (meets-false S (at l x) address (n * S) (good .alone x (omega arith)) block))
+          (meets-false S (at l x) (at l i .base) (bytesOf S (at l i)) (t .apart x i u h) (some-bytes i h)))
+
+      pub grown-table : SoundTable S (set l i (grownArena (at l i) n)) k
+      grown-table = record {
+        long = length-set l i (grownArena (at l i) n) ∙ t .long;
+        few = t .few;
+        rows = λ j u. by-set Rows l i (grownArena (at l i) n) there (grown-rows (at l i) n (t .rows i h)) j (λ e. t .rows j u);
+        each = λ j u. by-set (SoundArena S) l i (grownArena (at l i) n) there (grown-sound S (at l i) n (t .rows i h) (t .each i h) grown-range) j (λ e. t .each j u);
+        apart = λ x y u v. go x y u v (ℕ-discrete x i) (ℕ-discrete y i);
+      }
+        where
+          go : (x y : ℕ) → x < y → y < k → Dec (x ≡ i) → Dec (y ≡ i)
+              → meets S (at (set l i (grownArena (at l i) n)) x) (at (set l i (grownArena (at l i) n)) y .base) (bytesOf S (at (set l i (grownArena (at l i) n)) y)) ≡ false
+          go x y u v (yes p) (yes q) = absurd (omega arith)
+          go x y u v (yes p) (no q) =
+              ap₂ (λ (b c : Arena). meets S b (c .base) (bytesOf S c)) (ap (at (set l i (grownArena (at l i) n))) p ∙ at-same l i (grownArena (at l i) n) there)
+              (at-other l i y (grownArena (at l i) n) q)
+              ∙ ahead y (omega arith) v
+          go x y u v (no p) (yes q) =
+              ap₂ (λ (b c : Arena). meets S b (c .base) (bytesOf S c)) (at-other l i x (grownArena (at l i) n) p)
+              (ap (at (set l i (grownArena (at l i) n))) q ∙ at-same l i (grownArena (at l i) n) there)
+              ∙ behind x (omega arith)
+          go x y u v (no p) (no q) =
+              ap₂ (λ (b c : Arena). meets S b (c .base) (bytesOf S c)) (at-other l i x (grownArena (at l i) n) p) (at-other l i y (grownArena (at l i) n) q)
+              ∙ t .apart x y u v
+
+    pub adopt-kept : (address size : ℕ) → Kept S (adoptOf S l stamps k mark address size)
+    unfolding adoptOf
+    adopt-kept address size =
+        by-cond (Kept S) (eqb size 0) _ _ (λ e. calm-kept S l stamps k mark t ls mark)
+        (λ e. by-cond (Kept S) (eqb (address % S) 0 && eqb (size % S) 0) _ _
+        (λ f. by-cond (Kept S) (badRange S l k address size) _ _ (λ g. calm-kept S l stamps k mark t ls mark)
+        (λ g. let w = and-both (eqb (address % S) 0) _ f in
+        go (eqb-false size 0 e) (eqb-true (address % S) 0 (w .0)) (whole size (eqb-true (size % S) 0 (w .1))) (good-range S l k address size g)
+        (least (λ i. grows S (at l i) address (size / S)) 0 k) (first-says (λ i. grows S (at l i) address (size / S)) 0 k)))
+        (λ f. calm-kept S l stamps k mark t ls mark))
+      where
+        some-chunks : (n : ℕ) → n * S ≡ size → (size ≡ 0 → ⊥) → 0 < n
+        some-chunks zero e h = absurd (h (omega arith))
+        some-chunks (suc n) e h = omega arith
+
+        go : (size ≡ 0 → ⊥) → address % S ≡ 0 → size / S * S ≡ size → GoodRange S l k address size → (f : Found)
+            → First (λ i. grows S (at l i) address (size / S)) 0 k f → Kept S (adoptAt S l stamps k mark address (size / S) f)
+        go p e w g (At i) f =
+            record {
+              table = grown-table i address (size / S) (omega (arith, f .1)) (f .2) (some-chunks (size / S) w p) (subst (λ (x : ℕ). GoodRange S l k address x) (sym w) g);
+              stamps = ls;
+              question = tt;
+            }
+        go p e w g Nothing f =
+            register-kept (size / S) (adoptedArena address (size / S)) (adopted-rows address (size / S))
+            (λ r. adopted-sound S address (size / S) (arena-range address size e w g r))
+            (λ i u. let z = adopted-range S address (size / S) in ap₂ (meets S (at l i)) (z .0) (z .1 ∙ w) ∙ g .alone i u)

@@ -2,3 +2,4 @@ pub mod Tools
 pub mod Facts
 pub mod Kept
 pub mod Registered
+pub mod Stepped

@@ -180,7 +180,7 @@ module _ (S : ℕ) (l : List Arena) (stamps : List ℕ) (k : ℕ) (mark : Bool) 
       (λ f. by-cond (λ (r : Reply). r .state ≡ calm k mark) (leb 32 k) _ _ (λ g. refl)
       (λ g. absurd (true≢false (sym (ap₂ (λ (u v : Bool). not u && not v) f g) ∙ e))))
 
-  new-stamps : k < 32 → length (withStamps stamps k) ≡ 32768
+  pub new-stamps : k < 32 → length (withStamps stamps k) ≡ 32768
   new-stamps h = stamp-length stamps (1024 * k) 1024 0 (omega (arith, ls)) ∙ ls
 
   pub register-kept : (chunks : ℕ) (a : Arena) → Rows a → (registers k chunks ≡ true → SoundArena S a)

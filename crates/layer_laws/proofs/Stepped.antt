@@ -1,0 +1,231 @@
+-- Sound in, sound out, for every call: answers, and then the one step. Assumes nothing.
+use mathlib.Core.Path.{_≡_, refl, sym, ap, ap₂, _∙_, subst}
+use mathlib.Core.Bool.{Bool, true, false, cond, not, _&&_, true≢false}
+use mathlib.Core.List.{List}
+use Prim.Native.Nat.{ℕ, zero, suc, _+_, _-_, _*_, _%_, _<_, _≤_}
+use native.Mathlib.Omega.{arith}
+use borrow.Author.Tests.{leb-true, leb-false, le-leb, eqb-true, eq-eqb, ltb-false, eqb-false}
+use lib.Dec.{leb, ltb, eqb}
+use lib.IntN.{ℤ, negsuc}
+use lib.ListN.{length, set}
+use Rattle.runs.specs.Lowest.{all}
+use Rattle.runs.proofs.LowestLaws.{all-free-of, free-all}
+use Rattle.runs.proofs.SearchLaws.{and-both}
+use Rattle.options.specs.Options.{pageSizeSound}
+use Rattle.arena.specs.declared.Arena.{Arena}
+use Rattle.arena.specs.Registering.{reservedArena}
+use Rattle.arena.specs.Claiming.{giveBackRun, finishGrant}
+use Rattle.arena.specs.Sweeping.{returnChunk}
+use Rattle.lookup.specs.Place.{bytesOf}
+use Rattle.lookup.specs.Soundness.{soundArena}
+use Rattle.lookup.proofs.SoundLaws.{SoundRange, SoundArena, arena-facts, arena-test}
+use Rattle.arena_laws.specs.Rows.{Rows}
+use Rattle.arena_laws.proofs.Changes.{finish-rows, give-back-rows, return-rows}
+use Rattle.arena_laws.proofs.Soundness.{finish-sound, give-back-sound, return-sound}
+use Rattle.layer.specs.declared.Settings.{Settings}
+use Rattle.layer.specs.declared.Sweep.{Sweep}
+use Rattle.layer.specs.declared.State.{State}
+use Rattle.layer.specs.declared.Question.{Question}
+use Rattle.layer.specs.declared.Question.the-variants.{Idle, Committing, Purging, Reserving, GivingBack}
+use Rattle.layer.specs.declared.Waiting.{Waiting}
+use Rattle.layer.specs.declared.Waiting.the-variants.{Reserve, Claim}
+use Rattle.layer.specs.declared.Kind.{Kind}
+use Rattle.refusals.specs.declared.Refusal.{Refusal}
+use Rattle.refusals.specs.declared.Refusal.the-variants.{NoRun}
+use Rattle.layer.specs.declared.Reply.{Reply}
+use Rattle.layer.specs.World.{World, Outcome, stateOf, worldOf, calm, turnDown}
+use Rattle.layer.specs.Table.{at, meets, badRange, apart, askedId, soundQuestion, soundTable, soundLent, sound}
+use Rattle.layer.specs.Registering.{tooLarge, badCount, askMemory, withRecord, withStamps}
+use Rattle.layer.specs.Claiming.{missReply, isNegative, claimOf}
+use Rattle.options.specs.Options.{arenaAllowed}
+use Rattle.layer.specs.Answering.{isFor, counted, failReply, answerCommit, answerPurge, resume, answerMemory, answerTo, answerOf}
+use Rattle.layer.specs.Sweeping.{sweepFrom}
+use Rattle.layer.specs.Step.{Call, reserve, manage, adopt, claim, release, sweep, answer, owns, area, sweepOf, gate, stepOn, step}
+use Rattle.layer_laws.proofs.Tools.{by-cond, or-false}
+use Rattle.layer_laws.proofs.Facts.{SoundTable, SoundQuestion, apart-facts, apart-test, question-facts, question-test, put-sound}
+use Rattle.layer_laws.proofs.Kept.{SoundWorld, Kept, calm-kept, search-kept, release-kept, visit-kept, sweep-kept, finish-range, give-back-range, return-range}
+use Rattle.layer_laws.proofs.Registered.{GoodRange, good-range, new-table, new-stamps, reserved-rows, reserved-sound, reserved-range, reserve-kept, manage-kept, adopt-kept}
+
+module _ (S : ℕ) (pos : 0 < S) (l : List Arena) (stamps : List ℕ) (k : ℕ) (mark : Bool) (t : SoundTable S l k) (ls : length stamps ≡ 32768) where
+  -- ---- claims
+
+  asks-memory-kept : (size page : ℕ) (commit large exclusive : Bool) (waiting : Waiting) → SoundWorld S (worldOf l stamps (askMemory S k mark size page commit large exclusive waiting .state))
+  unfolding askMemory
+  asks-memory-kept size page commit large exclusive waiting = record { table = t; stamps = ls; question = tt }
+
+  miss-kept : (id : ℤ) (n : ℕ) (commits : Bool) (settings : Settings) → SoundWorld S (worldOf l stamps (missReply S k mark id n commits settings .state))
+  unfolding missReply
+  miss-kept id n commits settings =
+      by-cond (λ (r : Reply). SoundWorld S (worldOf l stamps (r .state))) (isNegative id && (leb S (settings .reserve) && not mark)) _ _
+      (λ e. by-cond (λ (r : Reply). SoundWorld S (worldOf l stamps (r .state))) (tooLarge S (settings .reserve)) _ _ (λ f. calm-kept S l stamps k mark t ls true)
+      (λ f. asks-memory-kept (settings .reserve) (settings .page) false false false (Claim n commits)))
+      (λ e. calm-kept S l stamps k mark t ls mark)
+
+  pub claim-kept : (id : ℤ) (n : ℕ) (commits : Bool) (settings : Settings) → Kept S (claimOf S l stamps k mark id n commits settings)
+  unfolding claimOf
+  claim-kept id n commits settings =
+      by-cond (Kept S) (eqb n 0) _ _ (λ e. calm-kept S l stamps k mark t ls mark)
+      (λ e. by-cond (Kept S) (arenaAllowed (settings .off) id) _ _
+      (λ f. search-kept S l stamps k mark t ls id n commits (missReply S k mark id n commits settings) (miss-kept id n commits settings))
+      (λ f. calm-kept S l stamps k mark t ls mark))
+
+  -- ---- answers
+
+  commit-kept : (i s n : ℕ) (granted : Bool) → SoundQuestion l k (Committing i s n) → Kept S (answerCommit S l stamps k mark i s n granted)
+  commit-kept i s n true h = record {
+    table = put-sound S l k i (finishGrant (at l i) s n true) t (h .0) (finish-rows (at l i) s n true (t .rows i (h .0)))
+        (finish-sound S (at l i) s n true (t .rows i (h .0)) (t .each i (h .0)) (h .1)) (finish-range (at l i) s n true .0) (finish-range (at l i) s n true .1);
+    stamps = ls;
+    question = tt;
+  }
+  commit-kept i s n false h = record {
+    table = put-sound S l k i (giveBackRun (at l i) s n) t (h .0) (give-back-rows (at l i) s n (t .rows i (h .0)))
+        (give-back-sound S (at l i) s n (t .rows i (h .0)) (t .each i (h .0)) (h .1)) (give-back-range (at l i) s n .0) (give-back-range (at l i) s n .1);
+    stamps = ls;
+    question = tt;
+  }
+
+  -- the count rises by one at most
+  counted-most : (w : Sweep) (granted : Bool) → counted w granted .purged ≤ w .purged + 1
+  counted-most w true = omega arith
+  counted-most w false = omega arith
+
+  purge-kept : (i j : ℕ) (w : Sweep) (granted : Bool) → SoundQuestion l k (Purging i j w) → Kept S (answerPurge S l stamps k mark i j w granted)
+  purge-kept i j w granted h =
+      visit-kept S stamps k mark (counted w granted) ls l i (j + 1) (returnChunk (at l i) j granted (w .decommit))
+      (sweepFrom S stamps k mark (counted w granted) (k - (i + 1)) (i + 1)) t (h .0) (return-rows (at l i) j granted (w .decommit) (t .rows i (h .0)))
+      (return-sound S (at l i) j granted (w .decommit) (t .rows i (h .0)) (t .each i (h .0)) (h .1)) (return-range (at l i) j granted (w .decommit) .0)
+      (return-range (at l i) j granted (w .decommit) .1) (omega (arith, h .3, counted-most w granted))
+      (λ m u. sweep-kept S stamps k mark (counted w granted) ls (k - (i + 1)) (i + 1) m u (omega (arith, h .0))
+      (omega (arith, h .1, h .3, counted-most w granted, t .each i (h .0) .range .few)))
+
+  fail-kept : (why : Refusal) (waiting : Waiting) → SoundWorld S (worldOf l stamps (failReply k mark why waiting .state))
+  fail-kept why Reserve = calm-kept S l stamps k mark t ls mark
+  fail-kept why (Claim n commits) = calm-kept S l stamps k mark t ls true
+
+  -- the reserved range is registered, and who waits goes on
+  resume-kept : (base chunks : ℕ) (commit exclusive : Bool) (waiting : Waiting) → k < 32 → SoundRange S base chunks
+      → ((i : ℕ) → i < k → meets S (at l i) base (chunks * S) ≡ false) → Kept S (resume S l stamps k mark (reservedArena base chunks commit exclusive) waiting)
+  resume-kept base chunks commit exclusive waiting h x alone = go waiting
+    where
+      made : SoundTable S (withRecord l k (reservedArena base chunks commit exclusive)) (suc k)
+      made =
+          new-table S l k (reservedArena base chunks commit exclusive) t h (reserved-rows base chunks commit exclusive) (reserved-sound S base chunks commit exclusive x)
+          (λ i u. let z = reserved-range S base chunks commit exclusive in ap₂ (meets S (at l i)) (z .0) (z .1) ∙ alone i u)
+
+      long : length (withStamps stamps k) ≡ 32768
+      long = new-stamps S l stamps k mark t ls h
+
+      go : (v : Waiting) → Kept S (resume S l stamps k mark (reservedArena base chunks commit exclusive) v)
+      go Reserve = record { table = made; stamps = long; question = tt }
+      go (Claim n commits) =
+          search-kept S (withRecord l k (reservedArena base chunks commit exclusive)) (withStamps stamps k) (suc k) mark made long (negsuc 0) n commits
+          (turnDown NoRun (calm (suc k) mark)) (record { table = made; stamps = long; question = tt })
+
+  memory-kept : (chunks bytes : ℕ) (commit exclusive : Bool) (waiting : Waiting) (granted : Bool) (base : ℕ)
+      → Kept S (answerMemory S l stamps k mark chunks bytes commit exclusive waiting granted base)
+  unfolding badCount
+  memory-kept chunks bytes commit exclusive waiting false base = fail-kept _ waiting
+  memory-kept chunks bytes commit exclusive waiting true base =
+      by-cond (Kept S) (badRange S l k base (chunks * S)) _ _ (λ e. record { table = t; stamps = ls; question = tt })
+      (λ e. by-cond (Kept S) (badCount chunks) _ _ (λ f. record { table = t; stamps = ls; question = tt })
+      (λ f. by-cond (Kept S) (eqb (base % S) 0) _ _
+      (λ g. by-cond (Kept S) (leb 32 k) _ _ (λ h. record { table = t; stamps = ls; question = tt })
+      (λ h. let x = good-range S l k base (chunks * S) e in
+      let c = or-false (eqb chunks 0) _ f in
+      resume-kept base chunks commit exclusive waiting (leb-false 32 k h)
+      (record { somewhere = x .somewhere; aligned = eqb-true (base % S) 0 g; some = nonzero chunks (eqb-false chunks 0 (c .0)); few = ltb-false 1024 chunks (c .1); ends = x .ends })
+      (x .alone)))
+      (λ g. record { table = t; stamps = ls; question = tt })))
+    where
+      nonzero : (n : ℕ) → (n ≡ 0 → ⊥) → 1 ≤ n
+      nonzero zero h = absurd (h refl)
+      nonzero (suc n) h = omega arith
+
+  pub answer-kept : (q : Question) (kind : Kind) (granted : Bool) (base : ℕ) → SoundQuestion l k q → Kept S (answerOf S l stamps k mark q kind granted base)
+  unfolding answerOf
+  answer-kept q kind granted base h = by-cond (Kept S) (isFor q kind) _ _ (λ e. go q h) (λ e. record { table = t; stamps = ls; question = h })
+    where
+      go : (p : Question) → SoundQuestion l k p → Kept S (answerTo S l stamps k mark p granted base)
+      go Idle x = record { table = t; stamps = ls; question = tt }
+      go (Committing i s n) x = commit-kept i s n granted x
+      go (Purging i j w) x = purge-kept i j w granted x
+      go (Reserving chunks bytes commit exclusive waiting) x = memory-kept chunks bytes commit exclusive waiting granted base
+      go (GivingBack cause waiting) x = fail-kept _ waiting
+
+  -- ---- one step
+
+  gate-kept : (q : Question) (o stop : Outcome) → Kept S o → Kept S stop → Kept S (gate q o stop)
+  gate-kept Idle o stop x y = x
+  gate-kept (Committing i s n) o stop x y = y
+  gate-kept (Purging i j w) o stop x y = y
+  gate-kept (Reserving chunks bytes commit exclusive waiting) o stop x y = y
+  gate-kept (GivingBack cause waiting) o stop x y = y
+
+  pub step-on-kept : (q : Question) (ns : ℕ) (settings : Settings) (c : Call) → SoundQuestion l k q → Kept S (stepOn S l stamps k mark q ns settings c)
+  step-on-kept q ns settings (reserve size commit large exclusive) h =
+      gate-kept q _ _ (reserve-kept S l stamps k mark t ls size commit large exclusive (settings .page)) (record { table = t; stamps = ls; question = h })
+  step-on-kept q ns settings (manage start size exclusive node mapped reserved) h =
+      gate-kept q _ _ (manage-kept S l stamps k mark t ls pos start size exclusive node mapped reserved) (record { table = t; stamps = ls; question = h })
+  step-on-kept q ns settings (adopt address size) h =
+      gate-kept q _ _ (adopt-kept S l stamps k mark t ls pos address size) (record { table = t; stamps = ls; question = h })
+  step-on-kept q ns settings (claim id n commits) h =
+      gate-kept q _ _ (claim-kept id n commits settings) (record { table = t; stamps = ls; question = h })
+  step-on-kept q ns settings (release address n told pending) h =
+      gate-kept q _ _ (release-kept S l stamps k mark t ls address n told pending _ _) (record { table = t; stamps = ls; question = h })
+  step-on-kept q ns settings (sweep force) h =
+      gate-kept q _ _ (sweep-kept S stamps k mark (sweepOf force ns settings) ls k 0 l t (omega arith) (omega arith)) (record { table = t; stamps = ls; question = h })
+  step-on-kept q ns settings (answer kind granted base) h = answer-kept q kind granted base h
+  step-on-kept q ns settings (owns address) h = record { table = t; stamps = ls; question = h }
+  step-on-kept q ns settings (area id) h = record { table = t; stamps = ls; question = h }
+
+-- ---- by the tests: what row 1 lets pass, it lets pass after every call
+
+-- the records below the count are of machine words
+abbrev pub Words : World → Type 0
+Words w = (i : ℕ) → i < w .state .count → Rows (at (w .records) i)
+
+pub sound-facts : (S : ℕ) (w : World) (page : ℕ) → Words w → sound S w page ≡ true → SoundWorld S w × (pageSizeSound page ≡ true)
+unfolding soundLent soundTable
+sound-facts S w page r e =
+    let a = and-both (eqb (length (w .records)) 32) _ e in
+    let b = and-both (eqb (length (w .stamps)) 32768) _ (a .1) in
+    let c = and-both (pageSizeSound page) _ (b .1) in
+    let d = and-both (leb (w .state .count) 32) _ (c .1) in
+    let f = and-both (all (λ i. soundArena S (at (w .records) i)) 0 (w .state .count)) _ (d .1) in
+    let g = and-both (apart S (w .records) (w .state .count)) _ (f .1) in (
+      record {
+        table = record {
+          long = eqb-true (length (w .records)) 32 (a .0);
+          few = leb-true (w .state .count) 32 (d .0);
+          rows = r;
+          each = λ i u. arena-facts S (at (w .records) i) (all-free-of (λ x. soundArena S (at (w .records) x)) 0 (w .state .count) (f .0) i (omega arith) (omega arith));
+          apart = apart-facts S (w .records) (w .state .count) (g .0);
+        };
+        stamps = eqb-true (length (w .stamps)) 32768 (b .0);
+        question = question-facts S (w .records) (w .state .count) (w .state .question) (g .1);
+      },
+      c .0,
+    )
+
+pub sound-test : (S : ℕ) (w : World) (page : ℕ) → SoundWorld S w → pageSizeSound page ≡ true → sound S w page ≡ true
+unfolding soundLent soundTable
+sound-test S w page x p =
+    ap₂ _&&_ (eq-eqb (length (w .records)) 32 (x .table .long))
+    (ap₂ _&&_ (eq-eqb (length (w .stamps)) 32768 (x .stamps))
+    (ap₂ _&&_ p
+    (ap₂ _&&_ (le-leb (w .state .count) 32 (x .table .few))
+    (ap₂ _&&_ (free-all (λ i. soundArena S (at (w .records) i)) 0 (w .state .count) (λ i u v. arena-test S (at (w .records) i) (x .table .each i (omega arith))))
+    (ap₂ _&&_ (apart-test S (w .records) (w .state .count) (x .table .apart)) (question-test S (w .records) (w .state .count) (w .state .question) (x .question)))))))
+
+-- a call on a table that row 1 lets pass leaves one that row 1 lets pass, at any sound page size
+pub step-sound : (S : ℕ) → 0 < S → (w : World) (ns : ℕ) (settings : Settings) (c : Call) → Words w → sound S w (settings .page) ≡ true
+    → (page : ℕ) → pageSizeSound page ≡ true → (sound S (step S w ns settings c .world) page ≡ true) × Words (step S w ns settings c .world)
+unfolding step
+step-sound S pos w ns settings c r e page p =
+    let f = sound-facts S w (settings .page) r e in
+    let kept : Kept S (step S w ns settings c) =
+    by-cond (Kept S) (sound S w (settings .page)) _ _
+    (λ g. step-on-kept S pos (w .records) (w .stamps) (w .state .count) (w .state .mark) (f .0 .table) (f .0 .stamps) (w .state .question) ns settings c (f .0 .question))
+    (λ g. f .0) in
+    (sound-test S (step S w ns settings c .world) page kept p, kept .table .rows)

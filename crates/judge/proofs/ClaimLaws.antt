@@ -1,0 +1,59 @@
+-- Which arenas a claim may use, by the sign of its id; and the run of no chunks. Assumes nothing.
+use mathlib.Core.Path.{_≡_, refl, sym}
+use mathlib.Core.Bool.{Bool, true, false, not, _&&_, true≢false}
+use Prim.Native.Nat.{ℕ}
+use native.Mathlib.Omega.{arith}
+use borrow.Author.Tests.{ltb-true}
+use lib.Dec.{T, eqb}
+use lib.IntN.{ℤ, pos, negsuc, natAbs}
+use lib.Signed.{ltZ, nonNeg}
+use mir.Syntax.{w32, w64}
+use mir.Val.{Fits, SFits}
+use Rattle.runs.specs.declared.Found.the-variants.{At}
+use Rattle.runs.proofs.LowestLaws.{lowest-is}
+use Rattle.arena.specs.declared.Arena.{Arena}
+use Rattle.arena.specs.Claiming.{free, findRun}
+use Rattle.layer.specs.Claiming.{eligible}
+
+-- ---- three tests, one after the other
+
+pub no-first : (x y : Bool) → x ≡ false → false ≡ x && y
+no-first true y e = absurd (true≢false e)
+no-first false y e = refl
+
+pub no-second : (x y z : Bool) → x ≡ true → y ≡ false → false ≡ x && (y && z)
+no-second true y z e f = no-first y z f
+no-second false y z e f = refl
+
+pub only-third : (x y z : Bool) → x ≡ true → y ≡ true → z ≡ x && (y && z)
+only-third true true z e f = refl
+only-third true false z e f = absurd (true≢false (sym f))
+only-third false y z e f = absurd (true≢false (sym e))
+
+-- ---- the id
+
+module _ (i : ℕ) (a : Arena) where
+  -- "A negative arena id means every arena that is not exclusive"
+  pub negative-id : (id : ℤ) → ltZ id (pos 0) ≡ true → not (a .exclusive) ≡ eligible id i a
+  unfolding eligible
+  negative-id (pos x) e = absurd (omega (arith, ltb-true x 0 e))
+  negative-id (negsuc x) e = refl
+
+  -- "other ids mean that one arena"
+  pub named-id : (id : ℤ) → ltZ id (pos 0) ≡ false → eqb i (natAbs id) ≡ eligible id i a
+  unfolding eligible
+  named-id (pos x) e = refl
+  named-id (negsuc x) e = absurd (true≢false e)
+
+-- such an id is a number
+pub named-fits : (id : ℤ) → SFits w32 id → ltZ id (pos 0) ≡ false → T (nonNeg id) × Fits w64 (natAbs id)
+named-fits (pos x) h e = (tt, record { fits = omega (arith, h .sfits) })
+named-fits (negsuc x) h e = absurd (true≢false e)
+
+-- ---- a run of no chunks
+
+pub run-of-none : (a : Arena) → At 0 ≡ findRun a 0
+unfolding findRun
+run-of-none a =
+    lowest-is (free a) (a .chunks) 0 (At 0)
+    (record { room = omega arith; all-free = λ j l h. absurd (omega arith) }, λ t l s. absurd (omega arith))

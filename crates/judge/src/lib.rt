@@ -1,0 +1,215 @@
+// What is judged of one record, by value: the queries of a scan over the table, and the open question.
+// The records may be any at all, so no sum or product that could wrap is taken over one.
+ghost use mathlib.Core.Path.{_≡_};
+ghost use mathlib.Core.Bool.{_&&_};
+ghost use Prim.Native.Nat.{_+_, _*_, _<_, _≤_};
+ghost use lib.Dec.{leb, ltb};
+ghost use Rattle.words.specs.Bits.{bitAt};
+ghost use Rattle.runs.specs.Lowest.{all};
+ghost use Rattle.arena.specs.Claiming.{findRun};
+ghost use Rattle.lookup.specs.Place.{isInside};
+ghost use Rattle.layer.specs.Table.{isAt, meets, askedId, soundQuestion};
+ghost use Rattle.layer.specs.Registering.{grows};
+ghost use Rattle.layer.specs.Claiming.{eligible};
+ghost use Rattle.judge.specs.Scan.{hit};
+use arena::Arena;
+use layer::Question;
+use runs::Found;
+
+const MOST_CHUNKS: usize = 1024;
+
+// What a scan of the table looks for.
+pub enum Query {
+    // a record that is not sound by itself
+    Unsound,
+    // an arena that shares an address with a range
+    Meets { base: u64, bytes: u64 },
+    // the arena that an address lies in
+    Holds { address: u64 },
+    // an arena that may serve a claim, and has a run of n
+    Serves { id: i32, n: usize },
+    // an arena that an adopted block of n chunks continues
+    Grows { address: u64, n: u64 },
+}
+
+// ---- ranges
+
+// Whether an address lies before the end of so many chunks from base on. The end is never computed.
+fn before_end(base: u64, chunks: usize, chunk_size: u64, address: u64) -> bool
+    requires { ⌜ 0 < «chunk_size» ⌝ }
+    ensures { λ r. ⌜ r ≡ ltb address (base + chunks * «chunk_size») ⌝ }
+{
+    if address < base {
+        return true;
+    }
+    (address - base) / chunk_size < (chunks as u64)
+}
+
+// Whether the arena shares an address with the range of so many bytes from base on.
+fn meets_range(a: Arena, chunk_size: u64, base: u64, bytes: u64) -> bool
+    requires { ⌜ (0 < «chunk_size») × («chunk_size» ≤ 4294967296) ⌝ }
+    ensures { λ r. ⌜ r ≡ meets «chunk_size» a base bytes ⌝ }
+{
+    let start = a.base;
+    if bytes == 0 {
+        return false;
+    }
+    if !before_end(start, a.chunks, chunk_size, base) {
+        return false;
+    }
+    if start < base {
+        return true;
+    }
+    start - base < bytes
+}
+
+// Whether an address lies in the arena.
+fn holds(a: Arena, chunk_size: u64, address: u64) -> bool
+    requires { ⌜ (0 < «chunk_size») × («chunk_size» ≤ 4294967296) ⌝ }
+    ensures { λ r. ⌜ r ≡ isInside «chunk_size» a address ⌝ }
+{
+    let base = a.base;
+    if address < base {
+        return false;
+    }
+    before_end(base, a.chunks, chunk_size, address)
+}
+
+// Whether a block of n chunks at an address continues the arena.
+fn grows_at(a: Arena, chunk_size: u64, address: u64, n: u64) -> bool
+    requires { ⌜ (0 < «chunk_size») × («chunk_size» ≤ 4294967296) ⌝ }
+    ensures { λ r. ⌜ r ≡ grows «chunk_size» a address n ⌝ }
+{
+    let base = a.base;
+    let chunks = a.chunks;
+    if !a.owned {
+        return false;
+    }
+    if a.exclusive {
+        return false;
+    }
+    if MOST_CHUNKS < chunks {
+        return false;
+    }
+    if ((MOST_CHUNKS - chunks) as u64) < n {
+        return false;
+    }
+    if address < base {
+        return false;
+    }
+    address - base == (chunks as u64) * chunk_size
+}
+
+// ---- claims
+
+// Whether a claim at the id may use arena i: a negative id means every arena that is not exclusive.
+fn is_eligible(id: i32, i: usize, a: Arena) -> bool
+    ensures { λ r. ⌜ r ≡ eligible id i a ⌝ }
+{
+    if id < 0 {
+        return !a.exclusive;
+    }
+    i == (id as usize)
+}
+
+// The lowest run of n free chunks; a run of none starts at the first chunk.
+pub fn run_of(a: Arena, n: usize) -> Found
+    requires { ⌜ a .chunks ≤ 1024 ⌝ }
+    ensures { λ r. ⌜ r ≡ findRun a n ⌝ }
+{
+    if n == 0 {
+        return Found::At(0);
+    }
+    lookup::find_run(a, n)
+}
+
+// Whether arena i may serve the claim, and has a run of n.
+fn serves_claim(id: i32, n: usize, i: usize, a: Arena) -> bool
+    ensures { λ r. ⌜ r ≡ (eligible id i a && (leb (a .chunks) 1024 && isAt (findRun a n))) ⌝ }
+{
+    if !is_eligible(id, i, a) {
+        return false;
+    }
+    if MOST_CHUNKS < a.chunks {
+        return false;
+    }
+    let found = run_of(a, n);
+    match found {
+        Found::At(_) => true,
+        Found::Nothing => false,
+    }
+}
+
+// ---- queries
+
+// Whether the query hits the record at id i.
+pub fn hit(q: Query, i: usize, a: Arena, chunk_size: u64) -> bool
+    requires { ⌜ (0 < «chunk_size») × («chunk_size» ≤ 4294967296) ⌝ }
+    ensures { λ r. ⌜ r ≡ hit «chunk_size» q i a ⌝ }
+{
+    match q {
+        Query::Unsound => !lookup::is_sound(a, chunk_size),
+        Query::Meets { base, bytes } => meets_range(a, chunk_size, base, bytes),
+        Query::Holds { address } => holds(a, chunk_size, address),
+        Query::Serves { id, n } => serves_claim(id, n, i, a),
+        Query::Grows { address, n } => grows_at(a, chunk_size, address, n),
+    }
+}
+
+// ---- the open question
+
+// The arena that the question is about; 0 where it is about none.
+pub fn asked_id(q: Question) -> usize
+    ensures { λ r. ⌜ r ≡ askedId q ⌝ }
+{
+    match q {
+        Question::Idle => 0,
+        Question::Committing { id, .. } => id,
+        Question::Purging { id, .. } => id,
+        Question::Reserving { .. } => 0,
+        Question::GivingBack { .. } => 0,
+    }
+}
+
+// Whether the run lies in the arena, and each chunk of it is used.
+fn run_is_used(a: Arena, start: usize, n: usize) -> bool
+    requires { ⌜ a .chunks ≤ 1024 ⌝ }
+    ensures { λ r. ⌜ r ≡ (leb (start + n) (a .chunks) && all (bitAt (a .used)) start n) ⌝ }
+{
+    let chunks = a.chunks;
+    if chunks < n {
+        return false;
+    }
+    if chunks - n < start {
+        return false;
+    }
+    runs::row_is_free(&a.used, false, start, n)
+}
+
+// Whether the open question is one that can be open. The record is the asked arena's: sound, if it is
+// registered.
+pub fn question_sound(a: Arena, k: usize, q: Question) -> bool
+    requires { ⌜ (askedId q < k → a .chunks ≤ 1024) × (k ≤ 32) ⌝ }
+    ensures { λ r. ⌜ r ≡ soundQuestion a k q ⌝ }
+{
+    match q {
+        Question::Idle => true,
+        Question::Committing { id, start, n } => {
+            if k <= id {
+                return false;
+            }
+            run_is_used(a, start, n)
+        }
+        Question::Purging { id, chunk, sweep } => {
+            if k <= id {
+                return false;
+            }
+            if !run_is_used(a, chunk, 1) {
+                return false;
+            }
+            sweep.purged <= 1024 * id + chunk
+        }
+        Question::Reserving { .. } => true,
+        Question::GivingBack { .. } => true,
+    }
+}

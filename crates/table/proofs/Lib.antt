@@ -1,0 +1,7 @@
+pub mod Walk
+pub mod Locals
+pub mod Calls
+pub mod Frame
+pub mod TableLaws
+mod Leaf
+pub mod Steps

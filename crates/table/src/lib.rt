@@ -1,0 +1,197 @@
+// The lent table of records: the few functions that reach into the slice, and the one scan over it that
+// serves every question. All decisions on one record are made by value, in the crates below.
+ghost use mathlib.Core.Path.{_≡_};
+ghost use mathlib.Core.Bool.{true, _&&_};
+ghost use Prim.Native.Nat.{ℕ, _<_, _≤_};
+ghost use lib.Dec.{eqb, leb};
+ghost use lib.ListN.{length, getD, set};
+ghost use Rattle.runs.specs.declared.Found.the-variants.{At, Nothing};
+ghost use Rattle.runs.specs.Lowest.{all};
+ghost use Rattle.options.specs.Options.{pageSizeSound};
+ghost use Rattle.lookup.specs.Place.{bytesOf};
+ghost use Rattle.lookup.specs.Soundness.{soundArena};
+ghost use Rattle.layer.specs.World.{blank};
+ghost use Rattle.layer.specs.Table.{at, isAt, apart, soundLent};
+ghost use Rattle.judge.specs.declared.Query.the-variants.{Unsound, Meets};
+ghost use Rattle.judge.specs.Scan.{scanOf};
+use arena::Arena;
+use judge::Query;
+use layer::State;
+use runs::Found;
+
+// A record with nothing in it.
+pub fn blank_arena() -> Arena
+    ensures { λ r. ⌜ r ≡ blank ⌝ }
+{
+    Arena {
+        base: 0,
+        chunks: 0,
+        exclusive: false,
+        owned: false,
+        node: 0,
+        deadline: 0,
+        used: [0; 32],
+        dirty: [0; 32],
+        committed: [0; 32],
+        pending: [0; 32],
+    }
+}
+
+// How many records are lent.
+pub fn count(records: &[Arena]) -> usize
+    ensures { λ r. ⌜ r ≡ length (now (records .entry)) ⌝ }
+{
+    records.len()
+}
+
+// The record at an id of the table.
+fn load(records: &[Arena], i: usize) -> Arena
+    requires { ⌜ i < length (now records) ⌝ }
+    ensures { λ r. ⌜ r ≡ getD (now (records .entry)) i blank ⌝ }
+{
+    records[i]
+}
+
+// The record at an id of the table is written.
+fn store(records: &mut [Arena], i: usize, v: Arena)
+    requires { ⌜ i < length (now records) ⌝ }
+    ensures { λ _. ⌜ now (records .exit) ≡ set (now (records .entry)) i v ⌝ }
+{
+    records[i] = v;
+}
+
+// The record at an id; a blank one past the end.
+pub fn load_or(records: &[Arena], id: usize) -> Arena
+    ensures { λ r. ⌜ r ≡ getD (now (records .entry)) id blank ⌝ }
+{
+    if id < records.len() {
+        return load(records, id);
+    }
+    blank_arena()
+}
+
+// The record at an id is written; past the end nothing is.
+pub fn store_if(records: &mut [Arena], id: usize, a: Arena)
+    ensures { λ _. ⌜ now (records .exit) ≡ set (now (records .entry)) id a ⌝ }
+{
+    if id < records.len() {
+        store(records, id, a);
+    }
+}
+
+// ---- the scan
+
+// The answers of a scan.
+fn found(i: usize) -> Found
+    ensures { λ r. ⌜ r ≡ At i ⌝ }
+{
+    Found::At(i)
+}
+
+fn nothing() -> Found
+    ensures { λ r. ⌜ r ≡ Nothing ⌝ }
+{
+    Found::Nothing
+}
+
+// The lowest id below k whose record the query hits.
+pub fn scan(records: &[Arena], k: usize, chunk_size: u64, q: Query) -> Found
+    requires { ⌜ (0 < «chunk_size») × («chunk_size» ≤ 4294967296) ⌝ }
+    ensures { λ r. ⌜ r ≡ scanOf «chunk_size» (now (records .entry)) k q ⌝ }
+{
+    let mut i = 0;
+    while i < k {
+        let a = load_or(records, i);
+        if judge::hit(q, i, a, chunk_size) {
+            return found(i);
+        }
+        i = i + 1;
+    }
+    nothing()
+}
+
+// ---- row 1
+
+// Whether a scan found a record.
+fn is_at(f: Found) -> bool
+    ensures { λ r. ⌜ r ≡ isAt f ⌝ }
+{
+    match f {
+        Found::At(_) => true,
+        Found::Nothing => false,
+    }
+}
+
+// What meets the range of a record.
+fn range_query(a: Arena, chunk_size: u64) -> Query
+    requires { ⌜ (a .chunks ≤ 1024) × («chunk_size» ≤ 4294967296) ⌝ }
+    ensures { λ r. ⌜ r ≡ Meets (a .base) (bytesOf «chunk_size» a) ⌝ }
+{
+    let area = lookup::area_of(a, chunk_size);
+    Query::Meets {
+        base: area.base,
+        bytes: area.bytes,
+    }
+}
+
+// Whether the first k arenas, each sound by itself, share no address.
+pub fn apart_table(records: &[Arena], k: usize, chunk_size: u64) -> bool
+    requires { ⌜ (0 < «chunk_size») × («chunk_size» ≤ 4294967296) × (all (λ i. soundArena «chunk_size» (at (now records) i)) 0 k ≡ true) ⌝ }
+    ensures { λ r. ⌜ r ≡ apart «chunk_size» (now (records .entry)) k ⌝ }
+{
+    let mut j = 0;
+    while j < k {
+        let a = load_or(records, j);
+        let q = range_query(a, chunk_size);
+        let f = scan(records, j, chunk_size, q);
+        if is_at(f) {
+            return false;
+        }
+        j = j + 1;
+    }
+    true
+}
+
+// What is not sound by itself.
+fn unsound_query() -> Query
+    ensures { λ r. ⌜ r ≡ Unsound ⌝ }
+{
+    Query::Unsound
+}
+
+// Whether the lengths, the page size and the count are sound.
+fn lent_sound(len: usize, stamps: usize, page: u64, count: usize) -> bool
+    ensures { λ r. ⌜ r ≡ (eqb len 32 && (eqb stamps 32768 && (pageSizeSound page && leb count 32))) ⌝ }
+{
+    if len != 32 {
+        return false;
+    }
+    if stamps != 32768 {
+        return false;
+    }
+    if !options::page_size_sound(page) {
+        return false;
+    }
+    count <= 32
+}
+
+// What row 1 lets pass, of so many stamps.
+pub fn row_one(records: &[Arena], stamps: usize, state: State, page: u64, chunk_size: u64) -> bool
+    requires { ⌜ (0 < «chunk_size») × («chunk_size» ≤ 4294967296) ⌝ }
+    ensures { λ r. ⌜ r ≡ soundLent «chunk_size» (now (records .entry)) stamps state page ⌝ }
+{
+    if !lent_sound(records.len(), stamps, page, state.count) {
+        return false;
+    }
+    let q = unsound_query();
+    let f = scan(records, state.count, chunk_size, q);
+    if is_at(f) {
+        return false;
+    }
+    if !apart_table(records, state.count, chunk_size) {
+        return false;
+    }
+    let id = judge::asked_id(state.question);
+    let a = load_or(records, id);
+    judge::question_sound(a, state.count, state.question)
+}

@@ -1,0 +1,248 @@
+// A claim by value: what it answers, and what it makes of the record that the scan found. It knows no
+// table: the scan and the stores stand above.
+ghost use mathlib.Core.Path.{_≡_};
+ghost use mathlib.Core.Bool.{true, cond, not, _&&_};
+ghost use Prim.Native.Nat.{ℕ, _+_, _*_, _^_, _<_, _≤_};
+ghost use lib.Dec.{eqb, leb};
+ghost use Rattle.refusals.specs.declared.Refusal.the-variants.{Zero, ArenasOff};
+ghost use Rattle.runs.specs.declared.Found.the-variants.{At};
+ghost use Rattle.lookup.specs.Soundness.{soundArena};
+ghost use Rattle.layer.specs.World.{stateOf, reply, turnDown, calm};
+ghost use Rattle.layer.specs.Registering.{tooLarge};
+ghost use Rattle.layer.specs.Claiming.{isNegative, grantArena, grantReply, missReply};
+ghost use Rattle.claims.specs.Core.{claimCount, searchArena, searchReply, claimReply};
+use arena::Arena;
+use layer::Answer;
+use layer::Ask;
+use layer::Question;
+use layer::Reply;
+use layer::Settings;
+use layer::State;
+use layer::Waiting;
+use refusals::Refusal;
+use runs::Found;
+
+// The last address of all.
+const LAST: u64 = 18446744073709551615;
+
+// The record that a claim leaves, and its reply.
+pub struct Served {
+    pub arena: Arena,
+    pub reply: Reply,
+}
+
+// An answer, and the state with the question that it leaves.
+fn answered(answer: Answer, k: usize, mark: bool, question: Question) -> Reply
+    ensures { λ r. ⌜ r ≡ reply answer (stateOf k mark question) ⌝ }
+{
+    let state = State {
+        count: k,
+        mark,
+        question,
+    };
+    Reply { answer, state }
+}
+
+// Turned down, with no question open.
+fn refuse(why: Refusal, k: usize, mark: bool) -> Reply
+    ensures { λ r. ⌜ r ≡ turnDown why (calm k mark) ⌝ }
+{
+    answered(Answer::Refused(why), k, mark, Question::Idle)
+}
+
+// ---- a grant
+
+// The run of n from s on, taken in the arena. Where the commit has to be asked for, dirty waits for the
+// host's yes.
+pub fn grant(
+    a: Arena,
+    id: usize,
+    s: usize,
+    n: usize,
+    commits: bool,
+    k: usize,
+    mark: bool,
+    chunk_size: u64,
+) -> Served
+    requires { ⌜ (0 < «chunk_size») × («chunk_size» ≤ 4294967296) × (s + n ≤ a .chunks) × (a .chunks ≤ 1024) × (a .base + a .chunks * «chunk_size» < 2 ^ 64) ⌝ }
+    ensures { λ r. ⌜ (r .arena ≡ grantArena a s n commits) × (r .reply ≡ grantReply «chunk_size» k mark id a s n commits) ⌝ }
+{
+    let address = a.base + (s as u64) * chunk_size;
+    let committed = lookup::run_committed(a, s, n);
+    let fresh = lookup::run_fresh(a, s, n);
+    let taken = arena::take_run(a, s, n);
+    if commits && !committed {
+        let bytes = (n as u64) * chunk_size;
+        let ask = Ask::AskCommit { address, bytes };
+        let question = Question::Committing { id, start: s, n };
+        let reply = answered(Answer::Asks(ask), k, mark, question);
+        return Served {
+            arena: taken,
+            reply,
+        };
+    }
+    let answer = Answer::Claimed {
+        address,
+        fresh,
+        committed,
+    };
+    Served {
+        arena: arena::dirty_run(taken, s, n),
+        reply: answered(answer, k, mark, Question::Idle),
+    }
+}
+
+// ---- a miss
+
+// Whether a miss may reserve: the claim names no arena, the default reserve is a chunk at least, and
+// reserves were not given up.
+fn may_reserve(id: i32, reserve: u64, mark: bool, chunk_size: u64) -> bool
+    ensures { λ r. ⌜ r ≡ (isNegative id && (leb «chunk_size» reserve && not mark)) ⌝ }
+{
+    if id >= 0 {
+        return false;
+    }
+    if reserve < chunk_size {
+        return false;
+    }
+    !mark
+}
+
+// Whether the whole chunks of the reserve, or they and one more, pass the last address.
+fn reserve_too_large(reserve: u64, chunk_size: u64) -> bool
+    requires { ⌜ (0 < «chunk_size») × («chunk_size» ≤ 4294967296) ⌝ }
+    ensures { λ r. ⌜ r ≡ tooLarge «chunk_size» reserve ⌝ }
+{
+    LAST / chunk_size <= registers::chunks_for(reserve, chunk_size)
+}
+
+// No arena serves the claim: it waits for the default reserve, or there is no such run. A reserve that
+// cannot be asked for has failed, and is given up.
+pub fn miss(
+    id: i32,
+    n: usize,
+    commits: bool,
+    settings: Settings,
+    k: usize,
+    mark: bool,
+    chunk_size: u64,
+) -> Reply
+    requires { ⌜ (0 < «chunk_size») × («chunk_size» ≤ 4294967296) ⌝ }
+    ensures { λ r. ⌜ r ≡ missReply «chunk_size» k mark id n commits settings ⌝ }
+{
+    let reserve = settings.reserve;
+    let page = settings.page;
+    if !may_reserve(id, reserve, mark, chunk_size) {
+        return refuse(Refusal::NoRun, k, mark);
+    }
+    if reserve_too_large(reserve, chunk_size) {
+        return refuse(Refusal::NoRun, k, true);
+    }
+    let waiting = Waiting::Claim { n, commits };
+    registers::ask_memory(
+        k,
+        mark,
+        reserve,
+        page,
+        false,
+        false,
+        false,
+        waiting,
+        chunk_size,
+    )
+}
+
+// ---- a claim
+
+// The search's end: the lowest run in the record that the scan found, or a miss.
+pub fn search_end(
+    state: State,
+    a: Arena,
+    n: usize,
+    commits: bool,
+    missed: Reply,
+    f: Found,
+    chunk_size: u64,
+) -> Served
+    requires { ⌜ (0 < «chunk_size») × («chunk_size» ≤ 4294967296) × ((i : ℕ) → f ≡ At i → soundArena «chunk_size» a ≡ true) ⌝ }
+    ensures { λ r. ⌜ (r .arena ≡ searchArena a n commits f) × (r .reply ≡ searchReply «chunk_size» state a n commits missed f) ⌝ }
+{
+    let k = state.count;
+    let mark = state.mark;
+    match f {
+        Found::Nothing => Served {
+            arena: a,
+            reply: missed,
+        },
+        Found::At(i) => {
+            let run = judge::run_of(a, n);
+            match run {
+                Found::At(s) => grant(a, i, s, n, commits, k, mark, chunk_size),
+                Found::Nothing => Served {
+                    arena: a,
+                    reply: refuse(Refusal::NoRun, k, mark),
+                },
+            }
+        }
+    }
+}
+
+// How many records the scan looks at: none where the claim is turned down before the search.
+pub fn claim_count(ok: bool, state: State, settings: Settings, id: i32, n: usize) -> usize
+    ensures { λ r. ⌜ r ≡ claimCount ok state settings id n ⌝ }
+{
+    let question = state.question;
+    if !ok {
+        return 0;
+    }
+    if !registers::is_idle(question) {
+        return 0;
+    }
+    if n == 0 {
+        return 0;
+    }
+    if !options::arena_allowed(settings.off, id) {
+        return 0;
+    }
+    state.count
+}
+
+// Rows 4 and 5, then what the search answered.
+fn own_reply(n: usize, allowed: bool, found: Reply, k: usize, mark: bool) -> Reply
+    ensures { λ r. ⌜ r ≡ cond (eqb n 0) (turnDown Zero (calm k mark)) (cond allowed found (turnDown ArenasOff (calm k mark))) ⌝ }
+{
+    if n == 0 {
+        return refuse(Refusal::Zero, k, mark);
+    }
+    if !allowed {
+        return refuse(Refusal::ArenasOff, k, mark);
+    }
+    found
+}
+
+// A claim, after the scan: f is the record that it found, and a what stands there.
+pub fn claim_core(
+    ok: bool,
+    state: State,
+    settings: Settings,
+    id: i32,
+    n: usize,
+    commits: bool,
+    f: Found,
+    a: Arena,
+    chunk_size: u64,
+) -> Served
+    requires { ⌜ (0 < «chunk_size») × («chunk_size» ≤ 4294967296) × ((i : ℕ) → f ≡ At i → soundArena «chunk_size» a ≡ true) ⌝ }
+    ensures { λ r. ⌜ (r .reply ≡ claimReply «chunk_size» ok state settings id n commits f a) × (r .arena ≡ searchArena a n commits f) ⌝ }
+{
+    let k = state.count;
+    let mark = state.mark;
+    let allowed = options::arena_allowed(settings.off, id);
+    let missed = miss(id, n, commits, settings, k, mark, chunk_size);
+    let end = search_end(state, a, n, commits, missed, f, chunk_size);
+    let arena = end.arena;
+    let found = end.reply;
+    let own = own_reply(n, allowed, found, k, mark);
+    let reply = registers::gate(ok, state, own);
+    Served { arena, reply }
+}

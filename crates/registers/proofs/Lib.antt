@@ -1,0 +1,2 @@
+pub mod DecisionLaws
+pub mod RegisterLaws

@@ -1,0 +1,45 @@
+-- A release by value: what it answers and makes of the record that the scan found, and of its stamps. The scan looks at `releaseCount` records: at none
+-- where the call is turned down before the search. Assumes nothing.
+use mathlib.Core.Bool.{Bool, true, false, cond, not, _&&_}
+use mathlib.Core.List.{List}
+use Prim.Native.Nat.{ℕ, _+_, _-_, _*_, _/_}
+use lib.Dec.{eqb}
+use Rattle.refusals.specs.declared.Refusal.the-variants.{Zero, NotInside}
+use Rattle.runs.specs.declared.Found.{Found}
+use Rattle.runs.specs.declared.Found.the-variants.{At, Nothing}
+use Rattle.arena.specs.declared.Arena.{Arena}
+use Rattle.arena.specs.declared.Commitment.{Commitment}
+use Rattle.arena.specs.Releasing.{releaseRun}
+use Rattle.layer.specs.declared.State.{State}
+use Rattle.layer.specs.declared.Question.{Question}
+use Rattle.layer.specs.declared.Reply.{Reply}
+use Rattle.layer.specs.World.{turnDown, calm}
+use Rattle.layer.specs.Releasing.{releases, releaseReply}
+use Rattle.registers.specs.Core.{isIdle, gated}
+
+unfoldable pub releaseCount : Bool → State → ℕ → ℕ
+releaseCount ok state n = cond (ok && (isIdle (state .question) && not (eqb n 0))) (state .count) 0
+
+abbrev pub foundReply : ℕ → State → Arena → ℕ → ℕ → Found → Reply
+foundReply S state a address n (At i) = releaseReply S (state .count) (state .mark) a (address - a .base) n
+foundReply S state a address n Nothing = turnDown NotInside (calm (state .count) (state .mark))
+
+-- whether the release is granted
+abbrev pub granted : ℕ → Arena → ℕ → ℕ → Found → Bool
+granted S a address n (At i) = releases S a (address - a .base) n
+granted S a address n Nothing = false
+
+unfoldable pub releaseAnswer : ℕ → Bool → State → ℕ → ℕ → Found → Arena → Reply
+releaseAnswer S ok state address n f a =
+    gated ok state (cond (eqb n 0) (turnDown Zero (calm (state .count) (state .mark))) (foundReply S state a address n f))
+
+unfoldable pub releaseArena : ℕ → ℕ → ℕ → Commitment → Bool → ℕ → ℕ → Found → Arena → Arena
+releaseArena S address n told pending now delay f a =
+    cond (granted S a address n f) (releaseRun a ((address - a .base) / S) n told pending now delay) a
+
+-- how many stamps are written, and from where on in the arena
+unfoldable pub stampCount : ℕ → ℕ → ℕ → Bool → Found → Arena → ℕ
+stampCount S address n pending f a = cond (granted S a address n f && pending) n 0
+
+unfoldable pub stampStart : ℕ → ℕ → Found → Arena → ℕ → ℕ
+stampStart S address f a n = cond (granted S a address n f) ((address - a .base) / S) 0

@@ -82,10 +82,11 @@ fn grows_at(a: Arena, chunk_size: u64, address: u64, n: u64) -> bool
 {
     let base = a.base;
     let chunks = a.chunks;
+    let exclusive = a.exclusive;
     if !a.owned {
         return false;
     }
-    if a.exclusive {
+    if exclusive {
         return false;
     }
     if MOST_CHUNKS < chunks {

@@ -25,7 +25,7 @@ returns-2 c =
     no-meeting (a .chunk-size) (a .a) (a .base) (a .bytes) (λ h. omega (arith, h .before, past))
 
 -- past the second test the range starts before the arena's end
-before : (c : tie.Else2) → c .before .before .before .args .base < c .before .before .before .args .a .base + c .before .before .before .args .a .chunks * c .before .before .before .args .chunk-size
+before : (c : tie.Else2) → let a = c .before .before .before .args in a .base < a .a .base + a .a .chunks * a .chunk-size
 before c =
     let a = c .before .before .before .args in
     let b = c .before .before-end in

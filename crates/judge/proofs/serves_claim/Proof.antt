@@ -1,6 +1,6 @@
 -- `judge::serves_claim` meets its contract. Assumes nothing.
 use mathlib.Core.Path.{_≡_, sym, ap, _∙_}
-use mathlib.Core.Bool.{true}
+use mathlib.Core.Bool.{true, _&&_}
 use borrow.Author.Needs.{needs}
 use borrow.Author.Tests.{le-leb, lt-leb, not-true, not-false}
 use lib.Dec.{leb}
@@ -20,6 +20,15 @@ said c = let s = c .before in c .is-eligible .ensures ∙ ap (λ (z : ℤ). elig
 -- past the first test the arena is eligible
 chosen : (c : tie.Else1) → eligible (c .before .before .args .id) (c .before .before .args .i) (c .before .before .args .a) ≡ true
 chosen c = sym (said (c .before)) ∙ not-false (c .before .is-eligible .result) (c .if1 .left)
+
+-- past the second, what is left is whether there is a run
+run-left : (c : tie.After-run-of) → let a = c .before .before .before .before .before .args in
+    isAt (c .run-of .result) ≡ (eligible (a .id) (a .i) (a .a) && (leb (a .a .chunks) 1024 && isAt (findRun (a .a) (a .n))))
+run-left c =
+    let a = c .before .before .before .before .before .args in
+    ap isAt (c .run-of .ensures)
+    ∙ only-third (eligible (a .id) (a .i) (a .a)) (leb (a .a .chunks) 1024) (isAt (findRun (a .a) (a .n))) (chosen (c .before .before .before))
+    (le-leb (a .a .chunks) 1024 (c .before .if2 .left))
 
 is-eligible-requires : tie.Need-is-eligible-requires
 is-eligible-requires c κs = search needs
@@ -44,20 +53,10 @@ enum-told-2 : tie.Need-enum-told-2
 enum-told-2 c = search needs
 
 returns-3 : tie.Need-returns-3
-returns-3 c =
-    let f = c .before .before .run-of in
-    let g = c .before .before .before in
-    let a = g .before .before .before .before .args in
-    sym (ap isAt (sym (f .ensures) ∙ c .enum-told .given .1))
-    ∙ only-third (eligible (a .id) (a .i) (a .a)) (leb (a .a .chunks) 1024) (isAt (findRun (a .a) (a .n))) (chosen (g .before .before)) (le-leb (a .a .chunks) 1024 (g .if2 .left))
+returns-3 c = sym (ap isAt (c .enum-told .given .1)) ∙ run-left (c .before .before)
 
 returns-4 : tie.Need-returns-4
-returns-4 c =
-    let f = c .before .before .run-of in
-    let g = c .before .before .before in
-    let a = g .before .before .before .before .args in
-    sym (ap isAt (sym (f .ensures) ∙ c .enum-told2 .given .1))
-    ∙ only-third (eligible (a .id) (a .i) (a .a)) (leb (a .a .chunks) 1024) (isAt (findRun (a .a) (a .n))) (chosen (g .before .before)) (le-leb (a .a .chunks) 1024 (g .if2 .left))
+returns-4 c = sym (ap isAt (c .enum-told2 .given .1)) ∙ run-left (c .before .before)
 
 pub serves-claim-spec : {M : Type 1} → statement M
 serves-claim-spec =

@@ -64,14 +64,7 @@ fn fits(a: Arena, offset: u64, n: usize, chunk_size: u64) -> bool
 }
 
 // Rows 7 and 9, then the grant.
-fn reply_in(
-    a: Arena,
-    offset: u64,
-    n: usize,
-    count: usize,
-    mark: bool,
-    chunk_size: u64,
-) -> Reply
+fn reply_in(a: Arena, offset: u64, n: usize, count: usize, mark: bool, chunk_size: u64) -> Reply
     requires { ⌜ 0 < «chunk_size» ⌝ }
     ensures { λ r. ⌜ r ≡ releaseReply «chunk_size» count mark a offset n ⌝ }
 {
@@ -94,7 +87,14 @@ fn reply_found(state: State, a: Arena, address: u64, n: usize, f: Found, chunk_s
     ensures { λ r. ⌜ r ≡ foundReply «chunk_size» state a address n f ⌝ }
 {
     match f {
-        Found::At(_) => reply_in(a, offset_of(a, address), n, state.count, state.mark, chunk_size),
+        Found::At(_) => reply_in(
+            a,
+            offset_of(a, address),
+            n,
+            state.count,
+            state.mark,
+            chunk_size,
+        ),
         Found::Nothing => {
             registers::turn_down(Refusal::NotInside, registers::calm(state.count, state.mark))
         }

@@ -6,11 +6,12 @@ use mathlib.Core.Logic.{⊎-elim, _↔_}
 use Prim.Native.Nat.{ℕ, suc, _+_, _*_, _^_, _<_, _≤_}
 use native.Mathlib.Omega.{arith}
 use native.Mathlib.Decide.{ℕ-discrete}
-use borrow.Author.Tests.{leb-true, ltb-true, ltb-false, le-leb, lt-ltb, le-ltb}
+use borrow.Author.Tests.{not-true, leb-true, ltb-true, ltb-false, le-leb, lt-ltb, le-ltb}
 use lib.Dec.{leb, ltb, eqb}
 use lib.ListN.{length, getD, set, length-set}
 use Rattle.words.specs.Bits.{bitAt}
 use Rattle.words.proofs.RowLaws.{lt-or-le}
+use Rattle.words.proofs.Tests.{by-cond}
 use Rattle.runs.specs.declared.Found.{Found}
 use Rattle.runs.specs.declared.Found.the-variants.{At, Nothing}
 use Rattle.runs.specs.Lowest.{all, least}
@@ -26,7 +27,7 @@ use Rattle.layer.specs.declared.Question.{Question}
 use Rattle.layer.specs.declared.Question.the-variants.{Idle, Committing, Purging, Reserving, GivingBack}
 use Rattle.layer.specs.World.{blank}
 use Rattle.layer.specs.Table.{at, isAt, meets, overlaps, apart, askedId, soundQuestion, soundTable}
-use Rattle.layer_laws.proofs.Tools.{by-cond, at-same, at-other, by-set, not-of-true}
+use Rattle.layer_laws.proofs.Tools.{at-same, at-other, by-set}
 
 -- ---- ranges
 
@@ -76,7 +77,7 @@ module _ (S : ℕ) (l : List Arena) (k : ℕ) where
   unfolding apart
   apart-facts e i j u v =
       overlaps-none S l j (at l j .base) (bytesOf S (at l j))
-      (not-of-true (overlaps S l j (at l j .base) (bytesOf S (at l j))) (all-free-of (λ x. not (overlaps S l x (at l x .base) (bytesOf S (at l x)))) 0 k e j (omega arith) (omega arith)))
+      (not-true (overlaps S l j (at l j .base) (bytesOf S (at l j))) (all-free-of (λ x. not (overlaps S l x (at l x .base) (bytesOf S (at l x)))) 0 k e j (omega arith) (omega arith)))
       i u
 
   pub apart-test : ((i j : ℕ) → i < j → j < k → meets S (at l i) (at l j .base) (bytesOf S (at l j)) ≡ false) → apart S l k ≡ true

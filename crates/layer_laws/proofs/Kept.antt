@@ -10,6 +10,7 @@ use lib.Dec.{leb, ltb, eqb}
 use lib.IntN.{ℤ}
 use lib.ListN.{length, getD, set, take, drop, replicate, length-set, length-append, length-take, length-drop, length-replicate}
 use Rattle.words.specs.Bits.{bitAt}
+use Rattle.words.proofs.Tests.{by-cond}
 use Rattle.runs.specs.declared.Found.{Found}
 use Rattle.runs.specs.declared.Found.the-variants.{At, Nothing}
 use Rattle.runs.specs.Lowest.{least}
@@ -39,7 +40,7 @@ use Rattle.layer.specs.Table.{at, isAt, findArena}
 use Rattle.layer.specs.Claiming.{serves, asksCommit, grantArena, grantReply, searchAt, searchOf, grantFound}
 use Rattle.layer.specs.Releasing.{releases, releaseReply, releaseIn, releaseAt, releaseOf}
 use Rattle.layer.specs.Sweeping.{purgeReply, sweptReply, visitAt, visit, sweepFrom}
-use Rattle.layer_laws.proofs.Tools.{by-cond, at-same, by-set}
+use Rattle.layer_laws.proofs.Tools.{at-same, by-set}
 use Rattle.layer_laws.proofs.Facts.{SoundTable, SoundQuestion, put-sound}
 
 -- ---- a sound world

@@ -7,12 +7,13 @@ use Prim.Native.Nat.{ℕ, zero, suc, _+_, _-_, _*_, _/_, _%_, _^_, _<_, _≤_}
 use native.Mathlib.Nat.{add-mul, mul-comm, mul-sub, suc-mul, div-add-mod', mul-mod-left, mul-div-cancel, mul-le-mul-right}
 use native.Mathlib.Omega.{arith}
 use native.Mathlib.Decide.{ℕ-discrete}
-use borrow.Author.Tests.{leb-true, leb-false, ltb-true, ltb-false, eqb-true, eqb-false, lt-ltb, le-ltb}
+use borrow.Author.Tests.{not-true, leb-true, leb-false, ltb-true, ltb-false, eqb-true, eqb-false, lt-ltb, le-ltb}
 use lib.Dec.{leb, ltb, eqb}
 use lib.IntN.{ℤ, negsuc}
 use lib.ListN.{length, getD, set, length-set}
 use Rattle.words.proofs.RowLaws.{lt-or-le}
 use Rattle.words.proofs.WordLaws.{not-both}
+use Rattle.words.proofs.Tests.{by-cond}
 use Rattle.runs.specs.declared.Found.{Found}
 use Rattle.runs.specs.declared.Found.the-variants.{At, Nothing}
 use Rattle.runs.specs.Lowest.{least}
@@ -31,7 +32,7 @@ use Rattle.layer.specs.declared.Reply.{Reply}
 use Rattle.layer.specs.World.{World, Outcome, stateOf, worldOf, calm}
 use Rattle.layer.specs.Table.{at, isAt, meets, overlaps, badRange}
 use Rattle.layer.specs.Registering.{chunksFor, tooLarge, askMemory, reserveReply, badCount, registerReply, registers, withRecord, withStamps, register, firstWhole, pastWhole, noWholeChunk, grows, reserveOf, manageOf, adoptAt, adoptOf}
-use Rattle.layer_laws.proofs.Tools.{by-cond, or-false, not-of-true, at-same, at-other, by-set}
+use Rattle.layer_laws.proofs.Tools.{or-false, at-same, at-other, by-set}
 use Rattle.layer_laws.proofs.Facts.{SoundTable, SoundQuestion, overlaps-none}
 use Rattle.layer_laws.proofs.Kept.{SoundWorld, Kept, calm-kept, stamp-length}
 
@@ -158,8 +159,8 @@ module _ (S : ℕ) (l : List Arena) (stamps : List ℕ) (k : ℕ) (mark : Bool) 
   unfolding registers badCount
   registers-facts chunks e =
       let p = and-both (not (eqb chunks 0 || ltb 1024 chunks)) _ e in
-      let q = or-false (eqb chunks 0) _ (not-of-true (eqb chunks 0 || ltb 1024 chunks) (p .0)) in
-      (some chunks (eqb-false chunks 0 (q .0)), ltb-false 1024 chunks (q .1), leb-false 32 k (not-of-true (leb 32 k) (p .1)))
+      let q = or-false (eqb chunks 0) _ (not-true (eqb chunks 0 || ltb 1024 chunks) (p .0)) in
+      (some chunks (eqb-false chunks 0 (q .0)), ltb-false 1024 chunks (q .1), leb-false 32 k (not-true (leb 32 k) (p .1)))
     where
       some : (n : ℕ) → (n ≡ 0 → ⊥) → 1 ≤ n
       some zero h = absurd (h refl)
@@ -170,8 +171,8 @@ module _ (S : ℕ) (l : List Arena) (stamps : List ℕ) (k : ℕ) (mark : Bool) 
   unfolding registers registerReply
   state-new chunks e =
       let p = and-both (not (badCount chunks)) _ e in
-      by-cond (λ (r : Reply). r .state ≡ calm (suc k) mark) (badCount chunks) _ _ (λ f. absurd (not-both (badCount chunks) (not-of-true (badCount chunks) (p .0)) f))
-      (λ f. by-cond (λ (r : Reply). r .state ≡ calm (suc k) mark) (leb 32 k) _ _ (λ g. absurd (not-both (leb 32 k) (not-of-true (leb 32 k) (p .1)) g)) (λ g. refl))
+      by-cond (λ (r : Reply). r .state ≡ calm (suc k) mark) (badCount chunks) _ _ (λ f. absurd (not-both (badCount chunks) (not-true (badCount chunks) (p .0)) f))
+      (λ f. by-cond (λ (r : Reply). r .state ≡ calm (suc k) mark) (leb 32 k) _ _ (λ g. absurd (not-both (leb 32 k) (not-true (leb 32 k) (p .1)) g)) (λ g. refl))
 
   state-old : (chunks : ℕ) → registers k chunks ≡ false → registerReply k mark chunks .state ≡ calm k mark
   unfolding registers registerReply

@@ -8,6 +8,7 @@ use borrow.Author.Tests.{leb-true, leb-false, le-leb, eqb-true, eq-eqb, ltb-fals
 use lib.Dec.{leb, ltb, eqb}
 use lib.IntN.{ℤ, negsuc}
 use lib.ListN.{length, set}
+use Rattle.words.proofs.Tests.{by-cond}
 use Rattle.runs.specs.Lowest.{all}
 use Rattle.runs.proofs.LowestLaws.{all-free-of, free-all}
 use Rattle.runs.proofs.SearchLaws.{and-both}
@@ -41,7 +42,7 @@ use Rattle.options.specs.Options.{arenaAllowed}
 use Rattle.layer.specs.Answering.{isFor, counted, failReply, answerCommit, answerPurge, resume, answerMemory, answerTo, answerOf}
 use Rattle.layer.specs.Sweeping.{sweepFrom}
 use Rattle.layer.specs.Step.{Call, reserve, manage, adopt, claim, release, sweep, answer, owns, area, sweepOf, gate, stepOn, step}
-use Rattle.layer_laws.proofs.Tools.{by-cond, or-false}
+use Rattle.layer_laws.proofs.Tools.{or-false}
 use Rattle.layer_laws.proofs.Facts.{SoundTable, SoundQuestion, apart-facts, apart-test, question-facts, question-test, put-sound}
 use Rattle.layer_laws.proofs.Kept.{SoundWorld, Kept, calm-kept, search-kept, release-kept, visit-kept, sweep-kept, finish-range, give-back-range, return-range}
 use Rattle.layer_laws.proofs.Registered.{GoodRange, good-range, new-table, new-stamps, reserved-rows, reserved-sound, reserved-range, reserve-kept, manage-kept, adopt-kept}

@@ -1,4 +1,4 @@
--- Tests and tables, by cases. Assumes nothing.
+-- Tests, and a table after a store. Assumes nothing.
 use mathlib.Core.Path.{_≡_, refl, sym, ap, _∙_, subst}
 use mathlib.Core.Bool.{Bool, true, false, cond, not, _&&_, _||_, true≢false}
 use mathlib.Core.List.{List}
@@ -12,18 +12,9 @@ use Rattle.arena.specs.declared.Arena.{Arena}
 use Rattle.layer.specs.World.{blank}
 use Rattle.layer.specs.Table.{at}
 
--- what holds of both ways of a test holds of the test
-pub by-cond : {A : Type 0} (P : A → Type 0) (b : Bool) (x y : A) → (b ≡ true → P x) → (b ≡ false → P y) → P (cond b x y)
-by-cond P true x y f g = f refl
-by-cond P false x y f g = g refl
-
 pub or-false : (a b : Bool) → a || b ≡ false → (a ≡ false) × (b ≡ false)
 or-false true b e = absurd (true≢false e)
 or-false false b e = (refl, e)
-
-pub not-of-true : (b : Bool) → not b ≡ true → b ≡ false
-not-of-true true e = absurd (true≢false (sym e))
-not-of-true false e = refl
 
 -- a record after a store: the one that was stored, or as it was
 pub at-same : (l : List Arena) (i : ℕ) (a : Arena) → i < length l → at (set l i a) i ≡ a

@@ -1,6 +1,6 @@
 -- The slice pool's definitions, case by case: which test decides. Assumes nothing.
 use mathlib.Core.Path.{_≡_, refl, sym, ap, _∙_, subst}
-use mathlib.Core.Bool.{Bool, true, false, cond, _&&_}
+use mathlib.Core.Bool.{Bool, true, false, _&&_}
 use mathlib.Core.List.{List}
 use Prim.Native.Nat.{ℕ, _+_, _*_, _/_, _%_, _≤_, _<_}
 use native.Mathlib.Omega.{arith}
@@ -10,19 +10,13 @@ use lib.ListN.{length}
 use Rattle.refusals.specs.declared.Refusal.the-variants.{Broken, Zero, NotWhole, NotInside, PastEnd, NoRun}
 use Rattle.words.specs.Bits.{bitAt}
 use Rattle.words.specs.Rows.{setRun}
+use Rattle.words.proofs.Tests.{when, unless}
 use Rattle.runs.specs.declared.Found.{Found}
 use Rattle.runs.specs.declared.Found.the-variants.{At, Nothing}
 use Rattle.runs.specs.Lowest.{Lowest, lowestRun}
 use Rattle.runs.proofs.LowestLaws.{lowest-says}
 use Rattle.slice_pool.specs.Pool.{Alloc, notRun, takeRun, allocRun, Free, notDone, freeRange}
 use Rattle.slice_pool.specs.declared.Freed.the-variants.{Done}
-
--- a test that came out, put in its place
-pub when : {A : Type 0} (t : Bool) (x y : A) → t ≡ true → cond t x y ≡ x
-when t x y e = ap (λ (b : Bool). cond b x y) e
-
-pub unless : {A : Type 0} (t : Bool) (x y : A) → t ≡ false → cond t x y ≡ y
-unless t x y e = ap (λ (b : Bool). cond b x y) e
 
 module _ (ws : List ℕ) (n : ℕ) where
   pub alloc-broken : (length ws ≡ 2048 → ⊥) → allocRun ws n ≡ notRun ws Broken

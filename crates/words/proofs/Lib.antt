@@ -1,4 +1,5 @@
 pub mod BitLaws
 pub mod RowLaws
 pub mod Table
+pub mod Tests
 pub mod WordLaws

@@ -24,7 +24,7 @@ use Rattle.layer.specs.World.{stateOf, reply, turnDown, calm}
 use Rattle.layer.specs.Registering.{tooLarge, askMemory}
 use Rattle.layer.specs.Claiming.{isNegative, asksCommit, grantArena, grantReply, missReply}
 use Rattle.registers.specs.Core.{isIdle}
-use Rattle.registers.proofs.DecisionLaws.{when, unless}
+use Rattle.words.proofs.Tests.{when, unless}
 use Rattle.claims.specs.Core.{claimCount, runReply, runArena, searchReply, searchArena}
 
 -- ---- a grant

@@ -34,7 +34,7 @@ use Rattle.layer.specs.Step.{claim, gate, step}
 use Rattle.judge.specs.declared.Query.the-variants.{Serves}
 use Rattle.judge.specs.Scan.{hit, scanOf}
 use Rattle.registers.specs.Core.{isIdle}
-use Rattle.registers.proofs.DecisionLaws.{when, unless}
+use Rattle.words.proofs.Tests.{when, unless}
 use Rattle.claims.specs.Core.{claimCount, runReply, runArena, searchReply, searchArena, claimReply}
 use Rattle.claims.proofs.CallLaws.{count-broken, count-asked, count-none, count-off, count-all}
 

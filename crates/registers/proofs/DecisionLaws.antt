@@ -6,6 +6,7 @@ use native.Mathlib.Nat.{mod-lt, div-add-mod', div-lt-iff-lt-mul, div-eq-of-lt-le
 use native.Mathlib.Omega.{arith}
 use borrow.Author.Tests.{le-leb, lt-leb, ltb-false, leb-true, leb-false, eqb-false, eq-eqb, ne-eqb, not-true}
 use lib.Dec.{eqb, leb, ltb}
+use Rattle.words.proofs.Tests.{when, unless}
 use Rattle.runs.proofs.SearchLaws.{same, and-both}
 use Rattle.runs.specs.declared.Found.{Found}
 use Rattle.runs.specs.declared.Found.the-variants.{Nothing}
@@ -14,13 +15,6 @@ use Rattle.layer.specs.Registering.{chunksFor, tooLarge, badCount, registers, f
 use Rattle.layer.specs.declared.State.{State}
 use Rattle.registers.specs.Core.{isIdle, rangeBad, managePasses, manageBytes, manageId, adoptPasses, adoptTarget, adoptId}
 use Rattle.registers.specs.Parts.{manageBase, manageLength, manageChunks}
-
--- a test that came out, put in its place
-pub when : {A : Type 0} (t : Bool) (x y : A) → t ≡ true → cond t x y ≡ x
-when t x y e = ap (λ (b : Bool). cond b x y) e
-
-pub unless : {A : Type 0} (t : Bool) (x y : A) → t ≡ false → cond t x y ≡ y
-unless t x y e = ap (λ (b : Bool). cond b x y) e
 
 -- a test comes out one way or the other
 pub either : {A : Type 0} (t : Bool) → (t ≡ true → A) → (t ≡ false → A) → A

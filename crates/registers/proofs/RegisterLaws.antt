@@ -3,13 +3,17 @@
 use mathlib.Core.Path.{_≡_, refl, sym, ap, ap₂, _∙_, subst}
 use mathlib.Core.Bool.{Bool, true, false, cond, not, _&&_, _||_}
 use mathlib.Core.List.{List}
+use mathlib.Core.Logic.{⊎-elim}
 use Prim.Native.Nat.{ℕ, _+_, _*_, _/_, _%_, _≤_, _<_}
+use native.Mathlib.Nat.{le-trans}
 use native.Mathlib.Omega.{arith}
-use borrow.Author.Tests.{lt-ltb, leb-true, leb-false, not-true}
+use borrow.Author.Tests.{lt-ltb, le-ltb, leb-true, leb-false, not-true}
 use lib.Dec.{eqb, leb}
 use lib.IntN.{ℤ}
+use lib.Seq.{set-out}
 use lib.ListN.{length, set}
 use Rattle.refusals.specs.declared.Refusal.the-variants.{Broken, QuestionOpen, Zero, Range, NotWhole}
+use Rattle.words.proofs.RowLaws.{lt-or-le}
 use Rattle.runs.specs.declared.Found.{Found}
 use Rattle.runs.specs.declared.Found.the-variants.{At, Nothing}
 use Rattle.runs.specs.Lowest.{least}
@@ -31,7 +35,8 @@ use Rattle.layer.specs.Registering.{reserveReply, badCount, registerReply, regi
 use Rattle.layer.specs.Step.{reserve, manage, adopt, gate, step}
 use Rattle.registers.specs.Core.{isIdle, gated, reserveAnswer, rangeBad, managePasses, manageCount, manageBytes, manageAnswer, manageId, adoptPasses, adoptCount, adoptReply, adoptAnswer, adoptTarget, adoptId}
 use Rattle.registers.specs.Parts.{manageBase, manageLength, manageReply, isWhole, adoptOwn, adoptArena, adoptStamped, recordsWith, stampsWith}
-use Rattle.registers.proofs.DecisionLaws.{when, unless, either, and-first, and-second, base-is, bytes-is, passes-whole, passes-host, passes-when, manages-not, manages-range, manages-by, adopts-not, adopts-range, adopts-by}
+use Rattle.words.proofs.Tests.{when, unless}
+use Rattle.registers.proofs.DecisionLaws.{either, and-first, and-second, base-is, bytes-is, passes-whole, passes-host, passes-when, manages-not, manages-range, manages-by, adopts-not, adopts-range, adopts-by}
 
 -- ---- what is written
 
@@ -46,6 +51,17 @@ stamps-none stamps id e = ap (stampsWith stamps) e
 pub records-below : (l : List Arena) (id : ℕ) (a : Arena) → id < 32 → recordsWith l id a ≡ set l id a
 unfolding recordsWith
 records-below l id a h = when _ _ _ (lt-ltb id 32 h)
+
+records-past : (l : List Arena) (id : ℕ) (a : Arena) → 32 ≤ id → recordsWith l id a ≡ l
+unfolding recordsWith
+records-past l id a h = unless _ _ _ (le-ltb id 32 h)
+
+-- of at most 32 records, a store at any id
+pub records-set : (l : List Arena) (id : ℕ) (a : Arena) → length l ≤ 32 → recordsWith l id a ≡ set l id a
+records-set l id a h =
+    ⊎-elim (λ (m : id < 32). records-below l id a m)
+    (λ (m : 32 ≤ id). records-past l id a m ∙ sym (set-out l id a (le-trans h m)))
+    (lt-or-le id 32)
 
 pub stamps-below : (stamps : List ℕ) (id : ℕ) → id < 32 → stampsWith stamps id ≡ stampRun stamps (1024 * id) 1024 0
 unfolding stampsWith
@@ -196,6 +212,9 @@ unfolding grows
 growing-fits S a address n e =
     leb-true (a .chunks + n) 1024
     (and-both (eqb (endOf S a) address) _ (and-both (not (a .exclusive)) _ (and-both (a .owned) _ e .1) .1) .1)
+
+pub growing-room : (S : ℕ) (l : List Arena) (address n k i : ℕ) → least (λ j. grows S (at l j) address n) 0 k ≡ At i → at l i .chunks + n ≤ 1024
+growing-room S l address n k i e = growing-fits S (at l i) address n (scan-facts (λ j. grows S (at l j) address n) k i e .1)
 
 -- row 1 lets at most 32 arenas pass
 pub sound-count : (S : ℕ) (l : List Arena) (n : ℕ) (state : State) (page : ℕ) → soundLent S l n state page ≡ true → state .count ≤ 32

@@ -4,7 +4,7 @@ use borrow.Author.Tests.{not-true, not-false, eq-eqb, ne-eqb}
 use Rattle.refusals.specs.declared.Refusal.the-variants.{Zero, Range, NotWhole}
 use Rattle.layer.specs.World.{turnDown}
 use Rattle.registers.specs.Parts.{adoptOwn}
-use Rattle.registers.proofs.DecisionLaws.{when, unless}
+use Rattle.words.proofs.Tests.{when, unless}
 use borrow.Author.Needs.{needs}
 use Rattle.registers.proofs.adopt_own.Statement.{statement}
 use Rattle.registers.proofs.adopt_own.Tie as tie

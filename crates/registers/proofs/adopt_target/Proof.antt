@@ -1,7 +1,7 @@
 -- `registers::adopt_target` meets its contract. Assumes nothing.
 use mathlib.Core.Path.{sym, ap, _∙_}
 use Rattle.registers.specs.Core.{adoptTarget}
-use Rattle.registers.proofs.DecisionLaws.{when, unless}
+use Rattle.words.proofs.Tests.{when, unless}
 use borrow.Author.Needs.{needs}
 use Rattle.registers.proofs.adopt_target.Statement.{statement}
 use Rattle.registers.proofs.adopt_target.Tie as tie

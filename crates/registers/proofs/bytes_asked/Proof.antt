@@ -4,7 +4,8 @@ use Prim.Native.Nat.{ℕ, _+_, _*_, _<_}
 use native.Mathlib.Omega.{arith}
 use borrow.Author.Tests.{eq-eqb, ne-eqb}
 use Rattle.layer.specs.Registering.{chunksFor, bytesAsked}
-use Rattle.registers.proofs.DecisionLaws.{when, unless, not-too-large}
+use Rattle.words.proofs.Tests.{when, unless}
+use Rattle.registers.proofs.DecisionLaws.{not-too-large}
 use borrow.Author.Needs.{needs}
 use Rattle.registers.proofs.bytes_asked.Statement.{statement}
 use Rattle.registers.proofs.bytes_asked.Tie as tie

@@ -1,7 +1,7 @@
 -- `registers::gate` meets its contract. Assumes nothing.
 use mathlib.Core.Path.{sym, _∙_}
 use borrow.Author.Tests.{not-true, not-false}
-use Rattle.registers.proofs.DecisionLaws.{when, unless}
+use Rattle.words.proofs.Tests.{when, unless}
 use borrow.Author.Needs.{needs}
 use Rattle.registers.proofs.gate.Statement.{statement}
 use Rattle.registers.proofs.gate.Tie as tie

@@ -4,7 +4,8 @@ use native.Mathlib.Omega.{arith}
 use Prim.Native.Nat.{ℕ, _*_, _<_}
 use Rattle.registers.specs.Parts.{manageBase}
 use Rattle.layer.specs.Registering.{firstWhole}
-use Rattle.registers.proofs.DecisionLaws.{when, unless, base-fits}
+use Rattle.words.proofs.Tests.{when, unless}
+use Rattle.registers.proofs.DecisionLaws.{base-fits}
 use borrow.Author.Needs.{needs}
 use Rattle.registers.proofs.manage_base.Statement.{statement}
 use Rattle.registers.proofs.manage_base.Tie as tie

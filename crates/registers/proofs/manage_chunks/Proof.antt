@@ -4,7 +4,8 @@ use native.Mathlib.Omega.{arith}
 use Prim.Native.Nat.{ℕ, _+_, _-_, _/_, _≤_}
 use Rattle.registers.specs.Parts.{manageChunks}
 use Rattle.layer.specs.Registering.{chunksFor}
-use Rattle.registers.proofs.DecisionLaws.{when, unless, whole-facts, inside-count, inside-some}
+use Rattle.words.proofs.Tests.{when, unless}
+use Rattle.registers.proofs.DecisionLaws.{whole-facts, inside-count, inside-some}
 use borrow.Author.Needs.{needs}
 use Rattle.registers.proofs.manage_chunks.Statement.{statement}
 use Rattle.registers.proofs.manage_chunks.Tie as tie

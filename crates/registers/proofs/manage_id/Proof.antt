@@ -2,7 +2,8 @@
 use mathlib.Core.Path.{sym, ap, _∙_}
 use borrow.Author.Tests.{not-true, not-false}
 use Rattle.layer.specs.Registering.{registers}
-use Rattle.registers.proofs.DecisionLaws.{when, unless, chunks-is, bad-is, passes-whole, manages-not, manages-range, manages-by}
+use Rattle.words.proofs.Tests.{when, unless}
+use Rattle.registers.proofs.DecisionLaws.{chunks-is, bad-is, passes-whole, manages-not, manages-range, manages-by}
 use borrow.Author.Needs.{needs}
 use Rattle.registers.proofs.manage_id.Statement.{statement}
 use Rattle.registers.proofs.manage_id.Tie as tie

@@ -4,7 +4,8 @@ use Rattle.refusals.specs.declared.Refusal.the-variants.{NoWholeChunk, HostRefu
 use Rattle.layer.specs.World.{turnDown}
 use Rattle.layer.specs.Registering.{registerReply}
 use Rattle.registers.specs.Parts.{manageReply}
-use Rattle.registers.proofs.DecisionLaws.{when, unless, chunks-is, bad-is}
+use Rattle.words.proofs.Tests.{when, unless}
+use Rattle.registers.proofs.DecisionLaws.{chunks-is, bad-is}
 use borrow.Author.Needs.{needs}
 use Rattle.registers.proofs.manage_reply.Statement.{statement}
 use Rattle.registers.proofs.manage_reply.Tie as tie

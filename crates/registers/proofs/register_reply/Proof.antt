@@ -7,7 +7,7 @@ use Rattle.refusals.specs.declared.Refusal.the-variants.{ChunkCount, TableFull}
 use Rattle.layer.specs.declared.Answer.the-variants.{Registered}
 use Rattle.layer.specs.World.{turnDown, reply, calm}
 use Rattle.layer.specs.Registering.{registerReply}
-use Rattle.registers.proofs.DecisionLaws.{when, unless}
+use Rattle.words.proofs.Tests.{when, unless}
 use borrow.Author.Needs.{needs}
 use Rattle.registers.proofs.register_reply.Statement.{statement}
 use Rattle.registers.proofs.register_reply.Tie as tie

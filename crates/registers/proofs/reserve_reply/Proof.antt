@@ -3,7 +3,7 @@ use mathlib.Core.Path.{sym, ap, _∙_}
 use Rattle.refusals.specs.declared.Refusal.the-variants.{ChunkCount}
 use Rattle.layer.specs.World.{turnDown}
 use Rattle.layer.specs.Registering.{reserveReply}
-use Rattle.registers.proofs.DecisionLaws.{when, unless}
+use Rattle.words.proofs.Tests.{when, unless}
 use borrow.Author.Needs.{needs}
 use Rattle.registers.proofs.reserve_reply.Statement.{statement}
 use Rattle.registers.proofs.reserve_reply.Tie as tie

@@ -3,7 +3,7 @@ use mathlib.Core.Path.{_≡_, sym, ap, ap₂, _∙_}
 use borrow.Author.Tests.{not-true, not-false, eq-eqb, ne-eqb}
 use borrow.Author.Needs.{needs}
 use Rattle.layer.specs.World.{turnDown}
-use Rattle.registers.proofs.DecisionLaws.{when, unless}
+use Rattle.words.proofs.Tests.{when, unless}
 use Rattle.registers.specs.Core.{gated}
 use Rattle.releases.specs.Core.{releaseAnswer}
 use Rattle.releases.proofs.release_answer.Statement.{statement}

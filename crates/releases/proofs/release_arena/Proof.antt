@@ -4,7 +4,7 @@ use Prim.Native.Nat.{ℕ, _+_, _-_, _/_, _≤_}
 use native.Mathlib.Omega.{arith}
 use borrow.Author.Needs.{needs}
 use Rattle.arena.specs.Releasing.{releaseRun}
-use Rattle.registers.proofs.DecisionLaws.{when, unless}
+use Rattle.words.proofs.Tests.{when, unless}
 use Rattle.releases.specs.Core.{releaseArena}
 use Rattle.releases.proofs.ReleaseLaws.{inside, granted-at}
 use Rattle.releases.proofs.release_arena.Statement.{statement}

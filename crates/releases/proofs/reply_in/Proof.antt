@@ -8,7 +8,7 @@ use Rattle.layer.specs.declared.State.{State}
 use Rattle.layer.specs.declared.Answer.the-variants.{Released}
 use Rattle.layer.specs.World.{reply, turnDown}
 use Rattle.layer.specs.Releasing.{releaseReply}
-use Rattle.registers.proofs.DecisionLaws.{when, unless}
+use Rattle.words.proofs.Tests.{when, unless}
 use Rattle.releases.proofs.ReleaseLaws.{whole}
 use Rattle.releases.proofs.reply_in.Statement.{statement}
 use Rattle.releases.proofs.reply_in.Tie as tie

@@ -7,7 +7,7 @@ use borrow.Author.Needs.{needs}
 use Rattle.runs.specs.declared.Found.{Found}
 use Rattle.arena.specs.declared.Arena.{Arena}
 use Rattle.arena.specs.Sweeping.{disarm}
-use Rattle.registers.proofs.DecisionLaws.{when, unless}
+use Rattle.words.proofs.Tests.{when, unless}
 use Rattle.sweeps.specs.Core.{nextOf, stayArena, stayReply, isAsked, arrives, arriveFound, arriveArena, arriveReply}
 use Rattle.sweeps.proofs.SweepLaws.{disarm-range}
 use Rattle.sweeps.proofs.arrive.Statement.{statement}

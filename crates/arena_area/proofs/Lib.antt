@@ -1,0 +1,4 @@
+mod Big
+mod Two
+mod AreaLaws
+mod AreaSteps

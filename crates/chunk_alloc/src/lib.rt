@@ -1,0 +1,123 @@
+// The three claims over the lent table: row 1, one scan, the claim by value on the record that it found,
+// and one store.
+ghost use mathlib.Core.Path.{_≡_};
+ghost use mathlib.Core.Bool.{true, false};
+ghost use Prim.Native.Nat.{ℕ};
+ghost use Rattle.judge.specs.declared.Query.the-variants.{Serves};
+ghost use Rattle.layer.specs.World.{worldOf};
+ghost use Rattle.layer.specs.Step.{claim, step};
+ghost use Rattle.claims.proofs.ClaimLaws.{storedAt};
+ghost use Rattle.chunk_alloc.specs.Entry.{Leaves};
+use arena::Arena;
+use claims::Served;
+use judge::Query;
+use layer::Reply;
+use layer::Settings;
+use layer::State;
+use runs::Found;
+
+// S, the size of a chunk: 32 MiB
+const CHUNK: u64 = 33554432;
+
+// What the claim scans for.
+fn serves_query(id: i32, n: usize) -> Query
+    ensures { λ r. ⌜ r ≡ Serves id n ⌝ }
+{
+    Query::Serves { id, n }
+}
+
+// The id that is stored to; 32 stores nothing.
+fn stored_at(f: Found) -> usize
+    ensures { λ r. ⌜ r ≡ storedAt f ⌝ }
+{
+    match f {
+        Found::At(i) => i,
+        Found::Nothing => 32,
+    }
+}
+
+fn page_of(settings: Settings) -> u64
+    ensures { λ r. ⌜ r ≡ settings .page ⌝ }
+{
+    settings.page
+}
+
+fn arena_of(d: Served) -> Arena
+    ensures { λ r. ⌜ r ≡ d .arena ⌝ }
+{
+    d.arena
+}
+
+fn reply_of(d: Served) -> Reply
+    ensures { λ r. ⌜ r ≡ d .reply ⌝ }
+{
+    d.reply
+}
+
+// A claim of n chunks. It reads no clock.
+fn claim_at(
+    records: &mut [Arena],
+    stamps: &mut [u32],
+    state: State,
+    settings: Settings,
+    id: i32,
+    n: usize,
+    commits: bool,
+) -> Reply
+    ensures { λ r. ⌜ ((ns : ℕ) → Leaves (step 33554432 (worldOf (now (records .entry)) (now (stamps .entry)) state) ns settings (claim id n commits)) r (now (records .exit)) (now (stamps .exit))) ⌝ }
+{
+    let page = page_of(settings);
+    let ok = table::row_one(records, stamps.len(), state, page, CHUNK);
+    let k = claims::claim_count(ok, state, settings, id, n);
+    let q = serves_query(id, n);
+    let f = table::scan(records, k, CHUNK, q);
+    let i = stored_at(f);
+    let a = table::load_or(records, i);
+    let d = claims::claim_core(ok, state, settings, id, n, commits, f, a, CHUNK);
+    let b = arena_of(d);
+    table::store_if(records, i, b);
+    reply_of(d)
+}
+
+// One chunk, committed.
+pub fn chunk_alloc(
+    records: &mut [Arena],
+    stamps: &mut [u32],
+    state: State,
+    ns: u64,
+    settings: Settings,
+    id: i32,
+) -> Reply
+    ensures { λ r. ⌜ Leaves (step 33554432 (worldOf (now (records .entry)) (now (stamps .entry)) state) ns settings (claim id 1 true)) r (now (records .exit)) (now (stamps .exit)) ⌝ }
+{
+    claim_at(records, stamps, state, settings, id, 1, true)
+}
+
+// One chunk, as it is: the answer says whether it is committed.
+pub fn chunk_claim(
+    records: &mut [Arena],
+    stamps: &mut [u32],
+    state: State,
+    ns: u64,
+    settings: Settings,
+    id: i32,
+) -> Reply
+    ensures { λ r. ⌜ Leaves (step 33554432 (worldOf (now (records .entry)) (now (stamps .entry)) state) ns settings (claim id 1 false)) r (now (records .exit)) (now (stamps .exit)) ⌝ }
+{
+    claim_at(records, stamps, state, settings, id, 1, false)
+}
+
+// A run of n chunks, committed.
+pub fn chunk_alloc_n(
+    records: &mut [Arena],
+    stamps: &mut [u32],
+    state: State,
+    ns: u64,
+    settings: Settings,
+    id: i32,
+    n: usize,
+) -> Reply
+    ensures { λ r. ⌜ Leaves (step 33554432 (worldOf (now (records .entry)) (now (stamps .entry)) state) ns settings (claim id n true)) r (now (records .exit)) (now (stamps .exit)) ⌝ }
+{
+    claim_at(records, stamps, state, settings, id, n, true)
+}

@@ -9,7 +9,7 @@ use Rattle.runs.specs.declared.Found.{Found}
 use Rattle.runs.specs.declared.Found.the-variants.{At, Nothing}
 use Rattle.arena.specs.declared.Arena.{Arena}
 use Rattle.arena.specs.declared.Commitment.{Commitment}
-use Rattle.arena.specs.Releasing.{releaseRun}
+use Rattle.arena.specs.Releasing.{releaseRun, stampRun}
 use Rattle.layer.specs.declared.State.{State}
 use Rattle.layer.specs.declared.Question.{Question}
 use Rattle.layer.specs.declared.Reply.{Reply}
@@ -43,3 +43,14 @@ stampCount S address n pending f a = cond (granted S a address n f && pending) n
 
 unfoldable pub stampStart : ℕ → ℕ → Found → Arena → ℕ → ℕ
 stampStart S address f a n = cond (granted S a address n f) ((address - a .base) / S) 0
+
+-- the stamps that the call leaves: those of the run where it is granted and pending
+abbrev pub stampsAfter : ℕ → List ℕ → ℕ → ℕ → Bool → ℕ → Found → Arena → List ℕ
+stampsAfter S stamps address n pending now (At i) a =
+    cond (releases S a (address - a .base) n && pending) (stampRun stamps (1024 * i + (address - a .base) / S) n now) stamps
+stampsAfter S stamps address n pending now Nothing a = stamps
+
+-- the id that is stored to: 32, past the table, where none was found
+abbrev pub storedAt : Found → ℕ
+storedAt (At x) = x
+storedAt Nothing = 32

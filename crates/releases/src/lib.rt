@@ -1,10 +1,13 @@
 // A release by value: which arena the address lies in is the scan's to find; what is answered, and what
 // becomes of the record and its stamps, is decided here.
 ghost use mathlib.Core.Path.{_≡_};
-ghost use Prim.Native.Nat.{ℕ, _+_, _-_, _<_, _≤_};
+ghost use mathlib.Core.Bool.{true, cond, _&&_};
+ghost use Prim.Native.Nat.{ℕ, _+_, _-_, _*_, _<_, _≤_};
+ghost use lib.ListN.{length};
 ghost use Rattle.runs.specs.declared.Found.the-variants.{At};
+ghost use Rattle.arena.specs.Releasing.{stampRun};
 ghost use Rattle.layer.specs.Releasing.{releases, releaseReply};
-ghost use Rattle.releases.specs.Core.{releaseCount, foundReply, granted, releaseAnswer, releaseArena, stampCount, stampStart};
+ghost use Rattle.releases.specs.Core.{releaseCount, foundReply, granted, releaseAnswer, releaseArena, stampCount, stampStart, stampsAfter};
 use arena::Arena;
 use arena::Commitment;
 use layer::Answer;
@@ -153,4 +156,49 @@ pub fn release_arena(
         return arena::release_run(a, start, n, told, pending, ms, delay);
     }
     a
+}
+
+// The n stamps from s on of the arena `id` made `at`, if they are to be.
+fn stamp_if(on: bool, stamps: &mut [u32], id: usize, s: usize, n: usize, at: u32)
+    requires { ⌜ (on ≡ true → (id < 32) × (s + n ≤ 1024) × (length (now stamps) ≡ 32768)) ⌝ }
+    ensures { λ _. ⌜ now (stamps .exit) ≡ cond on (stampRun (now (stamps .entry)) (1024 * id + s) n at) (now (stamps .entry)) ⌝ }
+{
+    if on {
+        purge::stamp_run_of(stamps, id, s, n, at);
+    }
+}
+
+// Whether the run is released and pending.
+fn is_pending(a: Arena, offset: u64, n: usize, pending: bool, chunk_size: u64) -> bool
+    requires { ⌜ 0 < «chunk_size» ⌝ }
+    ensures { λ r. ⌜ r ≡ releases «chunk_size» a offset n && pending ⌝ }
+{
+    if fits(a, offset, n, chunk_size) {
+        return pending;
+    }
+    false
+}
+
+// What the call makes of the stamps.
+pub fn release_stamps(
+    stamps: &mut [u32],
+    address: u64,
+    n: usize,
+    pending: bool,
+    ms: u32,
+    f: Found,
+    a: Arena,
+    chunk_size: u64,
+)
+    requires { ⌜ (0 < «chunk_size») × ((i : ℕ) → f ≡ At i → (a .chunks ≤ 1024) × (i < 32) × (length (now stamps) ≡ 32768)) ⌝ }
+    ensures { λ _. ⌜ now (stamps .exit) ≡ stampsAfter «chunk_size» (now (stamps .entry)) address n pending ms f a ⌝ }
+{
+    match f {
+        Found::At(i) => {
+            let offset = offset_of(a, address);
+            let on = is_pending(a, offset, n, pending, chunk_size);
+            stamp_if(on, stamps, i, (offset / chunk_size) as usize, n, ms);
+        }
+        Found::Nothing => {}
+    }
 }

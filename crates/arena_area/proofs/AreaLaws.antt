@@ -18,7 +18,7 @@ use Rattle.layer.specs.declared.State.{State}
 use Rattle.layer.specs.declared.Settings.{Settings}
 use Rattle.layer.specs.declared.Answer.{Answer}
 use Rattle.layer.specs.declared.Answer.the-variants.{Area}
-use Rattle.layer.specs.World.{worldOf, reply, after, turnDown}
+use Rattle.layer.specs.World.{replyOf, worldOf, reply, after, turnDown}
 use Rattle.layer.specs.Table.{at, findArena, soundTable, soundLent}
 use Rattle.layer.specs.Step.{owns, area, areaOf, stepOn, step}
 use Rattle.judge.specs.declared.Query.the-variants.{Holds}
@@ -26,7 +26,7 @@ use Rattle.judge.specs.Scan.{hit, scanOf}
 use Rattle.table.proofs.TableLaws.{few-at}
 use Rattle.registers.proofs.RegisterLaws.{sound-count}
 use Rattle.refusals.specs.declared.Refusal.the-variants.{Broken}
-use Rattle.arena_area.specs.Asked.{replied, lookedAt, ownsReply, placeOf, areaAnswer, areaReply}
+use Rattle.arena_area.specs.Asked.{lookedAt, ownsReply, placeOf, areaAnswer, areaReply}
 
 module _ (S : ℕ) (l : List Arena) (stamps : List ℕ) (state : State) (ns : ℕ) (settings : Settings) where
   abbrev pub passes : Bool
@@ -34,12 +34,12 @@ module _ (S : ℕ) (l : List Arena) (stamps : List ℕ) (state : State) (ns : �
 
   -- ---- owns
 
-  pub owns-step : (address : ℕ) → ownsReply passes state (scanOf S l (lookedAt passes state) (Holds address)) ≡ replied (step S (worldOf l stamps state) ns settings (owns address))
+  pub owns-step : (address : ℕ) → ownsReply passes state (scanOf S l (lookedAt passes state) (Holds address)) ≡ replyOf (step S (worldOf l stamps state) ns settings (owns address))
   unfolding step scanOf hit findArena
   owns-step address = go passes
     where
       go : (b : Bool) → ownsReply b state (scanOf S l (lookedAt b state) (Holds address))
-          ≡ replied (cond b (stepOn S l stamps (state .count) (state .mark) (state .question) ns settings (owns address)) (after (turnDown Broken state) l stamps))
+          ≡ replyOf (cond b (stepOn S l stamps (state .count) (state .mark) (state .question) ns settings (owns address)) (after (turnDown Broken state) l stamps))
       go true = refl
       go false = refl
 
@@ -64,11 +64,11 @@ module _ (S : ℕ) (l : List Arena) (stamps : List ℕ) (state : State) (ns : �
   placed (pos i) k h = refl
   placed (negsuc i) k h = ap (λ (b : Bool). cond b (Area (at l 32 .base) (bytesOf S (at l 32))) (Area 0 0)) (past k h)
 
-  pub area-step : (id : ℤ) → areaReply S passes state (placeOf id) (at l (placeOf id)) ≡ replied (step S (worldOf l stamps state) ns settings (area id))
+  pub area-step : (id : ℤ) → areaReply S passes state (placeOf id) (at l (placeOf id)) ≡ replyOf (step S (worldOf l stamps state) ns settings (area id))
   unfolding step
   area-step id = go passes (λ e. sound-count S l (length stamps) state (settings .page) e)
     where
       go : (b : Bool) → (b ≡ true → state .count ≤ 32) → areaReply S b state (placeOf id) (at l (placeOf id))
-          ≡ replied (cond b (stepOn S l stamps (state .count) (state .mark) (state .question) ns settings (area id)) (after (turnDown Broken state) l stamps))
+          ≡ replyOf (cond b (stepOn S l stamps (state .count) (state .mark) (state .question) ns settings (area id)) (after (turnDown Broken state) l stamps))
       go true h = ap (λ (a : Answer). reply a state) (placed id (state .count) (h refl))
       go false h = refl

@@ -10,13 +10,9 @@ use Rattle.layer.specs.declared.State.{State}
 use Rattle.layer.specs.declared.Reply.{Reply}
 use Rattle.layer.specs.declared.Answer.{Answer}
 use Rattle.layer.specs.declared.Answer.the-variants.{Owns, Area}
-use Rattle.layer.specs.World.{Outcome, reply, turnDown}
+use Rattle.layer.specs.World.{reply, turnDown}
 use Rattle.layer.specs.Table.{isAt}
 use lib.Dec.{ltb}
-
--- the answer with the state that is left
-abbrev pub replied : Outcome → Reply
-replied o = reply (o .answer) (o .world .state)
 
 -- how many records the scan looks at
 abbrev pub lookedAt : Bool → State → ℕ

@@ -5,9 +5,9 @@ ghost use mathlib.Core.Bool.{true};
 ghost use Prim.Native.Nat.{_<_, _≤_};
 ghost use Rattle.judge.specs.declared.Query.the-variants.{Holds};
 ghost use Rattle.layer.specs.Table.{isAt};
-ghost use Rattle.layer.specs.World.{worldOf};
+ghost use Rattle.layer.specs.World.{replyOf, worldOf};
 ghost use Rattle.layer.specs.Step.{owns, area, step};
-ghost use Rattle.arena_area.specs.Asked.{replied, lookedAt, ownsReply, placeOf, areaAnswer, areaReply};
+ghost use Rattle.arena_area.specs.Asked.{lookedAt, ownsReply, placeOf, areaAnswer, areaReply};
 use arena::Arena;
 use judge::Query;
 use layer::Answer;
@@ -69,7 +69,7 @@ pub fn owns(
     settings: Settings,
     address: u64,
 ) -> Reply
-    ensures { λ r. ⌜ r ≡ replied (step 33554432 (worldOf (now (records .entry)) (now (stamps .entry)) state) ns settings (owns address)) ⌝ }
+    ensures { λ r. ⌜ r ≡ replyOf (step 33554432 (worldOf (now (records .entry)) (now (stamps .entry)) state) ns settings (owns address)) ⌝ }
 {
     let ok = table::row_one(records, stamps.len(), state, settings.page, CHUNK);
     let k = looked_at(ok, state);
@@ -126,7 +126,7 @@ pub fn arena_area(
     settings: Settings,
     id: i32,
 ) -> Reply
-    ensures { λ r. ⌜ r ≡ replied (step 33554432 (worldOf (now (records .entry)) (now (stamps .entry)) state) ns settings (area id)) ⌝ }
+    ensures { λ r. ⌜ r ≡ replyOf (step 33554432 (worldOf (now (records .entry)) (now (stamps .entry)) state) ns settings (area id)) ⌝ }
 {
     let ok = table::row_one(records, stamps.len(), state, settings.page, CHUNK);
     let j = place_of(id);

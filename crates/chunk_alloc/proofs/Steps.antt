@@ -56,7 +56,7 @@ use Rattle.claims.specs.Core.{claimCount, searchArena, claimReply}
 use Rattle.claims.proofs.Served as D
 use Rattle.claims.proofs.Served.Laws as D′
 use Rattle.claims.proofs.ClaimLaws.{storedAt}
-use Rattle.chunk_alloc.specs.Entry.{Leaves}
+use Rattle.layer.specs.World.{Leaves}
 use Rattle.chunk_alloc.proofs.page_of as page′
 use Rattle.chunk_alloc.proofs.page_of.Symbol.{name as #chunk-alloc·page-of}
 use Rattle.claims.proofs.claim_count as count′

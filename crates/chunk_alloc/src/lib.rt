@@ -7,7 +7,7 @@ ghost use Rattle.judge.specs.declared.Query.the-variants.{Serves};
 ghost use Rattle.layer.specs.World.{worldOf};
 ghost use Rattle.layer.specs.Step.{claim, step};
 ghost use Rattle.claims.proofs.ClaimLaws.{storedAt};
-ghost use Rattle.chunk_alloc.specs.Entry.{Leaves};
+ghost use Rattle.layer.specs.World.{Leaves};
 use arena::Arena;
 use claims::Served;
 use judge::Query;

@@ -2,7 +2,7 @@
 // value, in the crates below.
 ghost use mathlib.Core.Path.{_≡_};
 ghost use Rattle.clock.specs.Clock.{nowMs, delayMs};
-ghost use Rattle.layer.specs.World.{reply, worldOf};
+ghost use Rattle.layer.specs.World.{worldOf, Leaves};
 ghost use Rattle.layer.specs.Step.{release, step};
 ghost use Rattle.judge.specs.declared.Query.the-variants.{Holds};
 ghost use Rattle.releases.specs.Core.{storedAt};
@@ -66,8 +66,7 @@ pub fn chunk_release(
     told: Commitment,
     pending: bool,
 ) -> Reply
-    ensures { λ r. ⌜ (let o = step 33554432 (worldOf (now (records .entry)) (now (stamps .entry)) state) ns settings (release address n told pending) in
-        (r ≡ reply (o .answer) (o .world .state)) × (now (records .exit) ≡ o .world .records) × (now (stamps .exit) ≡ o .world .stamps)) ⌝ }
+    ensures { λ r. ⌜ Leaves (step 33554432 (worldOf (now (records .entry)) (now (stamps .entry)) state) ns settings (release address n told pending)) r (now (records .exit)) (now (stamps .exit)) ⌝ }
 {
     let ok = table::row_one(records, stamps.len(), state, sound_page(settings), CHUNK);
     let k = releases::release_count(ok, state, n);

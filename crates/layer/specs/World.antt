@@ -1,4 +1,5 @@
 -- What a call works on and what it leaves: the 32 records, the 32,768 stamps and the state. Assumes nothing.
+use mathlib.Core.Path.{_≡_}
 use mathlib.Core.Bool.{Bool, false}
 use mathlib.Core.List.{List}
 use Prim.Native.Nat.{ℕ}
@@ -41,6 +42,13 @@ reply answer state = record { answer = answer; state = state }
 
 abbrev pub after : Reply → List Arena → List ℕ → Outcome
 after r records stamps = outcome (r .answer) (worldOf records stamps (r .state))
+
+-- what an entry point over the lent slices leaves: the outcome's answer and state go back by value, its records and stamps stand in the slices
+abbrev pub replyOf : Outcome → Reply
+replyOf o = reply (o .answer) (o .world .state)
+
+abbrev pub Leaves : Outcome → Reply → List Arena → List ℕ → Type 0
+Leaves o r records stamps = (r ≡ replyOf o) × (records ≡ o .world .records) × (stamps ≡ o .world .stamps)
 
 -- "Each refusal leaves all state and lent memory untouched"
 abbrev pub turnDown : Refusal → State → Reply

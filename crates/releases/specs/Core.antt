@@ -37,13 +37,6 @@ unfoldable pub releaseArena : ℕ → ℕ → ℕ → Commitment → Bool → �
 releaseArena S address n told pending now delay f a =
     cond (granted S a address n f) (releaseRun a ((address - a .base) / S) n told pending now delay) a
 
--- how many stamps are written, and from where on in the arena
-unfoldable pub stampCount : ℕ → ℕ → ℕ → Bool → Found → Arena → ℕ
-stampCount S address n pending f a = cond (granted S a address n f && pending) n 0
-
-unfoldable pub stampStart : ℕ → ℕ → Found → Arena → ℕ → ℕ
-stampStart S address f a n = cond (granted S a address n f) ((address - a .base) / S) 0
-
 -- the stamps that the call leaves: those of the run where it is granted and pending
 abbrev pub stampsAfter : ℕ → List ℕ → ℕ → ℕ → Bool → ℕ → Found → Arena → List ℕ
 stampsAfter S stamps address n pending now (At i) a =

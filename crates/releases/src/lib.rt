@@ -7,7 +7,7 @@ ghost use lib.ListN.{length};
 ghost use Rattle.runs.specs.declared.Found.the-variants.{At};
 ghost use Rattle.arena.specs.Releasing.{stampRun};
 ghost use Rattle.layer.specs.Releasing.{releases, releaseReply};
-ghost use Rattle.releases.specs.Core.{releaseCount, foundReply, granted, releaseAnswer, releaseArena, stampCount, stampStart, stampsAfter};
+ghost use Rattle.releases.specs.Core.{releaseCount, foundReply, granted, releaseAnswer, releaseArena, stampsAfter};
 use arena::Arena;
 use arena::Commitment;
 use layer::Answer;
@@ -15,14 +15,6 @@ use layer::Reply;
 use layer::State;
 use refusals::Refusal;
 use runs::Found;
-
-// What a release leaves: the record, the reply, and the stamps to write, so many from a place on.
-pub struct Release {
-    pub arena: Arena,
-    pub reply: Reply,
-    pub start: usize,
-    pub stamps: usize,
-}
 
 // How many records the scan looks at: none where the call is turned down before it.
 pub fn release_count(ok: bool, state: State, n: usize) -> usize
@@ -173,10 +165,7 @@ fn is_pending(a: Arena, offset: u64, n: usize, pending: bool, chunk_size: u64) -
     requires { ⌜ 0 < «chunk_size» ⌝ }
     ensures { λ r. ⌜ r ≡ releases «chunk_size» a offset n && pending ⌝ }
 {
-    if fits(a, offset, n, chunk_size) {
-        return pending;
-    }
-    false
+    fits(a, offset, n, chunk_size) && pending
 }
 
 // What the call makes of the stamps.

@@ -66,7 +66,7 @@ use Rattle.table.proofs.Locals.{enters, used}
 use Rattle.table.proofs.Frame.{Done2, finish2, mut2-meets}
 use Rattle.table.proofs.Calls.{in-seq}
 use Rattle.table.proofs.Steps.{Row, Scan, LoadOr, StoreIf, row-step, scan-step, load-or-step, store-if-step}
-use Rattle.chunk_alloc.specs.Entry.{Leaves}
+use Rattle.layer.specs.World.{Leaves}
 use Rattle.chunk_alloc.proofs.EntryLaws.{claimed, claimed-sound}
 use Rattle.chunk_alloc.proofs.Steps.{Page, Count, Asks, Stored, Core, ArenaOf, ReplyOf, served, big-lit, page-step, count-step, query-step, stored-step, core-step, arena-step, reply-step}
 use Rattle.chunk_alloc.proofs.page_of.Symbol as page-def

@@ -12,7 +12,7 @@ returns : tie.Need-returns
 returns c = sym (and-second _ _ (sym (c .before .fits2 .ensures) ∙ c .if1 .taken))
 
 returns-2 : tie.Need-returns-2
-returns-2 c = sym (and-first _ _ (sym (c .before .fits2 .ensures) ∙ c .if1 .left))
+returns-2 c = c .if1 .left ∙ sym (and-first _ _ (sym (c .before .fits2 .ensures) ∙ c .if1 .left))
 
 pub is-pending-spec : {M : Type 1} → statement M
 is-pending-spec = tie.close (tie.spec fits-requires returns returns-2)

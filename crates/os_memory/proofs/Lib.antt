@@ -1,0 +1,3 @@
+mod Big
+mod PlaceLaws
+mod PlaceSteps

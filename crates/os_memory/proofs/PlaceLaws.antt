@@ -1,0 +1,139 @@
+-- What the calls write is what the layer's steps write. S is the size of a chunk. Assumes nothing.
+use mathlib.Core.Path.{_≡_, refl, sym, ap, _∙_, subst}
+use mathlib.Core.Bool.{Bool, true, false, _&&_}
+use mathlib.Core.List.{List, [], _∷_}
+use Prim.Native.Nat.{ℕ, zero, suc, _+_, _/_, _<_, _≤_, _^_}
+use native.Mathlib.Omega.{arith}
+use borrow.Author.Tests.{ltb-true, eqb-true}
+use lib.Dec.{eqb, ltb}
+use lib.IntN.{ℤ}
+use lib.ListN.{length, set}
+use Rattle.runs.specs.declared.Found.{Found}
+use Rattle.runs.specs.declared.Found.the-variants.{At, Nothing}
+use Rattle.runs.proofs.SearchLaws.{and-both}
+use Rattle.arena.specs.declared.Arena.{Arena}
+use Rattle.arena.specs.Registering.{managedArena}
+use Rattle.layer.specs.declared.Settings.{Settings}
+use Rattle.layer.specs.declared.State.{State}
+use Rattle.layer.specs.declared.Reply.{Reply}
+use Rattle.layer.specs.World.{worldOf, after}
+use Rattle.layer.specs.Table.{at, soundLent}
+use Rattle.layer.specs.Registering.{firstWhole}
+use Rattle.layer.specs.Step.{manage, adopt, step}
+use Rattle.judge.specs.Scan.{hit, scanOf}
+use Rattle.registers.specs.Core.{managePasses, manageBytes, manageAnswer, manageId, adoptPasses, adoptCount, adoptAnswer, adoptId}
+use Rattle.registers.specs.Parts.{adoptArena, adoptStamped, recordsWith, stampsWith}
+use Rattle.words.proofs.Tests.{when, unless}
+use Rattle.registers.proofs.DecisionLaws.{either, manages-not, adopts-not}
+use Rattle.registers.proofs.RegisterLaws.{manageMet, manage-met, manage-step, scan-facts, growing-fits, adopt-step}
+use Rattle.os_memory.specs.declared.Writing.{Writing}
+use Rattle.os_memory.specs.Places.{foundPlace, recordPlace, passes, manageHit, ManageWrites, adoptHit, growing, grown, AdoptWrites}
+
+-- ---- what is written
+
+-- past the end of a list nothing is set
+past : (l : List Arena) (i : ℕ) (a : Arena) → length l ≤ i → set l i a ≡ l
+past [] i a h = refl
+past (x ∷ l) zero a h = absurd (omega (arith, h))
+past (x ∷ l) (suc i) a h = ap (λ (r : List Arena). x ∷ r) (past l i a (omega (arith, h)))
+
+record-placed : (l : List Arena) (id : ℕ) (b a : Arena) → length l < 2 ^ 64 → (id < 32 → b ≡ a) → set l (recordPlace id) b ≡ recordsWith l id a
+unfolding recordsWith
+record-placed l id b a fits e =
+    either (ltb id 32)
+    (λ h. ap (λ (n : ℕ). set l n b) (when _ _ _ h) ∙ ap (set l id) (e (ltb-true id 32 h)) ∙ sym (when _ _ _ h))
+    (λ h. ap (λ (n : ℕ). set l n b) (unless _ _ _ h) ∙ past l 18446744073709551615 b (omega (arith, fits)) ∙ sym (unless _ _ _ h))
+
+-- what is left of the records and stamps
+wrote : (l : List Arena) (stamps : List ℕ) (w : Writing) (r : Reply) (id at-id : ℕ) (a : Arena) → length l < 2 ^ 64 → w .reply ≡ r → w .id ≡ id → (id < 32 → w .arena ≡ a) → w .stamped ≡ at-id
+    → after (w .reply) (set l (recordPlace (w .id)) (w .arena)) (stampsWith stamps (w .stamped)) ≡ after r (recordsWith l id a) (stampsWith stamps at-id)
+wrote l stamps w r id at-id a fits e0 e1 e2 e3 =
+    ap (λ (x : Reply). after x (set l (recordPlace (w .id)) (w .arena)) (stampsWith stamps (w .stamped))) e0
+    ∙ ap (λ (n : ℕ). after r (set l (recordPlace n) (w .arena)) (stampsWith stamps (w .stamped))) e1
+    ∙ ap (λ (x : List Arena). after r x (stampsWith stamps (w .stamped))) (record-placed l id (w .arena) a fits e2)
+    ∙ ap (λ (n : ℕ). after r (recordsWith l id a) (stampsWith stamps n)) e3
+
+stamped-below : (f : Found) (id : ℕ) → adoptStamped f id < 32 → id < 32
+stamped-below (At i) id h = absurd (omega (arith, h))
+stamped-below Nothing id h = h
+
+-- ---- the record that grows has room
+
+module _ (S : ℕ) (l : List Arena) (n : ℕ) (state : State) (page : ℕ) (address size : ℕ) where
+  grown-is : (i : ℕ) → growing S l n state page address size ≡ At i → grown S l n state page address size ≡ at l i
+  grown-is i e = ap (λ (f : Found). at l (foundPlace f)) e
+
+  pub grown-fits : (i : ℕ) → growing S l n state page address size ≡ At i → grown S l n state page address size .chunks + size / S ≤ 1024
+  unfolding scanOf hit
+  grown-fits i e =
+      subst (λ (x : Arena). x .chunks + size / S ≤ 1024) (sym (grown-is i e))
+      (growing-fits S (at l i) address (size / S) (scan-facts _ (adoptCount S (passes S l n state page) state address size) i e .1))
+
+module _ (S : ℕ) (l : List Arena) (stamps : List ℕ) (state : State) (ns : ℕ) (settings : Settings) where
+  abbrev ok : Bool
+  ok = passes S l (length stamps) state (settings .page)
+
+  -- row 1 lets 32,768 stamps pass
+  lent-stamps : ok ≡ true → length stamps ≡ 32768
+  unfolding soundLent
+  lent-stamps e = eqb-true (length stamps) 32768 (and-both (eqb (length stamps) 32768) _ (and-both (eqb (length l) 32) _ e .1) .0)
+
+  -- ---- manage
+
+  module _ (start size : ℕ) (exclusive : Bool) (node : ℤ) (mapped reserved : Bool) where
+    abbrev found : Found
+    found = manageHit S l (length stamps) state (settings .page) start size exclusive node mapped reserved
+
+    abbrev record-made : Arena
+    record-made = managedArena (firstWhole S start) (manageBytes S start size / S) exclusive node
+
+    manage-lent : manageId S ok state start size mapped reserved found < 32 → length stamps ≡ 32768
+    unfolding managePasses
+    manage-lent h =
+        either (managePasses S ok state start size mapped reserved)
+        (λ e. lent-stamps (and-both ok _ e .0))
+        (λ e. absurd (omega (arith, h, manages-not S ok state start size mapped reserved found e)))
+
+    -- where stamps are written, all are lent
+    pub manage-stamps : (w : Writing) → ManageWrites S l (length stamps) state (settings .page) start size exclusive node mapped reserved w → w .stamped < 32 → length stamps ≡ 32768
+    manage-stamps w e h = manage-lent (subst (λ (n : ℕ). n < 32) (e .3 ∙ e .1) h)
+
+    same : found ≡ manageMet S l stamps (state .count) (state .mark) (state .question) ok start size exclusive node mapped reserved
+    unfolding scanOf hit
+    same = manage-met S l stamps (state .count) (state .mark) (state .question) ok start size exclusive node mapped reserved
+
+    pub manage-done : (w : Writing) → length l < 2 ^ 64 → ManageWrites S l (length stamps) state (settings .page) start size exclusive node mapped reserved w
+        → after (w .reply) (set l (recordPlace (w .id)) (w .arena)) (stampsWith stamps (w .stamped)) ≡ step S (worldOf l stamps state) ns settings (manage start size exclusive node mapped reserved)
+    manage-done w fits e =
+        wrote l stamps w (manageAnswer S ok state start size mapped reserved found) (manageId S ok state start size mapped reserved found) (manageId S ok state start size mapped reserved found) record-made fits (e .0) (e .1) (e .2) (e .3 ∙ e .1)
+        ∙ ap (λ (f : Found). after (manageAnswer S ok state start size mapped reserved f) (recordsWith l (manageId S ok state start size mapped reserved f) record-made) (stampsWith stamps (manageId S ok state start size mapped reserved f))) same
+        ∙ sym (manage-step S l stamps (state .count) (state .mark) (state .question) ns settings start size exclusive node mapped reserved)
+
+  -- ---- adopt
+
+  module _ (address size : ℕ) where
+    abbrev met : Found
+    met = adoptHit S l (length stamps) state (settings .page) address size
+
+    abbrev grew : Found
+    grew = growing S l (length stamps) state (settings .page) address size
+
+    abbrev one : Arena
+    one = grown S l (length stamps) state (settings .page) address size
+
+    adopt-lent : adoptId S ok state address size met grew < 32 → length stamps ≡ 32768
+    unfolding adoptPasses
+    adopt-lent h =
+        either (adoptPasses S ok state address size)
+        (λ e. lent-stamps (and-both ok _ e .0))
+        (λ e. absurd (omega (arith, h, adopts-not S ok state address size met grew e)))
+
+    pub adopt-stamps : (w : Writing) → AdoptWrites S l (length stamps) state (settings .page) address size w → w .stamped < 32 → length stamps ≡ 32768
+    adopt-stamps w e h = adopt-lent (subst (λ (n : ℕ). n < 32) (e .1) (stamped-below grew (w .id) (subst (λ (n : ℕ). n < 32) (e .3) h)))
+
+    pub adopt-done : (w : Writing) → length l < 2 ^ 64 → AdoptWrites S l (length stamps) state (settings .page) address size w
+        → after (w .reply) (set l (recordPlace (w .id)) (w .arena)) (stampsWith stamps (w .stamped)) ≡ step S (worldOf l stamps state) ns settings (adopt address size)
+    unfolding scanOf hit
+    adopt-done w fits e =
+        wrote l stamps w (adoptAnswer S ok state address size met grew) (adoptId S ok state address size met grew) (adoptStamped grew (adoptId S ok state address size met grew)) (adoptArena S one address size grew) fits (e .0) (e .1) (e .2) (e .3 ∙ ap (adoptStamped grew) (e .1))
+        ∙ sym (adopt-step S l stamps (state .count) (state .mark) (state .question) ns settings address size one (grown-is S l (length stamps) state (settings .page) address size))

@@ -1,0 +1,292 @@
+// The calls that register memory, over the lent table: reserve, manage, adopt. What they decide stands in
+// `registers`; here the table is read, and the record and the stamps are written.
+ghost use mathlib.Core.Path.{_≡_};
+ghost use Prim.Native.Nat.{_/_, _<_, _≤_};
+ghost use lib.ListN.{length, set};
+ghost use Rattle.judge.specs.declared.Query.the-variants.{Meets, Grows};
+ghost use Rattle.layer.specs.World.{worldOf, after};
+ghost use Rattle.layer.specs.Step.{reserve, manage, adopt, step};
+ghost use Rattle.registers.specs.Parts.{manageBase, manageLength, adoptStamped, stampsWith};
+ghost use Rattle.os_memory.specs.Places.{foundPlace, recordPlace, writingOf, ManageWrites, AdoptWrites};
+use arena::Arena;
+use judge::Query;
+use layer::Reply;
+use layer::Settings;
+use layer::State;
+use registers::Registering;
+use runs::Found;
+
+// The bytes of a chunk.
+const CHUNK: u64 = 33554432;
+
+// Past the end of every slice.
+const NOWHERE: usize = 18446744073709551615;
+
+// ---- reserve
+
+// Memory is asked of the host.
+pub fn reserve_os_memory_ex(
+    records: &mut [Arena],
+    stamps: &mut [u32],
+    state: State,
+    ns: u64,
+    settings: Settings,
+    size: u64,
+    commit: bool,
+    allow_large: bool,
+    exclusive: bool,
+) -> Reply
+    ensures { λ r. ⌜ after r (now (records .exit)) (now (stamps .exit)) ≡ step 33554432 (worldOf (now (records .entry)) (now (stamps .entry)) state) ns settings (reserve size commit «allow_large» exclusive) ⌝ }
+{
+    let ok = table::row_one(records, stamps.len(), state, settings.page, CHUNK);
+    registers::reserve_core(
+        ok,
+        state,
+        size,
+        commit,
+        allow_large,
+        exclusive,
+        settings.page,
+        CHUNK,
+    )
+}
+
+// ---- what a registering writes
+
+// The record and its id, 32 for none; the id whose stamps are made zero, 32 for none; and the reply.
+pub struct Writing {
+    pub id: usize,
+    pub arena: Arena,
+    pub stamped: usize,
+    pub reply: Reply,
+}
+
+// What is registered, with the id whose stamps are written.
+fn as_written(d: Registering, stamped: usize) -> Writing
+    ensures { λ r. ⌜ r ≡ writingOf d stamped ⌝ }
+{
+    let arena = d.arena;
+    let reply = d.reply;
+    Writing {
+        id: d.id,
+        arena,
+        stamped,
+        reply,
+    }
+}
+
+// A manage writes the stamps of the id that it registers.
+fn managed(d: Registering) -> Writing
+    ensures { λ r. ⌜ r ≡ writingOf d (d .id) ⌝ }
+{
+    as_written(d, d.id)
+}
+
+// An adopt does too, but where an arena grows.
+fn adopted(growing: Found, d: Registering) -> Writing
+    ensures { λ r. ⌜ r ≡ writingOf d (adoptStamped growing (d .id)) ⌝ }
+{
+    as_written(d, registers::adopt_stamped(growing, d.id))
+}
+
+// Where the record is written.
+fn record_place(w: Writing) -> usize
+    ensures { λ r. ⌜ r ≡ recordPlace (w .id) ⌝ }
+{
+    if w.id < 32 {
+        return w.id;
+    }
+    NOWHERE
+}
+
+fn record_of(w: Writing) -> Arena
+    ensures { λ r. ⌜ r ≡ w .arena ⌝ }
+{
+    w.arena
+}
+
+fn stamped_of(w: Writing) -> usize
+    ensures { λ r. ⌜ r ≡ w .stamped ⌝ }
+{
+    w.stamped
+}
+
+fn reply_of(w: Writing) -> Reply
+    ensures { λ r. ⌜ r ≡ w .reply ⌝ }
+{
+    w.reply
+}
+
+// The stamps of a new arena are made zero.
+fn zero_stamps(stamps: &mut [u32], id: usize)
+    requires { ⌜ (id < 32 → length (now stamps) ≡ 32768) ⌝ }
+    ensures { λ _. ⌜ now (stamps .exit) ≡ stampsWith (now (stamps .entry)) id ⌝ }
+{
+    if id < 32 {
+        purge::stamp_run_of(stamps, id, 0, 1024, 0);
+    }
+}
+
+// The record and the stamps are written.
+fn write(records: &mut [Arena], stamps: &mut [u32], w: Writing) -> Reply
+    requires { ⌜ (w .stamped < 32 → length (now stamps) ≡ 32768) ⌝ }
+    ensures { λ r. ⌜ (r ≡ w .reply) × (now (records .exit) ≡ set (now (records .entry)) (recordPlace (w .id)) (w .arena)) × (now (stamps .exit) ≡ stampsWith (now (stamps .entry)) (w .stamped)) ⌝ }
+{
+    let place = record_place(w);
+    let a = record_of(w);
+    let id = stamped_of(w);
+    table::store_if(records, place, a);
+    zero_stamps(stamps, id);
+    reply_of(w)
+}
+
+// ---- manage
+
+// What meets the whole chunks inside the range.
+fn manage_query(start: u64, size: u64, chunk_size: u64) -> Query
+    requires { ⌜ (0 < «chunk_size») × («chunk_size» ≤ 4294967296) ⌝ }
+    ensures { λ r. ⌜ r ≡ Meets (manageBase «chunk_size» start size) (manageLength «chunk_size» start size) ⌝ }
+{
+    let base = registers::manage_base(start, size, chunk_size);
+    let bytes = registers::manage_bytes(start, size, chunk_size);
+    Query::Meets { base, bytes }
+}
+
+// What a manage writes, so many stamps being lent.
+fn manage_writing(
+    records: &[Arena],
+    stamps: usize,
+    state: State,
+    page: u64,
+    start: u64,
+    size: u64,
+    exclusive: bool,
+    node: i32,
+    mapped: bool,
+    reserved: bool,
+) -> Writing
+    ensures { λ r. ⌜ ManageWrites 33554432 (now (records .entry)) stamps state page start size exclusive node mapped reserved r ⌝ }
+{
+    let ok = table::row_one(records, stamps, state, page, CHUNK);
+    let k = registers::manage_count(ok, state, start, size, mapped, reserved, CHUNK);
+    let q = manage_query(start, size, CHUNK);
+    let met = table::scan(records, k, CHUNK, q);
+    let d = registers::manage_core(
+        ok,
+        state,
+        start,
+        size,
+        exclusive,
+        node,
+        mapped,
+        reserved,
+        met,
+        CHUNK,
+    );
+    managed(d)
+}
+
+// Memory that the host has already is registered. The first three flags say what nothing depends on; the
+// last two are the host's facts: in the segment map already, and reserved.
+pub fn manage_os_memory_ex(
+    records: &mut [Arena],
+    stamps: &mut [u32],
+    state: State,
+    ns: u64,
+    settings: Settings,
+    start: u64,
+    size: u64,
+    is_committed: bool,
+    is_large: bool,
+    is_zero: bool,
+    node: i32,
+    exclusive: bool,
+    mapped: bool,
+    reserved: bool,
+) -> Reply
+    ensures { λ r. ⌜ after r (now (records .exit)) (now (stamps .exit)) ≡ step 33554432 (worldOf (now (records .entry)) (now (stamps .entry)) state) ns settings (manage start size exclusive node mapped reserved) ⌝ }
+{
+    let w = manage_writing(
+        records,
+        stamps.len(),
+        state,
+        settings.page,
+        start,
+        size,
+        exclusive,
+        node,
+        mapped,
+        reserved,
+    );
+    write(records, stamps, w)
+}
+
+// ---- adopt
+
+// What meets the block.
+fn block_query(address: u64, size: u64) -> Query
+    ensures { λ r. ⌜ r ≡ Meets address size ⌝ }
+{
+    Query::Meets {
+        base: address,
+        bytes: size,
+    }
+}
+
+// What the block continues.
+fn growth_query(address: u64, size: u64, chunk_size: u64) -> Query
+    requires { ⌜ 0 < «chunk_size» ⌝ }
+    ensures { λ r. ⌜ r ≡ Grows address (size / «chunk_size») ⌝ }
+{
+    let n = size / chunk_size;
+    Query::Grows { address, n }
+}
+
+// Where the record stands that a scan found; 32 for none.
+fn found_place(f: Found) -> usize
+    ensures { λ r. ⌜ r ≡ foundPlace f ⌝ }
+{
+    match f {
+        Found::At(i) => i,
+        Found::Nothing => 32,
+    }
+}
+
+// What an adopt writes, so many stamps being lent.
+fn adopt_writing(
+    records: &[Arena],
+    stamps: usize,
+    state: State,
+    page: u64,
+    address: u64,
+    size: u64,
+) -> Writing
+    ensures { λ r. ⌜ AdoptWrites 33554432 (now (records .entry)) stamps state page address size r ⌝ }
+{
+    let ok = table::row_one(records, stamps, state, page, CHUNK);
+    let k = registers::adopt_count(ok, state, address, size, CHUNK);
+    let q = block_query(address, size);
+    let met = table::scan(records, k, CHUNK, q);
+    let g = growth_query(address, size, CHUNK);
+    let growing = table::scan(records, k, CHUNK, g);
+    let j = found_place(growing);
+    let a = table::load_or(records, j);
+    let d = registers::adopt_core(ok, state, address, size, met, growing, a, CHUNK);
+    adopted(growing, d)
+}
+
+// A block of the allocator's own becomes an arena, or part of the one that ends at it.
+pub fn adopt_os_block(
+    records: &mut [Arena],
+    stamps: &mut [u32],
+    state: State,
+    ns: u64,
+    settings: Settings,
+    address: u64,
+    size: u64,
+) -> Reply
+    ensures { λ r. ⌜ after r (now (records .exit)) (now (stamps .exit)) ≡ step 33554432 (worldOf (now (records .entry)) (now (stamps .entry)) state) ns settings (adopt address size) ⌝ }
+{
+    let w = adopt_writing(records, stamps.len(), state, settings.page, address, size);
+    write(records, stamps, w)
+}

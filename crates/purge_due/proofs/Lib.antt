@@ -1,0 +1,2 @@
+mod GoingLaws
+pub mod Steps

@@ -1,9 +1,28 @@
--- What an open question says, read by itself: zeros where another question is open. Assumes nothing.
-use mathlib.Core.Bool.{false}
+-- What turns an answer down, and what an open question says, read by itself: zeros where another question is open. Assumes nothing.
+use mathlib.Core.Bool.{Bool, false, cond}
 use Prim.Native.Nat.{ℕ}
+use Rattle.refusals.specs.declared.Refusal.the-variants.{Broken, NoSuchQuestion}
+use Rattle.layer.specs.declared.State.{State}
+use Rattle.layer.specs.declared.Kind.{Kind}
+use Rattle.layer.specs.declared.Reply.{Reply}
 use Rattle.layer.specs.declared.Sweep.{Sweep}
 use Rattle.layer.specs.declared.Question.{Question}
 use Rattle.layer.specs.declared.Question.the-variants.{Idle, Committing, Purging, Reserving, GivingBack}
+use Rattle.layer.specs.World.{stateOf, turnDown}
+use Rattle.layer.specs.Answering.{isFor, causeRefusal, failReply}
+
+-- rows 1 and 3, then the answer's own
+abbrev pub gated : Bool → State → Kind → Reply → Reply
+gated ok state kind own = cond ok (cond (isFor (state .question) kind) own (turnDown NoSuchQuestion state)) (turnDown Broken state)
+
+-- the answer about a block that is given back: who waited for it is turned down
+abbrev pub givenBackReply : ℕ → Bool → Question → Reply
+givenBackReply k mark Idle = turnDown NoSuchQuestion (stateOf k mark Idle)
+givenBackReply k mark (Committing id start n) = turnDown NoSuchQuestion (stateOf k mark (Committing id start n))
+givenBackReply k mark (Purging id chunk sweep) = turnDown NoSuchQuestion (stateOf k mark (Purging id chunk sweep))
+givenBackReply k mark (Reserving chunks bytes commit exclusive waiting) =
+    turnDown NoSuchQuestion (stateOf k mark (Reserving chunks bytes commit exclusive waiting))
+givenBackReply k mark (GivingBack cause waiting) = failReply k mark (causeRefusal cause) waiting
 
 -- ---- the run whose commit is asked for
 

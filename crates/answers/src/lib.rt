@@ -7,7 +7,7 @@ ghost use Rattle.arena.specs.Sweeping.{returnChunk};
 ghost use Rattle.purge.specs.Stamps.{stampsOf};
 ghost use Rattle.layer.specs.Answering.{kindOpen, kindAnswered, isFor, causeRefusal, counted, commitArena, commitReply, failReply, giveBackReply};
 ghost use Rattle.sweeps.specs.Core.{nextOf, stayArena, stayReply, isAsked};
-ghost use Rattle.answers.specs.Core.{committingId, committingStart, committingLength, noSweep, purgingId, purgingChunk, purgingSweep};
+ghost use Rattle.answers.specs.Core.{gated, givenBackReply, committingId, committingStart, committingLength, noSweep, purgingId, purgingChunk, purgingSweep};
 use arena::Arena;
 use claims::Served;
 use layer::Answer;
@@ -57,6 +57,20 @@ pub fn is_for(q: Question, kind: Kind) -> bool
     kind_open(q) == kind_answered(kind)
 }
 
+// Rows 1 and 3, then the answer's own.
+pub fn gate(ok: bool, state: State, kind: Kind, own: Reply) -> Reply
+    ensures { λ r. ⌜ r ≡ gated ok state kind own ⌝ }
+{
+    if !ok {
+        return registers::turn_down(Refusal::Broken, state);
+    }
+    let q = state.question;
+    if is_for(q, kind) {
+        return own;
+    }
+    registers::turn_down(Refusal::NoSuchQuestion, state)
+}
+
 // ---- memory that did not come, or cannot be used
 
 // A reserve is turned down with the cause; a claim that waits finds no run, and reserves are given up.
@@ -77,6 +91,27 @@ pub fn cause_refusal(cause: Unusable) -> Refusal
         Unusable::Count => Refusal::ChunkCount,
         Unusable::Misaligned => Refusal::NotWhole,
         Unusable::Full => Refusal::TableFull,
+    }
+}
+
+// The block went back, whatever the host says of it: who waited for it is turned down.
+pub fn give_back_core(count: usize, mark: bool, q: Question) -> Reply
+    ensures { λ r. ⌜ r ≡ givenBackReply count mark q ⌝ }
+{
+    let state = State {
+        count,
+        mark,
+        question: q,
+    };
+    let other = registers::turn_down(Refusal::NoSuchQuestion, state);
+    match q {
+        Question::Idle => other,
+        Question::Committing { .. } => other,
+        Question::Purging { .. } => other,
+        Question::Reserving { .. } => other,
+        Question::GivingBack { cause, waiting } => {
+            fail_reply(count, mark, cause_refusal(cause), waiting)
+        }
     }
 }
 

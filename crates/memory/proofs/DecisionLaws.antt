@@ -1,8 +1,8 @@
 -- The tests that the answer to a memory question comes down to. S is the size of a chunk. Assumes nothing.
-use mathlib.Core.Path.{_≡_, refl, sym, ap, ap₂, _∙_}
-use mathlib.Core.Bool.{Bool, true, false, cond, not, _&&_, _||_}
+use mathlib.Core.Path.{_≡_, sym, ap, ap₂, _∙_}
+use mathlib.Core.Bool.{Bool, true, false, not, _&&_}
 use Prim.Native.Nat.{ℕ, _+_, _*_, _/_, _%_, _^_, _≤_, _<_, min}
-use native.Mathlib.Nat.{div-lt-iff-lt-mul, mul-le-mul, div-mul-le-self, lt-div-mul-add}
+use native.Mathlib.Nat.{div-lt-iff-lt-mul, mul-le-mul, div-mul-le-self}
 use native.Mathlib.Omega.{arith}
 use borrow.Author.Tests.{leb-false, not-true, eqb-true, eqb-false}
 use lib.Dec.{eqb, leb}

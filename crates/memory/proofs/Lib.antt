@@ -1,1 +1,3 @@
 pub mod DecisionLaws
+pub mod MemoryLaws
+pub mod FoundLaws

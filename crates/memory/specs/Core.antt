@@ -1,7 +1,7 @@
 -- The answer to a memory question by value. k arenas stand, `met` is what a scan for the range found, and the question is open as chunks, bytes, commit,
 -- exclusive, waiting. S is the size of a chunk. Assumes nothing.
 use mathlib.Core.Bool.{Bool, false, cond, not, _&&_}
-use Prim.Native.Nat.{ℕ, suc, _*_, _%_, _^_, _-_, min}
+use Prim.Native.Nat.{ℕ, suc, _*_, _%_, min}
 use lib.Dec.{eqb, leb}
 use Rattle.refusals.specs.declared.Refusal.the-variants.{Range, NoRun, MemoryRefused}
 use Rattle.runs.specs.declared.Found.{Found}

@@ -1,2 +1,3 @@
 mod GoingLaws
+mod CallLaws
 pub mod Steps

@@ -4,8 +4,6 @@ use mathlib.Core.List.{List}
 use Prim.Native.Nat.{ℕ, _+_, _*_, _^_, _<_, _≤_}
 use Rattle.arena.specs.declared.Arena.{Arena}
 use Rattle.layer.specs.declared.State.{State}
-use Rattle.layer.specs.declared.Reply.{Reply}
-use Rattle.layer.specs.World.{Outcome, reply}
 use Rattle.layer.specs.Table.{at}
 use Rattle.registers.specs.Core.{isIdle}
 
@@ -16,9 +14,6 @@ Ranged S l k = (i : ℕ) → i < k → (at l i .chunks ≤ 1024) × (at l i .bas
 -- past the last arena once a question is put
 abbrev pub nextPlace : ℕ → Bool → ℕ → ℕ
 nextPlace i asked count = cond asked count (i + 1)
-
-abbrev pub replyOf : Outcome → Reply
-replyOf o = reply (o .answer) (o .world .state)
 
 -- how many arenas a sweep looks at: none where the call is turned down
 abbrev pub sweepCount : Bool → State → ℕ

@@ -1,0 +1,108 @@
+-- A sweep of all arenas behind rows 1 and 2 is the layer's step. Assumes nothing.
+use mathlib.Core.Path.{_≡_, refl, sym, ap, _∙_}
+use mathlib.Core.Bool.{Bool, true, false, cond}
+use mathlib.Core.List.{List}
+use Prim.Native.Nat.{ℕ, zero, suc, _+_, _-_, _<_, _≤_}
+use native.Mathlib.Omega.{arith}
+use borrow.Author.Tests.{leb-true, eqb-true}
+use lib.Dec.{eqb, leb}
+use lib.ListN.{length, set}
+use Rattle.runs.specs.Lowest.{all}
+use Rattle.runs.proofs.LowestLaws.{all-free-of}
+use Rattle.runs.proofs.SearchLaws.{and-both}
+use Rattle.options.specs.Options.{pageSizeSound}
+use Rattle.refusals.specs.declared.Refusal.the-variants.{Broken}
+use Rattle.arena.specs.declared.Arena.{Arena}
+use Rattle.lookup.specs.Soundness.{soundArena}
+use Rattle.lookup.proofs.SoundLaws.{arena-facts}
+use Rattle.purge.specs.Stamps.{stampsOf}
+use Rattle.layer.specs.declared.Settings.{Settings}
+use Rattle.layer.specs.declared.Sweep.{Sweep}
+use Rattle.layer.specs.declared.State.{State}
+use Rattle.layer.specs.declared.Question.{Question}
+use Rattle.layer.specs.declared.Question.the-variants.{Idle, Committing, Purging, Reserving, GivingBack}
+use Rattle.layer.specs.World.{Outcome, stateOf, worldOf, after, turnDown, replyOf}
+use Rattle.layer.specs.Table.{at, soundTable, soundLent}
+use Rattle.layer.specs.Sweeping.{sweepFrom}
+use Rattle.layer.specs.Step.{sweep, sweepOf, stepOn, step}
+use Rattle.words.proofs.Tests.{by-cond}
+use Rattle.registers.specs.Core.{isIdle, gated}
+use Rattle.sweeps.specs.Core.{isAsked, arriveFound, arriveArena}
+use Rattle.sweeps.proofs.SweepLaws.{sweep-arrives}
+use Rattle.purge_due.specs.Going.{Ranged, sweepCount}
+use Rattle.purge_due.proofs.GoingLaws.{ended}
+
+-- ---- what row 1 says of the arenas that are looked at
+
+-- the facts that the sweep over k arenas needs
+abbrev pub Sweepable : ℕ → List Arena → List ℕ → ℕ → Type 0
+Sweepable S l stamps k = (k ≤ 32) × (0 < k → length stamps ≡ 32768) × Ranged S l k
+
+none : (S : ℕ) (l : List Arena) (stamps : List ℕ) → Sweepable S l stamps 0
+none S l stamps = (omega arith, λ h. absurd (omega (arith, h)), λ i h. absurd (omega (arith, h)))
+
+module _ (S : ℕ) (l : List Arena) (stamps : List ℕ) (state : State) (page : ℕ) where
+  sound-sweepable : soundLent S l (length stamps) state page ≡ true → Sweepable S l stamps (state .count)
+  unfolding soundLent soundTable
+  sound-sweepable e =
+      let p = and-both (eqb (length l) 32) _ e in
+      let q = and-both (eqb (length stamps) 32768) _ (p .1) in
+      let r = and-both (pageSizeSound page) _ (q .1) in
+      let s = and-both (leb (state .count) 32) _ (r .1) in
+      let t = and-both (all (λ i. soundArena S (at l i)) 0 (state .count)) _ (s .1) in (
+        leb-true (state .count) 32 (s .0),
+        λ _. eqb-true (length stamps) 32768 (q .0),
+        λ i h. let f = arena-facts S (at l i) (all-free-of (λ j. soundArena S (at l j)) 0 (state .count) (t .0) i (omega arith) (omega (arith, h))) .range in (f .few, f .ends),
+      )
+
+  pub sweepable : Sweepable S l stamps (sweepCount (soundLent S l (length stamps) state page) state)
+  sweepable =
+      by-cond (Sweepable S l stamps) (soundLent S l (length stamps) state page) _ _
+      (λ e. by-cond (Sweepable S l stamps) (isIdle (state .question)) _ _ (λ f. sound-sweepable e) (λ f. none S l stamps))
+      (λ e. none S l stamps)
+
+-- ---- a sweep leaves the stamps
+
+module _ (S : ℕ) (stamps : List ℕ) (k : ℕ) (mark : Bool) (w : Sweep) where
+  pub sweep-stamps : (f i : ℕ) (l : List Arena) → sweepFrom S stamps k mark w f i l .world .stamps ≡ stamps
+  sweep-stamps zero i l = ap (λ (o : Outcome). o .world .stamps) (sym (ended S stamps k mark w zero i l refl))
+  sweep-stamps (suc f) i l =
+      ap (λ (o : Outcome). o .world .stamps) (sweep-arrives S stamps k mark w f i l)
+      ∙ by-cond (λ (o : Outcome). o .world .stamps ≡ stamps) (isAsked (arriveFound w (at l i) (stampsOf stamps i))) _ _ (λ e. refl)
+      (λ e. sweep-stamps f (i + 1) (set l i (arriveArena w (at l i) (stampsOf stamps i))))
+
+-- ---- the step
+
+module _ (S : ℕ) (l : List Arena) (stamps : List ℕ) (ns : ℕ) (settings : Settings) (force : Bool) where
+  -- the sweep over the first k arenas
+  abbrev pub swept : ℕ → Bool → Outcome
+  swept k mark = sweepFrom S stamps k mark (sweepOf force ns settings) (k - 0) 0 l
+
+  -- the sweep, then rows 1 and 2, come to o
+  abbrev pub Comes : Bool → State → Outcome → Type 0
+  Comes ok state o =
+      (gated ok state (replyOf (swept (sweepCount ok state) (state .mark))) ≡ replyOf o)
+      × (swept (sweepCount ok state) (state .mark) .world .records ≡ o .world .records)
+      × (stamps ≡ o .world .stamps)
+
+  no-sweep : (mark : Bool) → swept 0 mark .world .records ≡ l
+  unfolding sweepFrom
+  no-sweep mark = refl
+
+  on-sound : (k : ℕ) (mark : Bool) (q : Question) → Comes true (stateOf k mark q) (stepOn S l stamps k mark q ns settings (sweep force))
+  on-sound k mark Idle =
+      let z : k - 0 ≡ k = omega arith in
+      let e : swept k mark ≡ sweepFrom S stamps k mark (sweepOf force ns settings) k 0 l = ap (λ (f : ℕ). sweepFrom S stamps k mark (sweepOf force ns settings) f 0 l) z in
+      (ap replyOf e, ap (λ (o : Outcome). o .world .records) e, sym (sweep-stamps S stamps k mark (sweepOf force ns settings) k 0 l))
+  on-sound k mark (Committing id start n) = (refl, no-sweep mark, refl)
+  on-sound k mark (Purging id chunk w) = (refl, no-sweep mark, refl)
+  on-sound k mark (Reserving chunks bytes commit exclusive waiting) = (refl, no-sweep mark, refl)
+  on-sound k mark (GivingBack cause waiting) = (refl, no-sweep mark, refl)
+
+  pub comes : (state : State) → Comes (soundLent S l (length stamps) state (settings .page)) state (step S (worldOf l stamps state) ns settings (sweep force))
+  unfolding step
+  comes state = go (soundLent S l (length stamps) state (settings .page))
+    where
+      go : (b : Bool) → Comes b state (cond b (stepOn S l stamps (state .count) (state .mark) (state .question) ns settings (sweep force)) (after (turnDown Broken state) l stamps))
+      go true = on-sound (state .count) (state .mark) (state .question)
+      go false = (refl, no-sweep (state .mark), refl)

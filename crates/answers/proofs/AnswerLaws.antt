@@ -21,7 +21,7 @@ use Rattle.arena.specs.Claiming.{giveBackRun}
 use Rattle.arena.specs.Releasing.{tellRun}
 use Rattle.arena.specs.Sweeping.{unpendChunk, returnChunk}
 use Rattle.lookup.specs.Soundness.{soundArena}
-use Rattle.lookup.proofs.SoundLaws.{SoundArena, arena-facts}
+use Rattle.lookup.proofs.SoundLaws.{arena-facts}
 use Rattle.purge.specs.Stamps.{stampsOf}
 use Rattle.layer.specs.declared.Settings.{Settings}
 use Rattle.layer.specs.declared.Sweep.{Sweep}
@@ -29,7 +29,7 @@ use Rattle.layer.specs.declared.State.{State}
 use Rattle.layer.specs.declared.Unusable.{Unusable}
 use Rattle.layer.specs.declared.Waiting.{Waiting}
 use Rattle.layer.specs.declared.Kind.{Kind}
-use Rattle.layer.specs.declared.Kind.the-variants.{ForCommit, ForPurge, ForMemory, ForGiveBack, ForNone}
+use Rattle.layer.specs.declared.Kind.the-variants.{ForCommit, ForPurge, ForGiveBack}
 use Rattle.layer.specs.declared.Question.{Question}
 use Rattle.layer.specs.declared.Question.the-variants.{Idle, Committing, Purging, Reserving, GivingBack}
 use Rattle.layer.specs.World.{Outcome, stateOf, worldOf, after, turnDown}

@@ -1,7 +1,8 @@
 // The answer to an open question by value, for a commit, a purge and a block that is given back: which
 // answers are for which question, what they answer, and what becomes of the record.
 ghost use mathlib.Core.Path.{_≡_};
-ghost use Prim.Native.Nat.{ℕ, _+_, _*_, _^_, _<_, _≤_};
+ghost use mathlib.Core.Bool.{_&&_};
+ghost use Prim.Native.Nat.{_+_, _*_, _^_, _<_, _≤_};
 ghost use lib.ListN.{length};
 ghost use Rattle.arena.specs.Sweeping.{returnChunk};
 ghost use Rattle.purge.specs.Stamps.{stampsOf};
@@ -55,6 +56,17 @@ pub fn is_for(q: Question, kind: Kind) -> bool
     ensures { λ r. ⌜ r ≡ isFor q kind ⌝ }
 {
     kind_open(q) == kind_answered(kind)
+}
+
+// Whether neither row 1 nor row 3 turns the answer down.
+pub fn passes(ok: bool, state: State, kind: Kind) -> bool
+    ensures { λ r. ⌜ r ≡ ok && isFor (state .question) kind ⌝ }
+{
+    if !ok {
+        return false;
+    }
+    let q = state.question;
+    is_for(q, kind)
 }
 
 // Rows 1 and 3, then the answer's own.

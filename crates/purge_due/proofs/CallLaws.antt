@@ -42,7 +42,7 @@ none : (S : ℕ) (l : List Arena) (stamps : List ℕ) → Sweepable S l stamps 0
 none S l stamps = (omega arith, λ h. absurd (omega (arith, h)), λ i h. absurd (omega (arith, h)))
 
 module _ (S : ℕ) (l : List Arena) (stamps : List ℕ) (state : State) (page : ℕ) where
-  sound-sweepable : soundLent S l (length stamps) state page ≡ true → Sweepable S l stamps (state .count)
+  pub sound-sweepable : soundLent S l (length stamps) state page ≡ true → Sweepable S l stamps (state .count)
   unfolding soundLent soundTable
   sound-sweepable e =
       let p = and-both (eqb (length l) 32) _ e in

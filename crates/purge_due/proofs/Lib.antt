@@ -1,3 +1,3 @@
-mod GoingLaws
-mod CallLaws
+pub mod GoingLaws
+pub mod CallLaws
 pub mod Steps

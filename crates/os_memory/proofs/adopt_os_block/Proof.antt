@@ -25,7 +25,6 @@ use denote.Exit.{yes}
 use denote.Laws.{Is}
 use denote.Plain.{uint-vals, uint-tells}
 use denote.Signature.{plain}
-use denote.Steps.{only}
 use denote.Struct.Laws as LL
 use denote.Triple.Spec.{Meets, tripleOf}
 use denote.Triple.Statement.{Triple}
@@ -100,7 +99,7 @@ module _ {M : Type 1} (𝓤 : URA M) (H : Heap 𝓤) (A : Atoms 𝓤) (W : Given
         assigns ! (addr ! (from ! (fld ! refl (hop ! (look-in ! 5 (sub ! 0 refl (whole !))) (stop !))))) (from ! (stop !)) (init ! 29 refl (tt, tt)) $
         assigns ! (agg ! (and-then ! (load ! (from ! (stop !)) (look ! 29 refl)) (and-then ! (load ! (from ! (fld ! refl (stop !))) (look-in ! 5 (sub ! 1 refl (whole !)))) (no-more !)))) (from ! (stop !)) (init ! 31 refl (tt, (tt, (record { fits = kn′ .1 .0 }, tt)))) $
         write-step ! (in-seq ! (fmOf 𝓤 H (W .laws) 𝓣)) mem run known-write L L′ ys us w vw gw (adopt-stamps 33554432 ys us state ns settings address size w e) (λ _. and-then ! (load ! (from ! (stop !)) (look ! 27 refl)) (and-then ! (load ! (from ! (stop !)) (look ! 31 refl)) (and-then ! (load ! (from ! (stop !)) (look ! 17 refl)) (no-more !)))) (λ vr gr len.
-        land ! (from ! (stop !)) (init ! 1 refl (LL.lawful Y.the-type Y′.the-laws 𝓤 H A W .typed ((w .reply)) (vr ∷ []) gr .0)) $
+        land ! (from ! (stop !)) (init ! 1 refl (LL.lawful Y.the-type Y′.the-laws 𝓤 H A W .typed (w .reply) (vr ∷ []) gr .0)) $
         returns ! (look ! 1 refl) $ used ! $ used ! $ used ! $ used ! $ used ! $ used ! $ used ! $ used ! $ used ! $ used ! $ used ! $ used ! $ used ! $ used ! $ used ! $ used ! $ free0 ! $
         finish2 𝓤 H A T.the-row u32 L L′ Y.the-row ys us χ W (‵ ftrue) vr (w .reply) (set ys (recordPlace (w .id)) (w .arena)) (stampsWith us (w .stamped)) gr (length-set ys (recordPlace (w .id)) (w .arena)) len (adopt-done 33554432 ys us state ns settings address size w (kn .1 .0) e))))
 

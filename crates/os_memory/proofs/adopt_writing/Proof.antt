@@ -26,7 +26,6 @@ use denote.Exit.{yes}
 use denote.Laws.{Is}
 use denote.Plain.{uint-vals, uint-tells}
 use denote.Signature.{plain}
-use denote.Steps.{only}
 use denote.Enum.Laws as EL
 use denote.Struct.Laws as LL
 use denote.Triple.Spec.{Meets, tripleOf}
@@ -148,7 +147,7 @@ module _ {M : Type 1} (𝓤 : URA M) (H : Heap 𝓤) (A : Atoms 𝓤) (W : Given
         adopt-count-step ! (in-seq ! (fmOf 𝓤 H (W .laws) 𝓣)) mem run known-adopt-count ok state mstate gstate address faddress size fsize 33554432 fS lo hi (λ _. and-then ! (load ! (from ! (stop !)) (look ! 15 refl)) (and-then ! (load ! (from ! (stop !)) (look ! 7 refl)) (and-then ! (load ! (from ! (stop !)) (look ! 11 refl)) (and-then ! (load ! (from ! (stop !)) (look ! 13 refl)) (and-then ! (big-lit ! (record { fits = lit< tt })) (no-more !)))))) (λ fk.
         land ! (from ! (stop !)) (init ! 17 refl (tt, record { fits = fk })) $
         block-query-step ! (in-seq ! (fmOf 𝓤 H (W .laws) 𝓣)) mem run known-block-query address faddress size fsize (λ _. and-then ! (load ! (from ! (stop !)) (look ! 11 refl)) (and-then ! (load ! (from ! (stop !)) (look ! 13 refl)) (no-more !))) (λ vq gq.
-        land ! (from ! (stop !)) (init ! 19 refl (EL.lawful Q.the-type Q′.the-laws 𝓤 H A W tt .typed ((Meeting address size)) (vq ∷ []) gq .0)) $
+        land ! (from ! (stop !)) (init ! 19 refl (EL.lawful Q.the-type Q′.the-laws 𝓤 H A W tt .typed (Meeting address size) (vq ∷ []) gq .0)) $
         scan-pass ! (in-seq ! (fmOf 𝓤 H (W .laws) 𝓣)) mem run known-scan L ys k fk 33554432 fS (Meeting address size) vq gq lo hi (λ _. and-then ! (load ! (from ! (stop !)) (look ! 3 refl)) (and-then ! (load ! (from ! (stop !)) (look ! 17 refl)) (and-then ! (big-lit ! (record { fits = lit< tt })) (and-then ! (load ! (from ! (stop !)) (look ! 19 refl)) (no-more !))))) (λ vf gf.
         land ! (from ! (stop !)) (init ! 21 refl (EL.lawful F.the-type F′.the-laws 𝓤 H A W tt .typed fo (vf ∷ []) gf .0)) $
         growth-query-step ! (in-seq ! (fmOf 𝓤 H (W .laws) 𝓣)) mem run known-growth-query address faddress size fsize 33554432 fS lo (λ _. and-then ! (load ! (from ! (stop !)) (look ! 11 refl)) (and-then ! (load ! (from ! (stop !)) (look ! 13 refl)) (and-then ! (big-lit ! (record { fits = lit< tt })) (no-more !)))) (λ vp gp.
@@ -162,7 +161,7 @@ module _ {M : Type 1} (𝓤 : URA M) (H : Heap 𝓤) (A : Atoms 𝓤) (W : Given
         adopt-core-step ! (in-seq ! (fmOf 𝓤 H (W .laws) 𝓣)) mem run known-adopt-core ok state mstate gstate address faddress size fsize fo vf gf go vh gh a va ga 33554432 fS lo hi (grown-fits 33554432 ys stamps state page address size) (λ _. and-then ! (load ! (from ! (stop !)) (look ! 15 refl)) (and-then ! (load ! (from ! (stop !)) (look ! 7 refl)) (and-then ! (load ! (from ! (stop !)) (look ! 11 refl)) (and-then ! (load ! (from ! (stop !)) (look ! 13 refl)) (and-then ! (load ! (from ! (stop !)) (look ! 21 refl)) (and-then ! (load ! (from ! (stop !)) (look ! 25 refl)) (and-then ! (load ! (from ! (stop !)) (look ! 29 refl)) (and-then ! (big-lit ! (record { fits = lit< tt })) (no-more !))))))))) (λ vd d gd e.
         land ! (from ! (stop !)) (init ! 31 refl (LL.lawful D.the-type D′.the-laws 𝓤 H A W .typed d (vd ∷ []) gd .0)) $
         adopted-step ! (in-seq ! (fmOf 𝓤 H (W .laws) 𝓣)) mem run known-adopted go vh gh d vd gd (λ _. and-then ! (load ! (from ! (stop !)) (look ! 25 refl)) (and-then ! (load ! (from ! (stop !)) (look ! 31 refl)) (no-more !))) (λ vw gw.
-        land ! (from ! (stop !)) (init ! 1 refl (LL.lawful X.the-type X′.the-laws 𝓤 H A W .typed ((writingOf d (adoptStamped go (d .id)))) (vw ∷ []) gw .0)) $
+        land ! (from ! (stop !)) (init ! 1 refl (LL.lawful X.the-type X′.the-laws 𝓤 H A W .typed (writingOf d (adoptStamped go (d .id))) (vw ∷ []) gw .0)) $
         returns ! (look ! 1 refl) $ used ! $ used ! $ used ! $ used ! $ used ! $ used ! $ used ! $ used ! $ used ! $ used ! $ used ! $ used ! $ used ! $ used ! $ used ! $ used ! $ free0 ! $
         finishS 𝓤 H A T.the-row L X.the-row ys χ W (‵ ftrue) vw (writingOf d (adoptStamped go (d .id))) gw (e .0, e .1, e .2, refl))))))))))))
 

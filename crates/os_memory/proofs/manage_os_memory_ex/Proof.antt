@@ -28,7 +28,6 @@ use denote.Laws.{Is}
 use denote.Plain.{uint-vals, uint-tells, bool-vals, bool-tells}
 use denote.Signed.{sint-vals, sint-tells, sint-lawful}
 use denote.Signature.{plain}
-use denote.Steps.{only}
 use denote.Struct.Laws as LL
 use denote.Triple.Spec.{Meets, tripleOf}
 use denote.Triple.Statement.{Triple}
@@ -103,7 +102,7 @@ module _ {M : Type 1} (𝓤 : URA M) (H : Heap 𝓤) (A : Atoms 𝓤) (W : Given
         assigns ! (addr ! (from ! (fld ! refl (hop ! (look-in ! 5 (sub ! 0 refl (whole !))) (stop !))))) (from ! (stop !)) (init ! 43 refl (tt, tt)) $
         assigns ! (agg ! (and-then ! (load ! (from ! (stop !)) (look ! 43 refl)) (and-then ! (load ! (from ! (fld ! refl (stop !))) (look-in ! 5 (sub ! 1 refl (whole !)))) (no-more !)))) (from ! (stop !)) (init ! 45 refl (tt, (tt, (record { fits = kn′ .1 .0 }, tt)))) $
         write-step ! (in-seq ! (fmOf 𝓤 H (W .laws) 𝓣)) mem run known-write L L′ ys us w vw gw (manage-stamps 33554432 ys us state ns settings start size exclusive node mapped reserved w e) (λ _. and-then ! (load ! (from ! (stop !)) (look ! 41 refl)) (and-then ! (load ! (from ! (stop !)) (look ! 45 refl)) (and-then ! (load ! (from ! (stop !)) (look ! 31 refl)) (no-more !)))) (λ vr gr len.
-        land ! (from ! (stop !)) (init ! 1 refl (LL.lawful Y.the-type Y′.the-laws 𝓤 H A W .typed ((w .reply)) (vr ∷ []) gr .0)) $
+        land ! (from ! (stop !)) (init ! 1 refl (LL.lawful Y.the-type Y′.the-laws 𝓤 H A W .typed (w .reply) (vr ∷ []) gr .0)) $
         returns ! (look ! 1 refl) $ used ! $ used ! $ used ! $ used ! $ used ! $ used ! $ used ! $ used ! $ used ! $ used ! $ used ! $ used ! $ used ! $ used ! $ used ! $ used ! $ used ! $ used ! $ used ! $ used ! $ used ! $ used ! $ used ! $ free0 ! $
         finish2 𝓤 H A T.the-row u32 L L′ Y.the-row ys us χ W (‵ ftrue) vr (w .reply) (set ys (recordPlace (w .id)) (w .arena)) (stampsWith us (w .stamped)) gr (length-set ys (recordPlace (w .id)) (w .arena)) len (manage-done 33554432 ys us state ns settings start size exclusive node mapped reserved w (kn .1 .0) e))))
 

@@ -28,7 +28,6 @@ use denote.Laws.{Is}
 use denote.Plain.{uint-vals, uint-tells, bool-vals, bool-tells}
 use denote.Signed.{sint-vals, sint-tells, sint-lawful}
 use denote.Signature.{plain}
-use denote.Steps.{only}
 use denote.Enum.Laws as EL
 use denote.Struct.Laws as LL
 use denote.Triple.Spec.{Meets, tripleOf}
@@ -135,7 +134,7 @@ module _ {M : Type 1} (𝓤 : URA M) (H : Heap 𝓤) (A : Atoms 𝓤) (W : Given
         manage-core-step ! (in-seq ! (fmOf 𝓤 H (W .laws) 𝓣)) mem run known-manage-core ok state mstate gstate start fstart size fsize exclusive node gnode mapped reserved fo vf gf 33554432 fS lo hi (λ _. and-then ! (load ! (from ! (stop !)) (look ! 23 refl)) (and-then ! (load ! (from ! (stop !)) (look ! 7 refl)) (and-then ! (load ! (from ! (stop !)) (look ! 11 refl)) (and-then ! (load ! (from ! (stop !)) (look ! 13 refl)) (and-then ! (load ! (from ! (stop !)) (look ! 15 refl)) (and-then ! (load ! (from ! (stop !)) (look ! 17 refl)) (and-then ! (load ! (from ! (stop !)) (look ! 19 refl)) (and-then ! (load ! (from ! (stop !)) (look ! 21 refl)) (and-then ! (load ! (from ! (stop !)) (look ! 29 refl)) (and-then ! (big-lit ! (record { fits = lit< tt })) (no-more !))))))))))) (λ vd d gd e.
         land ! (from ! (stop !)) (init ! 31 refl (LL.lawful D.the-type D′.the-laws 𝓤 H A W .typed d (vd ∷ []) gd .0)) $
         managed-step ! (in-seq ! (fmOf 𝓤 H (W .laws) 𝓣)) mem run known-managed d vd gd (λ _. and-then ! (load ! (from ! (stop !)) (look ! 31 refl)) (no-more !)) (λ vw gw.
-        land ! (from ! (stop !)) (init ! 1 refl (LL.lawful X.the-type X′.the-laws 𝓤 H A W .typed ((writingOf d (d .id))) (vw ∷ []) gw .0)) $
+        land ! (from ! (stop !)) (init ! 1 refl (LL.lawful X.the-type X′.the-laws 𝓤 H A W .typed (writingOf d (d .id)) (vw ∷ []) gw .0)) $
         returns ! (look ! 1 refl) $ used ! $ used ! $ used ! $ used ! $ used ! $ used ! $ used ! $ used ! $ used ! $ used ! $ used ! $ used ! $ used ! $ used ! $ used ! $ used ! $ free0 ! $
         finishS 𝓤 H A T.the-row L X.the-row ys χ W (‵ ftrue) vw (writingOf d (d .id)) gw (e .0, e .1, e .2, refl))))))))
 

@@ -27,7 +27,6 @@ use denote.Exit.{yes}
 use denote.Laws.{Is}
 use denote.Plain.{uint-vals, uint-tells, bool-vals, bool-tells}
 use denote.Signature.{plain}
-use denote.Steps.{only}
 use denote.Struct.Laws as LL
 use denote.Triple.Spec.{Meets, tripleOf}
 use denote.Triple.Statement.{Triple}

@@ -24,7 +24,6 @@ use denote.Exit.{yes}
 use denote.Laws.{Is}
 use denote.Plain.{nothing-lawful}
 use denote.Signature.{plain}
-use denote.Steps.{only}
 use denote.Struct.Laws as LL
 use denote.Triple.Spec.{Meets, tripleOf}
 use denote.Triple.Statement.{Triple}
@@ -97,7 +96,7 @@ module _ {M : Type 1} (𝓤 : URA M) (H : Heap 𝓤) (A : Atoms 𝓤) (W : Given
         record-place-step ! (in-seq ! (fmOf 𝓤 H (W .laws) 𝓣)) mem run known-record-place w mw gw (λ _. and-then ! (load ! (from ! (stop !)) (look ! 7 refl)) (no-more !)) (λ fr.
         land ! (from ! (stop !)) (init ! 9 refl (tt, record { fits = fr })) $
         record-of-step ! (in-seq ! (fmOf 𝓤 H (W .laws) 𝓣)) mem run known-record-of w mw gw (λ _. and-then ! (load ! (from ! (stop !)) (look ! 7 refl)) (no-more !)) (λ va ga.
-        land ! (from ! (stop !)) (init ! 11 refl (LL.lawful T.the-type T′.the-laws 𝓤 H A W .typed ((w .arena)) (va ∷ []) ga .0)) $
+        land ! (from ! (stop !)) (init ! 11 refl (LL.lawful T.the-type T′.the-laws 𝓤 H A W .typed (w .arena) (va ∷ []) ga .0)) $
         stamped-of-step ! (in-seq ! (fmOf 𝓤 H (W .laws) 𝓣)) mem run known-stamped-of w mw gw (λ _. and-then ! (load ! (from ! (stop !)) (look ! 7 refl)) (no-more !)) (λ fid.
         land ! (from ! (stop !)) (init ! 13 refl (tt, record { fits = fid })) $
         assigns ! (addr ! (from ! (fld ! refl (hop ! (look-in ! 3 (sub ! 0 refl (whole !))) (stop !))))) (from ! (stop !)) (init ! 17 refl (tt, tt)) $
@@ -110,7 +109,7 @@ module _ {M : Type 1} (𝓤 : URA M) (H : Heap 𝓤) (A : Atoms 𝓤) (W : Given
         swaps ! $
         land ! (from ! (stop !)) (store ! 15 refl (nothing-lawful 𝓤 H A W .typed tt (vz ∷ []) gz .0)) $
         reply-of-step ! (in-seq ! (fmOf 𝓤 H (W .laws) 𝓣)) mem run known-reply-of w mw gw (λ _. and-then ! (load ! (from ! (stop !)) (look ! 7 refl)) (no-more !)) (λ vr gr.
-        land ! (from ! (stop !)) (init ! 1 refl (LL.lawful Y.the-type Y′.the-laws 𝓤 H A W .typed ((w .reply)) (vr ∷ []) gr .0)) $
+        land ! (from ! (stop !)) (init ! 1 refl (LL.lawful Y.the-type Y′.the-laws 𝓤 H A W .typed (w .reply) (vr ∷ []) gr .0)) $
         returns ! (look ! 1 refl) $ used ! $ used ! $ used ! $ used ! $ used ! $ used ! $ used ! $ used ! $ used ! $ used ! $ used ! $ used ! $ free0 ! $
         finish2 𝓤 H A T.the-row u32 L L′ Y.the-row ys us χ W (‵ ftrue) vr (w .reply) (set ys (recordPlace (w .id)) (w .arena)) (stampsWith us (w .stamped)) gr (length-set ys (recordPlace (w .id)) (w .arena)) len (refl, refl, refl))))))))
 

@@ -8,12 +8,10 @@ ghost use Rattle.refusals.specs.declared.Refusal.the-variants.{Range};
 ghost use Rattle.arena.specs.Registering.{reservedArena};
 ghost use Rattle.layer.specs.declared.Question.the-variants.{Reserving};
 ghost use Rattle.layer.specs.World.{stateOf, turnDown};
-ghost use Rattle.layer.specs.Answering.{failReply, giveBackReply};
 ghost use Rattle.registers.specs.Core.{rangeBad};
 ghost use Rattle.memory.specs.Core.{memoryBytes, memoryCount, memoryRegisters, registeredReply, blockReply, memoryReply, memoryId, waitingCount, waitingN, waitingCommits, searchCount};
 use arena::Arena;
 use layer::Answer;
-use layer::Ask;
 use layer::Question;
 use layer::Reply;
 use layer::State;
@@ -93,43 +91,6 @@ fn memory_registers(
 
 // ---- what is answered
 
-// The memory did not come, or could not be used: 14, 12, 7 or 13, and for a claim 10 and the mark.
-pub fn fail_reply(count: usize, mark: bool, why: Refusal, waiting: Waiting) -> Reply
-    ensures { λ r. ⌜ r ≡ failReply count mark why waiting ⌝ }
-{
-    match waiting {
-        Waiting::Reserve => registers::turn_down(why, registers::calm(count, mark)),
-        Waiting::Claim { .. } => registers::turn_down(Refusal::NoRun, registers::calm(count, true)),
-    }
-}
-
-// A block that cannot be registered is given back.
-fn give_back_reply(
-    count: usize,
-    mark: bool,
-    base: u64,
-    bytes: u64,
-    cause: Unusable,
-    waiting: Waiting,
-) -> Reply
-    ensures { λ r. ⌜ r ≡ giveBackReply count mark base bytes cause waiting ⌝ }
-{
-    let ask = Ask::AskGiveBack {
-        address: base,
-        bytes,
-    };
-    let question = Question::GivingBack { cause, waiting };
-    let state = State {
-        count,
-        mark,
-        question,
-    };
-    Reply {
-        answer: Answer::Asks(ask),
-        state,
-    }
-}
-
 // The arena is registered: for a reserve its id, for a claim what a search in vain answers.
 fn registered_reply(count: usize, mark: bool, waiting: Waiting) -> Reply
     requires { ⌜ count < 32 ⌝ }
@@ -162,13 +123,13 @@ fn block_reply(
     ensures { λ r. ⌜ r ≡ blockReply «chunk_size» count mark chunks bytes waiting base ⌝ }
 {
     if registers::bad_count(chunks) {
-        return give_back_reply(count, mark, base, bytes, Unusable::Count, waiting);
+        return answers::give_back_reply(count, mark, base, bytes, Unusable::Count, waiting);
     }
     if base % chunk_size != 0 {
-        return give_back_reply(count, mark, base, bytes, Unusable::Misaligned, waiting);
+        return answers::give_back_reply(count, mark, base, bytes, Unusable::Misaligned, waiting);
     }
     if 32 <= count {
-        return give_back_reply(count, mark, base, bytes, Unusable::Full, waiting);
+        return answers::give_back_reply(count, mark, base, bytes, Unusable::Full, waiting);
     }
     registered_reply(count, mark, waiting)
 }
@@ -218,7 +179,7 @@ fn memory_reply(
     ensures { λ r. ⌜ r ≡ memoryReply «chunk_size» count mark chunks bytes commit exclusive waiting granted base met ⌝ }
 {
     if !granted {
-        return fail_reply(count, mark, Refusal::MemoryRefused, waiting);
+        return answers::fail_reply(count, mark, Refusal::MemoryRefused, waiting);
     }
     if memory_range_bad(chunks, base, met, chunk_size) {
         return range_reply(count, mark, chunks, bytes, commit, exclusive, waiting);

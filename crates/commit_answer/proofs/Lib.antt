@@ -1,0 +1,2 @@
+mod CommitLaws
+mod Steps

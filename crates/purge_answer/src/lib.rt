@@ -1,0 +1,128 @@
+// The answer to a purge question over the lent table: the borrowed chunk comes back, and the sweep goes on.
+ghost use mathlib.Core.Path.{_≡_};
+ghost use mathlib.Core.Bool.{true, false, cond};
+ghost use Prim.Native.Nat.{_<_, _≤_};
+ghost use Rattle.layer.specs.World.{replyOf};
+ghost use Rattle.answers.specs.Core.{purgingId, purgingChunk, purgingSweep};
+ghost use Rattle.purge_due.specs.Going.{nextPlace};
+ghost use Rattle.purge_answer.specs.Part.{Fit, Purgeable, Stays, placeOf, countOf, sweepFor, purgeLeft};
+use arena::Arena;
+use layer::Reply;
+use layer::State;
+use layer::Sweep;
+use sweeps::Stay;
+
+// The place of the arena that is asked about; past every slice where there is nothing to do.
+fn place_of(go: bool, state: State) -> usize
+    ensures { λ r. ⌜ r ≡ placeOf go state ⌝ }
+{
+    let q = state.question;
+    let p = answers::purging(q);
+    if go {
+        return p.id;
+    }
+    18446744073709551615
+}
+
+// How many arenas the sweep goes on over.
+fn count_of(go: bool, state: State) -> usize
+    ensures { λ r. ⌜ r ≡ countOf go state ⌝ }
+{
+    if go {
+        return state.count;
+    }
+    0
+}
+
+// The sweep with its answer counted.
+fn sweep_for(go: bool, state: State, granted: bool) -> Sweep
+    requires { ⌜ (go ≡ true → purgingSweep (state .question) .purged ≤ 32768) ⌝ }
+    ensures { λ r. ⌜ r ≡ sweepFor go state granted ⌝ }
+{
+    let q = state.question;
+    let p = answers::purging(q);
+    if go {
+        return answers::counted_sweep(p.sweep, granted);
+    }
+    p.sweep
+}
+
+// The chunk comes back to arena a, and the sweep goes on behind it.
+fn purge_at(
+    stamps: &[u32],
+    go: bool,
+    state: State,
+    a: Arena,
+    granted: bool,
+    chunk_size: u64,
+) -> Stay
+    requires { ⌜ («chunk_size» ≤ 4294967296) × (go ≡ true → Fit «chunk_size» (now stamps) a (purgingId (state .question)) (purgingChunk (state .question)) (purgingSweep (state .question))) ⌝ }
+    ensures { λ r. ⌜ (go ≡ true → Stays «chunk_size» (now (stamps .entry)) (state .count) (state .mark) granted a r (purgingId (state .question)) (purgingChunk (state .question)) (purgingSweep (state .question))) × (go ≡ false → r .asked ≡ true) ⌝ }
+{
+    let q = state.question;
+    let p = answers::purging(q);
+    if go {
+        return answers::purge_core(
+            a,
+            stamps,
+            p.id,
+            p.chunk,
+            p.sweep,
+            granted,
+            state.count,
+            state.mark,
+            chunk_size,
+        );
+    }
+    Stay {
+        arena: a,
+        asked: true,
+        reply: sweeps::swept_reply(state.count, state.mark, p.sweep),
+    }
+}
+
+// Where the sweep goes on: past the last arena once a question is put.
+fn rest_from(i: usize, asked: bool, count: usize) -> usize
+    requires { ⌜ (asked ≡ false → i < 32) ⌝ }
+    ensures { λ r. ⌜ r ≡ nextPlace i asked count ⌝ }
+{
+    if asked {
+        return count;
+    }
+    i + 1
+}
+
+// The question of the arena, or what the arenas behind it say.
+fn pick(asked: bool, first: Reply, rest: Reply) -> Reply
+    ensures { λ r. ⌜ r ≡ cond asked first rest ⌝ }
+{
+    if asked {
+        return first;
+    }
+    rest
+}
+
+// The answer to the purge question that is open, where go says that it passes rows 1 and 3.
+pub fn purge_part(
+    records: &mut [Arena],
+    stamps: &mut [u32],
+    go: bool,
+    state: State,
+    granted: bool,
+    chunk_size: u64,
+) -> Reply
+    requires { ⌜ («chunk_size» ≤ 4294967296) × (go ≡ true → Purgeable «chunk_size» (now records) (now stamps) state) ⌝ }
+    ensures { λ r. ⌜ (go ≡ true → r ≡ replyOf (purgeLeft «chunk_size» (now (records .entry)) (now (stamps .entry)) state granted))
+        × (now (records .exit) ≡ cond go (purgeLeft «chunk_size» (now (records .entry)) (now (stamps .entry)) state granted .world .records) (now (records .entry)))
+        × (now (stamps .exit) ≡ now (stamps .entry)) ⌝ }
+{
+    let i = place_of(go, state);
+    let count = count_of(go, state);
+    let v = sweep_for(go, state, granted);
+    let a = table::load_or(records, i);
+    let s = purge_at(stamps, go, state, a, granted, chunk_size);
+    table::store_if(records, i, s.arena);
+    let from = rest_from(i, s.asked, count);
+    let rest = purge_due::sweep_on(records, stamps, from, count, state.mark, v, chunk_size);
+    pick(s.asked, s.reply, rest)
+}

@@ -3,4 +3,3 @@ pub mod Facts
 pub mod Kept
 pub mod Registered
 pub mod Stepped
-pub mod Refused

@@ -136,7 +136,7 @@ module _ (S : ℕ) (l : List Arena) (stamps : List ℕ) (k : ℕ) (mark : Bool) 
 -- ---- every call
 
 -- row 2, or the call's own
-gated : (P : Outcome → Type 0) (q : Question) (go stop : Outcome) → (q ≡ Idle → P go) → P stop → P (gate q go stop)
+pub gated : (P : Outcome → Type 0) (q : Question) (go stop : Outcome) → (q ≡ Idle → P go) → P stop → P (gate q go stop)
 gated P Idle go stop x y = x refl
 gated P (Committing i s n) go stop x y = y
 gated P (Purging i j w) go stop x y = y

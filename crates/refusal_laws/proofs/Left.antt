@@ -1,19 +1,18 @@
 -- What each refusal leaves: one theorem over every call, `refusal-leaves`. Assumes nothing.
-use mathlib.Core.Path.{_≡_, refl, sym, ap, _∙_, subst}
-use mathlib.Core.Bool.{Bool, true, false, cond}
-use mathlib.Core.List.{List}
+use mathlib.Core.Path.{_≡_, refl, sym, subst}
+use mathlib.Core.Bool.{Bool, true, false, not, _&&_}
+use mathlib.Core.List.{List, [], _∷_}
 use mathlib.Core.Logic.{_⊎_, inl, inr}
 use Prim.Native.Nat.{ℕ, zero, suc, _+_, _-_, _*_, _%_}
 use lib.Dec.{eqb, leb}
-use lib.IntN.{negsuc}
+use lib.IntN.{ℤ, negsuc}
 use lib.ListN.{set}
 use Rattle.refusals.specs.declared.Refusal.{Refusal}
-use Rattle.refusals.specs.declared.Refusal.the-variants.{Broken, QuestionOpen, NoSuchQuestion, Range, NotWhole, NoRun, CommitRefused, ChunkCount, TableFull, MemoryRefused}
+use Rattle.refusals.specs.declared.Refusal.the-variants.{Broken, NoSuchQuestion, Range, NotWhole, NoRun, CommitRefused, ChunkCount, TableFull, MemoryRefused}
 use Rattle.words.proofs.Tests.{by-cond}
 use Rattle.runs.specs.declared.Found.{Found}
 use Rattle.runs.specs.declared.Found.the-variants.{At, Nothing}
 use Rattle.runs.specs.Lowest.{least}
-use Rattle.clock.specs.Clock.{nowMs, delayMs}
 use Rattle.arena.specs.declared.Arena.{Arena}
 use Rattle.arena.specs.Registering.{reservedArena}
 use Rattle.arena.specs.Claiming.{findRun}
@@ -21,26 +20,25 @@ use Rattle.arena.specs.Sweeping.{sweepDue, nextAsked, disarm, returnChunk}
 use Rattle.purge.specs.Stamps.{stampsOf}
 use Rattle.layer.specs.declared.Settings.{Settings}
 use Rattle.layer.specs.declared.Sweep.{Sweep}
-use Rattle.layer.specs.declared.State.{State}
 use Rattle.layer.specs.declared.Question.{Question}
 use Rattle.layer.specs.declared.Question.the-variants.{Idle, Committing, Purging, Reserving, GivingBack}
 use Rattle.layer.specs.declared.Waiting.{Waiting}
 use Rattle.layer.specs.declared.Waiting.the-variants.{Reserve, Claim}
 use Rattle.layer.specs.declared.Unusable.{Unusable}
 use Rattle.layer.specs.declared.Unusable.the-variants.{Count, Misaligned, Full}
-use Rattle.layer.specs.declared.Kind.{Kind}
-use Rattle.layer.specs.declared.Answer.{Answer}
-use Rattle.layer.specs.declared.Answer.the-variants.{Refused, Owns, Area}
+use Rattle.layer.specs.declared.Answer.the-variants.{Refused}
 use Rattle.layer.specs.declared.Reply.{Reply}
 use Rattle.layer.specs.World.{World, Outcome, stateOf, worldOf, after, turnDown, calm}
 use Rattle.layer.specs.Table.{at, badRange, sound}
-use Rattle.layer.specs.Registering.{badCount, withRecord, withStamps}
-use Rattle.layer.specs.Claiming.{claimOf}
+use Rattle.layer.specs.Registering.{tooLarge, askMemory, badCount, withRecord, withStamps}
+use Rattle.layer.specs.Claiming.{serves, asksCommit, grantArena, grantReply, isNegative, missReply, grantFound, searchAt, searchOf}
 use Rattle.layer.specs.Sweeping.{purgeReply, sweptReply, visitAt, visit, sweepFrom}
-use Rattle.layer.specs.Answering.{isFor, causeRefusal, counted, failReply, answerCommit, answerPurge, resume, answerMemory, answerTo, answerOf}
-use Rattle.layer.specs.Step.{Call, reserve, manage, adopt, claim, release, sweep, answer, owns, area, sweepOf, gate, stepOn, step}
-use Rattle.refusal_laws.proofs.Calls.{Untouched, Marked, asks-not, registered-not, claimed-not, swept-not, same-refusal, search-leaves, reserve-leaves, manage-leaves, adopt-leaves, claim-leaves, release-leaves}
-use Rattle.refusal_laws.specs.Left.{closed, markSet, withArena, Restored, Reserved, LeftByAnswer, LeftBy}
+use Rattle.layer.specs.Answering.{causeRefusal, counted, failReply, answerCommit, answerPurge, resume, answerMemory, answerTo}
+use Rattle.layer.specs.Step.{Call, reserve, manage, adopt, claim, release, sweep, answer, owns, area, sweepOf, step}
+use Rattle.refusal_laws.proofs.Answers.{same-refusal, asks-not, registered-not, claimed-not, released-not, swept-not}
+use Rattle.refusal_laws.proofs.Order.{first-each, idle-of, claim-order, release-order, adopt-order, manage-order, reserve-order, sweep-order, answer-order}
+use Rattle.refusal_laws.specs.Order.{broken, questionOpen, noSuchQuestion, claimChecks, releaseChecks, adoptChecks, manageChecks, reserveChecks}
+use Rattle.refusal_laws.specs.Left.{closed, markSet, LeftByAnswer, LeftBy}
 
 -- an outcome that is a refusal leaves what document 01 says
 abbrev pub Says : World → ℕ → Outcome → Type 0
@@ -71,6 +69,28 @@ module _ (S : ℕ) (stamps : List ℕ) (k : ℕ) (mark : Bool) (w : Sweep) where
   sweep-grants (suc f) i l =
       by-cond Grants (sweepDue (at l i) (w .force) (w .now)) _ _ (λ e. visit-grants l i 0 (disarm (at l i)) (sweepFrom S stamps k mark w f (i + 1)) (sweep-grants f (i + 1)))
       (λ e. sweep-grants f (i + 1) l)
+
+-- ---- a search: a grant is no refusal, and a miss leaves what it leaves
+
+module _ (S : ℕ) (l : List Arena) (stamps : List ℕ) (k : ℕ) (mark : Bool) where
+  search-leaves : (R : Refusal → World → Type 0) (id : ℤ) (n : ℕ) (commits : Bool) (missed : Reply) → R NoRun (worldOf l stamps (calm k mark))
+      → ((why : Refusal) → missed .answer ≡ Refused why → R why (worldOf l stamps (missed .state)))
+      → (why : Refusal) → searchOf S l stamps k mark id n commits missed .answer ≡ Refused why → R why (searchOf S l stamps k mark id n commits missed .world)
+  unfolding searchOf grantReply
+  search-leaves R id n commits missed none m = go (least (serves id n l) 0 k)
+    where
+      T : Outcome → Type 0
+      T o = (why : Refusal) → o .answer ≡ Refused why → R why (o .world)
+
+      run : (i : ℕ) (f : Found) → T (grantFound S l stamps k mark i n commits f)
+      run i (At s) =
+          by-cond (λ (r : Reply). T (after r (set l i (grantArena (at l i) s n commits)) stamps)) (asksCommit (at l i) s n commits) _ _
+          (λ e why f. absurd (asks-not _ why f)) (λ e why f. absurd (claimed-not _ _ _ why f))
+      run i Nothing = λ why e. subst (λ (x : Refusal). R x (worldOf l stamps (calm k mark))) (same-refusal why NoRun e) none
+
+      go : (f : Found) → T (searchAt S l stamps k mark n commits missed f)
+      go (At i) = run i (findRun (at l i) n)
+      go Nothing = m
 
 -- ---- answers
 
@@ -128,64 +148,70 @@ module _ (S : ℕ) (l : List Arena) (stamps : List ℕ) (k : ℕ) (mark : Bool) 
   answer-to-says (Reserving chunks bytes commit exclusive waiting) granted = memory-says chunks bytes commit exclusive waiting granted
   answer-to-says (GivingBack cause waiting) granted = give-back-says cause waiting
 
-  answer-says : (q : Question) (kind : Kind) (granted : Bool) → Says (W q) base (answerOf S l stamps k mark q kind granted base)
-  unfolding answerOf
-  answer-says q kind granted =
-      by-cond (Says (worldOf l stamps (stateOf k mark q)) base) (isFor q kind) _ _ (λ e. answer-to-says q granted) (λ e why f. line _ base _ NoSuchQuestion why refl f)
-
 -- ---- every call
 
--- row 2, or the call's own
-pub gated : (P : Outcome → Type 0) (q : Question) (go stop : Outcome) → (q ≡ Idle → P go) → P stop → P (gate q go stop)
-gated P Idle go stop x y = x refl
-gated P (Committing i s n) go stop x y = y
-gated P (Purging i j w) go stop x y = y
-gated P (Reserving chunks bytes commit exclusive waiting) go stop x y = y
-gated P (GivingBack cause waiting) go stop x y = y
+-- a refusal leaves all as it was; or it is a claim's 10, and the mark is set
+abbrev pub Untouched : World → Outcome → Type 0
+Untouched w o = (why : Refusal) → o .answer ≡ Refused why → o .world ≡ w
 
-module _ (S : ℕ) (l : List Arena) (stamps : List ℕ) (k : ℕ) (mark : Bool) (ns : ℕ) (settings : Settings) where
-  -- what is left is left by the call
-  abbrev Left : Question → Call → Outcome → Type 0
-  Left q c o = (why : Refusal) → o .answer ≡ Refused why → LeftBy (worldOf l stamps (stateOf k mark q)) c why (o .world)
+abbrev pub Marked : World → Outcome → Type 0
+Marked w o = (why : Refusal) → o .answer ≡ Refused why → (o .world ≡ w) ⊎ ((why ≡ NoRun) × (o .world ≡ markSet w))
 
-  -- an untouched world where no question was open
-  idle : (q : Question) (o : Outcome) → Untouched (worldOf l stamps (calm k mark)) o → q ≡ Idle → Untouched (worldOf l stamps (stateOf k mark q)) o
-  idle q o h e = subst (λ (x : Question). Untouched (worldOf l stamps (stateOf k mark x)) o) (sym e) h
+-- a row, and a row of a claim
+same : (w : World) (x why : Refusal) → Refused x ≡ Refused why → w ≡ w
+same w x why e = refl
 
-  step-on-leaves : (q : Question) (c : Call) → Left q c (stepOn S l stamps k mark q ns settings c)
-  step-on-leaves q (reserve size commit large exclusive) =
-      gated (Left q (reserve size commit large exclusive)) q _ _ (idle q _ (reserve-leaves S l stamps k mark size commit large exclusive (settings .page))) (λ why e. refl)
-  step-on-leaves q (manage start size exclusive node mapped reserved) =
-      gated (Left q (manage start size exclusive node mapped reserved)) q _ _ (idle q _ (manage-leaves S l stamps k mark start size exclusive node mapped reserved)) (λ why e. refl)
-  step-on-leaves q (adopt address size) = gated (Left q (adopt address size)) q _ _ (idle q _ (adopt-leaves S l stamps k mark address size)) (λ why e. refl)
-  step-on-leaves q (claim id n commits) =
-      gated (Left q (claim id n commits)) q _ _
-      (λ e. subst (λ (x : Question). Marked (worldOf l stamps (stateOf k mark x)) (claimOf S l stamps k mark id n commits settings)) (sym e) (claim-leaves S l stamps k mark id n commits settings))
-      (λ why e. inl refl)
-  step-on-leaves q (release address n told pending) =
-      gated (Left q (release address n told pending)) q _ _ (idle q _ (release-leaves S l stamps k mark address n told pending (nowMs ns) (delayMs (settings .delay)))) (λ why e. refl)
-  step-on-leaves q (sweep force) =
-      gated (Left q (sweep force)) q _ _ (λ e why f. absurd (sweep-grants S stamps k mark (sweepOf force ns settings) k 0 l why f)) (λ why e. refl)
-  step-on-leaves q (answer kind granted base) = answer-says S l stamps k mark base q kind granted
-  step-on-leaves q (owns address) = λ why e. refl
-  step-on-leaves q (area id) = λ why e. refl
+kept : (w : World) (x why : Refusal) → Refused x ≡ Refused why → (w ≡ w) ⊎ ((why ≡ NoRun) × (w ≡ markSet w))
+kept w x why e = inl refl
 
--- row 1 of a call leaves all as it was
-broken-leaves : (w : World) (c : Call) (why : Refusal) → Refused Broken ≡ Refused why → LeftBy w c why w
-broken-leaves w (reserve size commit large exclusive) why e = refl
-broken-leaves w (manage start size exclusive node mapped reserved) why e = refl
-broken-leaves w (adopt address size) why e = refl
-broken-leaves w (claim id n commits) why e = inl refl
-broken-leaves w (release address n told pending) why e = refl
-broken-leaves w (sweep force) why e = refl
-broken-leaves w (answer kind granted base) why e = line w base w Broken why refl e
-broken-leaves w (owns address) why e = refl
-broken-leaves w (area id) why e = refl
+-- a miss, where no question is open
+miss-leaves : (S : ℕ) (l : List Arena) (stamps : List ℕ) (k : ℕ) (mark : Bool) (id : ℤ) (n : ℕ) (commits : Bool) (settings : Settings)
+    → Marked (worldOf l stamps (calm k mark)) (after (missReply S k mark id n commits settings) l stamps)
+unfolding missReply askMemory
+miss-leaves S l stamps k mark id n commits settings =
+    by-cond M (isNegative id && (leb S (settings .reserve) && not mark)) _ _
+    (λ e. by-cond M (tooLarge S (settings .reserve)) _ _ (λ f why g. inr (sym (same-refusal why NoRun g), refl)) (λ f why g. absurd (asks-not _ why g)))
+    (λ e why f. inl refl)
+  where
+    M : Reply → Type 0
+    M r = Marked (worldOf l stamps (calm k mark)) (after r l stamps)
+
+claim-leaves : (S : ℕ) (l : List Arena) (stamps : List ℕ) (k : ℕ) (mark : Bool) (q : Question) (id : ℤ) (n : ℕ) (commits : Bool) (settings : Settings) → q ≡ Idle
+    → Marked (worldOf l stamps (stateOf k mark q)) (searchOf S l stamps k mark id n commits (missReply S k mark id n commits settings))
+claim-leaves S l stamps k mark q id n commits settings e =
+    subst (λ (x : Question). Marked (worldOf l stamps (stateOf k mark x)) (searchOf S l stamps k mark id n commits (missReply S k mark id n commits settings))) (sym e)
+    (search-leaves S l stamps k mark (λ why v. (v ≡ worldOf l stamps (calm k mark)) ⊎ ((why ≡ NoRun) × (v ≡ worldOf l stamps (calm k true)))) id n commits
+    (missReply S k mark id n commits settings) (inl refl) (miss-leaves S l stamps k mark id n commits settings))
 
 -- "Each refusal leaves all state and lent memory untouched, but [..]": of every call, on every lent table
 pub refusal-leaves : (S : ℕ) (w : World) (ns : ℕ) (settings : Settings) (c : Call) (why : Refusal) → step S w ns settings c .answer ≡ Refused why
     → LeftBy w c why (step S w ns settings c .world)
-unfolding step
-refusal-leaves S w ns settings c =
-    by-cond (λ (o : Outcome). (why : Refusal) → o .answer ≡ Refused why → LeftBy w c why (o .world)) (sound S w (settings .page)) _ _
-    (λ e. step-on-leaves S (w .records) (w .stamps) (w .state .count) (w .state .mark) ns settings (w .state .question) c) (λ e. broken-leaves w c)
+unfolding step askMemory
+refusal-leaves S w ns settings (reserve size commit large exclusive) =
+    subst (Untouched w) (sym (reserve-order S w settings ns size commit large exclusive))
+    (first-each (Untouched w) (broken S w settings ∷ questionOpen S w settings ∷ reserveChecks S w settings size) _ (same w _, (same w _, (same w _, tt))) (λ p why e. absurd (asks-not _ why e)))
+refusal-leaves S w ns settings (manage start size exclusive node mapped reserved) =
+    subst (Untouched w) (sym (manage-order S w settings ns start size exclusive node mapped reserved))
+    (first-each (Untouched w) (broken S w settings ∷ questionOpen S w settings ∷ manageChecks S w settings start size mapped reserved) _ (same w _, (same w _, (same w _, (same w _, (same w _, (same w _, (same w _, tt))))))) (λ p why e. absurd (registered-not _ why e)))
+refusal-leaves S w ns settings (adopt address size) =
+    subst (Untouched w) (sym (adopt-order S w settings ns address size))
+    (first-each (Untouched w) (broken S w settings ∷ questionOpen S w settings ∷ adoptChecks S w settings address size) _
+    (same w _, (same w _, (same w _, (same w _, (same w _, ((λ why e. absurd (registered-not _ why e)), (same w _, (same w _, tt))))))))
+    (λ p why e. absurd (registered-not _ why e)))
+refusal-leaves S w ns settings (claim id n commits) =
+    subst (Marked w) (sym (claim-order S w settings ns id n commits))
+    (first-each (Marked w) (broken S w settings ∷ questionOpen S w settings ∷ claimChecks S w settings id n) _ (kept w _, (kept w _, (kept w _, (kept w _, tt))))
+    (λ p. claim-leaves S (w .records) (w .stamps) (w .state .count) (w .state .mark) (w .state .question) id n commits settings (idle-of (w .state .question) (p .1 .0))))
+refusal-leaves S w ns settings (release address n told pending) =
+    subst (Untouched w) (sym (release-order S w settings ns address n told pending))
+    (first-each (Untouched w) (broken S w settings ∷ questionOpen S w settings ∷ releaseChecks S w settings address n) _ (same w _, (same w _, (same w _, (same w _, (same w _, (same w _, tt)))))) (λ p why e. absurd (released-not why e)))
+refusal-leaves S w ns settings (sweep force) =
+    subst (Untouched w) (sym (sweep-order S w settings ns force))
+    (first-each (Untouched w) (broken S w settings ∷ questionOpen S w settings ∷ []) _ (same w _, (same w _, tt))
+    (λ p why e. absurd (sweep-grants S (w .stamps) (w .state .count) (w .state .mark) (sweepOf force ns settings) (w .state .count) 0 (w .records) why e)))
+refusal-leaves S w ns settings (answer kind granted base) =
+    subst (Says w base) (sym (answer-order S w settings ns kind granted base))
+    (first-each (Says w base) (broken S w settings ∷ noSuchQuestion S w settings kind ∷ []) _ ((λ why e. line w base w Broken why refl e), ((λ why e. line w base w NoSuchQuestion why refl e), tt))
+    (λ p. answer-to-says S (w .records) (w .stamps) (w .state .count) (w .state .mark) base (w .state .question) granted))
+refusal-leaves S w ns settings (owns address) = by-cond (Untouched w) (sound S w (settings .page)) _ _ (λ e why f. refl) (λ e why f. refl)
+refusal-leaves S w ns settings (area id) = by-cond (Untouched w) (sound S w (settings .page)) _ _ (λ e why f. refl) (λ e why f. refl)

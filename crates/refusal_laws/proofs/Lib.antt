@@ -1,4 +1,4 @@
-pub mod Calls
+pub mod Answers
+pub mod Order
 pub mod Left
 pub mod Restored
-pub mod Order

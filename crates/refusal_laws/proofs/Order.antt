@@ -1,21 +1,19 @@
 -- Each call is the first of its checks that holds, and what it does where none does: one equation for each call, on every lent table. Assumes nothing.
 use mathlib.Core.Path.{_≡_, refl, sym, ap, _∙_, subst}
-use mathlib.Core.Bool.{Bool, true, false, cond, not, _&&_, _||_}
+use mathlib.Core.Bool.{Bool, true, false, cond, not, _&&_, _||_, true≢false}
 use mathlib.Core.List.{List, [], _∷_}
-use Prim.Native.Nat.{ℕ, suc, _+_, _-_, _*_, _/_, _%_}
+use Prim.Native.Nat.{ℕ, _+_, _-_, _*_, _/_, _%_}
 use lib.Dec.{eqb, leb}
 use lib.IntN.{ℤ}
-use lib.ListN.{set}
-use Rattle.refusals.specs.declared.Refusal.the-variants.{Zero, NotInside, NotWhole, PastEnd, ChunkCount, TableFull}
+use Rattle.refusals.specs.declared.Refusal.the-variants.{NotInside, NotWhole, PastEnd}
+use Rattle.words.proofs.Tests.{by-cond}
 use Rattle.runs.specs.declared.Found.{Found}
 use Rattle.runs.specs.declared.Found.the-variants.{At, Nothing}
-use Rattle.runs.specs.Lowest.{least}
 use Rattle.clock.specs.Clock.{nowMs, delayMs}
 use Rattle.options.specs.Options.{arenaAllowed}
 use Rattle.arena.specs.declared.Arena.{Arena}
 use Rattle.arena.specs.declared.Commitment.{Commitment}
 use Rattle.arena.specs.Registering.{reservedArena, managedArena, adoptedArena}
-use Rattle.arena.specs.Releasing.{releaseRun, stampRun}
 use Rattle.layer.specs.declared.Settings.{Settings}
 use Rattle.layer.specs.declared.Question.{Question}
 use Rattle.layer.specs.declared.Question.the-variants.{Idle, Committing, Purging, Reserving, GivingBack}
@@ -23,17 +21,37 @@ use Rattle.layer.specs.declared.Waiting.{Waiting}
 use Rattle.layer.specs.declared.Waiting.the-variants.{Reserve}
 use Rattle.layer.specs.declared.Kind.{Kind}
 use Rattle.layer.specs.declared.Kind.the-variants.{ForMemory}
-use Rattle.layer.specs.declared.Answer.the-variants.{Released}
 use Rattle.layer.specs.declared.Reply.{Reply}
 use Rattle.layer.specs.World.{World, Outcome, stateOf, worldOf, after}
 use Rattle.layer.specs.Table.{at, isAt, badRange, findArena, sound}
 use Rattle.layer.specs.Registering.{tooLarge, askMemory, badCount, registers, registerReply, register, reserveReply, reserveOf, manageOf, adoptAt, adoptOf, firstWhole, pastWhole, noWholeChunk}
 use Rattle.layer.specs.Claiming.{missReply, searchOf, claimOf}
-use Rattle.layer.specs.Releasing.{releases, releaseReply, releaseIn, releaseAt, releaseOf}
+use Rattle.layer.specs.Releasing.{releases, releaseReply, releaseAt, releaseOf}
 use Rattle.layer.specs.Sweeping.{sweepFrom}
-use Rattle.layer.specs.Answering.{kindOpen, isFor, resume, answerMemory, answerTo, answerOf}
-use Rattle.layer.specs.Step.{reserve, manage, adopt, claim, release, sweep, answer, sweepOf, gate, stepOn, step}
+use Rattle.layer.specs.Answering.{kindOpen, isFor, resume, answerTo, answerOf}
+use Rattle.layer.specs.Step.{reserve, manage, adopt, claim, release, sweep, answer, sweepOf, gate, step}
 use Rattle.refusal_laws.specs.Order.{Check, firstOf, idOf, registered, row, chunkCount, tableFull, broken, questionOpen, noSuchQuestion, claimChecks, releaseChecks, releasedAt, growing, grown, adoptChecks, manageChecks, reserveChecks, yesChecks}
+
+-- what holds of each check's end, and of the way on where no check holds, holds of the call
+abbrev pub Each : (Outcome → Type 0) → List Check → Type 0
+Each P [] = Unit {0}
+Each P (c ∷ cs) = P (c .ends) × Each P cs
+
+abbrev pub Passed : List Check → Type 0
+Passed [] = Unit {0}
+Passed (c ∷ cs) = (c .holds ≡ false) × Passed cs
+
+pub first-each : (P : Outcome → Type 0) (cs : List Check) (go : Outcome) → Each P cs → (Passed cs → P go) → P (firstOf cs go)
+first-each P [] go h on = on tt
+first-each P (c ∷ cs) go h on = by-cond P (c .holds) _ _ (λ e. h .0) (λ e. first-each P cs go (h .1) (λ f. on (e, f)))
+
+-- past row 2 no question is open
+pub idle-of : (q : Question) → not (eqb (kindOpen q) 0) ≡ false → q ≡ Idle
+idle-of Idle e = refl
+idle-of (Committing i s n) e = absurd (true≢false e)
+idle-of (Purging i j w) e = absurd (true≢false e)
+idle-of (Reserving chunks bytes commit exclusive waiting) e = absurd (true≢false e)
+idle-of (GivingBack cause waiting) e = absurd (true≢false e)
 
 -- a test the other way round
 turned : {A : Type 0} (b : Bool) (x y : A) → cond b x y ≡ cond (not b) y x

@@ -1,13 +1,13 @@
 -- "11 restores the used bits": a grant whose commit is answered no leaves the world as it was before the grant. "11 [may leave] a new arena": the one that
 -- the grant's search was made in. Assumes nothing.
 use mathlib.Core.Path.{_≡_, refl, sym, ap, _∙_, subst}
-use mathlib.Core.Bool.{Bool, true, false, cond, not, _&&_}
+use mathlib.Core.Bool.{Bool, true, false, not, _&&_}
 use mathlib.Core.List.{List, [], _∷_}
 use mathlib.Core.Logic.{⊎-elim}
-use Prim.Native.Nat.{ℕ, zero, suc, _+_, _*_, _%_, _<_, _≤_}
+use Prim.Native.Nat.{ℕ, zero, suc, _*_, _%_, _<_, _≤_}
 use native.Mathlib.Omega.{arith}
 use borrow.Author.Tests.{leb-false, ltb-false}
-use lib.Dec.{eqb, leb, ltb}
+use lib.Dec.{eqb, leb}
 use lib.IntN.{ℤ, negsuc}
 use lib.ListN.{length, set, length-set}
 use lib.Seq.{set-getD}
@@ -19,7 +19,7 @@ use Rattle.runs.specs.declared.Found.{Found}
 use Rattle.runs.specs.declared.Found.the-variants.{At, Nothing}
 use Rattle.runs.specs.Lowest.{least}
 use Rattle.runs.proofs.LowestLaws.{First, first-says}
-use Rattle.options.specs.Options.{arenaAllowed, pageSizeSound}
+use Rattle.options.specs.Options.{pageSizeSound}
 use Rattle.arena.specs.declared.Arena.{Arena}
 use Rattle.arena.specs.Registering.{newArena, reservedArena}
 use Rattle.arena.specs.Claiming.{findRun, takeRun, giveBackRun}
@@ -30,41 +30,23 @@ use Rattle.layer.specs.declared.Question.{Question}
 use Rattle.layer.specs.declared.Question.the-variants.{Idle, Committing, Purging, Reserving, GivingBack}
 use Rattle.layer.specs.declared.Waiting.{Waiting}
 use Rattle.layer.specs.declared.Waiting.the-variants.{Reserve, Claim}
-use Rattle.layer.specs.declared.Kind.{Kind}
 use Rattle.layer.specs.declared.Kind.the-variants.{ForCommit, ForMemory}
-use Rattle.layer.specs.declared.Ask.the-variants.{AskCommit, AskMemory, AskGiveBack}
-use Rattle.layer.specs.declared.Answer.the-variants.{Refused, Asks, Registered, Claimed}
+use Rattle.layer.specs.declared.Ask.the-variants.{AskCommit}
+use Rattle.layer.specs.declared.Answer.the-variants.{Refused, Asks}
 use Rattle.layer.specs.declared.Reply.{Reply}
 use Rattle.layer.specs.World.{World, Outcome, blank, stateOf, worldOf, outcome, after, turnDown, calm}
 use Rattle.layer.specs.Table.{at, badRange, sound}
 use Rattle.layer.specs.Registering.{tooLarge, askMemory, badCount, withRecord, withStamps}
-use Rattle.layer.specs.Claiming.{serves, asksCommit, grantArena, grantReply, missReply, isNegative, grantFound, searchAt, searchOf, claimOf}
-use Rattle.layer.specs.Answering.{isFor, failReply, resume, answerMemory, answerTo, answerOf}
-use Rattle.layer.specs.Step.{claim, answer, gate, stepOn, step}
+use Rattle.layer.specs.Claiming.{serves, asksCommit, grantArena, grantReply, missReply, isNegative, grantFound, searchAt, searchOf}
+use Rattle.layer.specs.Answering.{isFor, resume, answerOf}
+use Rattle.layer.specs.Step.{claim, answer, step}
 use Rattle.layer_laws.proofs.Tools.{or-false, at-same, by-set}
-use Rattle.layer_laws.proofs.Kept.{SoundWorld}
 use Rattle.layer_laws.proofs.Registered.{reserved-rows}
 use Rattle.layer_laws.proofs.Stepped.{Words, sound-facts, step-sound}
-use Rattle.refusal_laws.specs.Left.{withArena, Reserved}
-use Rattle.refusal_laws.proofs.Calls.{asks-not}
-use Rattle.refusal_laws.proofs.Left.{gated}
-
--- ---- a commit question is no other answer
-
-registers-not : {X : Type 0} (id : ℕ) (address bytes : ℕ) → Registered id ≡ Asks (AskCommit address bytes) → X
-registers-not id address bytes e = absurd (let z : _≡_ {A = ℕ} 0 1 = cc in omega arith)
-
-claims-not : {X : Type 0} (x : ℕ) (fresh committed : Bool) (address bytes : ℕ) → Claimed x fresh committed ≡ Asks (AskCommit address bytes) → X
-claims-not x fresh committed address bytes e = absurd (let z : _≡_ {A = ℕ} 0 1 = cc in omega arith)
-
-memory-not : {X : Type 0} (size align : ℕ) (commit large : Bool) (address bytes : ℕ) → Asks (AskMemory size align commit large) ≡ Asks (AskCommit address bytes) → X
-memory-not size align commit large address bytes e = absurd (let z : _≡_ {A = ℕ} 0 1 = cc in omega arith)
-
-gives-back-not : {X : Type 0} (x size address bytes : ℕ) → Asks (AskGiveBack x size) ≡ Asks (AskCommit address bytes) → X
-gives-back-not x size address bytes e = absurd (let z : _≡_ {A = ℕ} 0 1 = cc in omega arith)
-
-refuses-not : {X : Type 0} (why : Refusal) (address bytes : ℕ) → Refused why ≡ Asks (AskCommit address bytes) → X
-refuses-not why address bytes e = absurd (asks-not (AskCommit address bytes) why (sym e))
+use Rattle.refusal_laws.specs.Left.{Reserved}
+use Rattle.refusal_laws.specs.Order.{broken, questionOpen, claimChecks}
+use Rattle.refusal_laws.proofs.Answers.{refused-no-commit, registered-no-commit, claimed-no-commit, memory-no-commit, give-back-no-commit}
+use Rattle.refusal_laws.proofs.Order.{first-each, idle-of, claim-order}
 
 -- ---- the record as it was
 
@@ -110,48 +92,46 @@ module _ (S : ℕ) (later : ℕ) (others : Settings) (base : ℕ) where
             rw e (λ address bytes g t.
             no-step (set l i (takeRun (at l i) s n)) stamps k mark i s n t
             ∙ ap (λ (m : List Arena). outcome (Refused CommitRefused) (worldOf m stamps (calm k mark))) (undone l i n s (omega (arith, long, few)) (fit i h .0) (fit i h .1) f))
-        grant i s h f false e = rw e (λ address bytes g t. claims-not _ _ _ address bytes g)
+        grant i s h f false e = rw e (λ address bytes g t. claimed-no-commit _ _ _ address bytes g)
 
         run : (i : ℕ) → i < k → (f : Found) → findRun (at l i) n ≡ f → U (grantFound S l stamps k mark i n commits f)
         run i h (At s) e = grant i s h e (asksCommit (at l i) s n commits) refl
-        run i h Nothing e = λ address bytes g t. refuses-not NoRun address bytes g
+        run i h Nothing e = λ address bytes g t. refused-no-commit NoRun address bytes g
 
         go : (f : Found) → First (serves id n l) 0 k f → U (searchAt S l stamps k mark n commits missed f)
         go (At i) h = run i (omega (arith, h .1)) (findRun (at l i) n) refl
         go Nothing h = m
 
-    claim-undone : (id : ℤ) (n : ℕ) (commits : Bool) (settings : Settings) → Undone (worldOf l stamps (calm k mark)) (claimOf S l stamps k mark id n commits settings)
-    unfolding claimOf missReply askMemory
+    claim-undone : (id : ℤ) (n : ℕ) (commits : Bool) (settings : Settings)
+        → Undone (worldOf l stamps (calm k mark)) (searchOf S l stamps k mark id n commits (missReply S k mark id n commits settings))
+    unfolding missReply askMemory
     claim-undone id n commits settings =
-        by-cond U (eqb n 0) _ _ (λ e address bytes g t. refuses-not _ address bytes g)
-        (λ e. by-cond U (arenaAllowed (settings .off) id) _ _
-        (λ f. search-undone id n commits (missReply S k mark id n commits settings)
-        (by-cond (λ (r : Reply). U (after r l stamps)) (isNegative id && (leb S (settings .reserve) && not mark)) _ _
-        (λ g. by-cond (λ (r : Reply). U (after r l stamps)) (tooLarge S (settings .reserve)) _ _ (λ h address bytes i t. refuses-not _ address bytes i)
-        (λ h address bytes i t. memory-not _ _ _ _ address bytes i))
-        (λ g address bytes h t. refuses-not _ address bytes h)))
-        (λ f address bytes g t. refuses-not _ address bytes g))
+        search-undone id n commits (missReply S k mark id n commits settings)
+        (by-cond U (isNegative id && (leb S (settings .reserve) && not mark)) _ _
+        (λ g. by-cond U (tooLarge S (settings .reserve)) _ _ (λ h address bytes i t. refused-no-commit _ address bytes i) (λ h address bytes i t. memory-no-commit _ _ _ _ address bytes i))
+        (λ g address bytes h t. refused-no-commit _ address bytes h))
       where
-        U : Outcome → Type 0
-        U = Undone (worldOf l stamps (calm k mark))
+        U : Reply → Type 0
+        U r = Undone (worldOf l stamps (calm k mark)) (after r l stamps)
 
 -- a claim that asked for a commit, answered no: the world is the one before the claim
 pub claim-then-no : (S : ℕ) → 0 < S → (w : World) (ns later : ℕ) (settings others : Settings) (id : ℤ) (n : ℕ) (commits : Bool) (address bytes base : ℕ) → Words w
     → sound S w (settings .page) ≡ true → pageSizeSound (others .page) ≡ true → step S w ns settings (claim id n commits) .answer ≡ Asks (AskCommit address bytes)
     → step S (step S w ns settings (claim id n commits) .world) later others (answer ForCommit false base) ≡ outcome (Refused CommitRefused) w
-unfolding step
 claim-then-no S pos w ns later settings others id n commits address bytes base words e p asked =
     let f = sound-facts S w (settings .page) words e .0 in
-    by-cond (U w) (sound S w (settings .page)) _ _
-    (λ g. gated (U w) (w .state .question) _ _
-    (λ h. subst (λ (q : Question). U (worldOf (w .records) (w .stamps) (stateOf (w .state .count) (w .state .mark) q)) (claimOf S (w .records) (w .stamps) (w .state .count) (w .state .mark) id n commits settings)) (sym h)
-    (claim-undone S later others base (w .records) (w .stamps) (w .state .count) (w .state .mark) (f .table .long) (f .table .few) (λ i u. (f .table .rows i u, f .table .each i u .range .few)) id n commits settings))
-    (λ a b g t. refuses-not _ a b g))
-    (λ g a b h t. refuses-not _ a b h)
+    subst (U w) (sym (claim-order S w settings ns id n commits))
+    (first-each (U w) (broken S w settings ∷ questionOpen S w settings ∷ claimChecks S w settings id n) _ (turned _, (turned _, (turned _, (turned _, tt))))
+    (λ h. subst (λ (q : Question). U (worldOf (w .records) (w .stamps) (stateOf (w .state .count) (w .state .mark) q)) (searchOf S (w .records) (w .stamps) (w .state .count) (w .state .mark) id n commits (missReply S (w .state .count) (w .state .mark) id n commits settings)))
+    (sym (idle-of (w .state .question) (h .1 .0)))
+    (claim-undone S later others base (w .records) (w .stamps) (w .state .count) (w .state .mark) (f .table .long) (f .table .few) (λ i u. (f .table .rows i u, f .table .each i u .range .few)) id n commits settings)))
     address bytes asked (step-sound S pos w ns settings (claim id n commits) words e (others .page) p .0)
   where
     U : World → Outcome → Type 0
     U = Undone S later others base
+
+    turned : (why : Refusal) → U w (outcome (Refused why) w)
+    turned why = λ a b g t. refused-no-commit why a b g
 
 -- ---- a yes to the memory question of a claim that waits: the new arena stays
 
@@ -177,26 +157,26 @@ module _ (S : ℕ) (later : ℕ) (others : Settings) (base : ℕ) (l : List Aren
 
   resume-stays : (chunks bytes : ℕ) (commit exclusive : Bool) (waiting : Waiting) → k < 32 → chunks ≤ 1024
       → Stay (Reserving chunks bytes commit exclusive waiting) (resume S l stamps k mark (reservedArena place chunks commit exclusive) waiting)
-  resume-stays chunks bytes commit exclusive Reserve h c = λ a b e t. registers-not k a b e
+  resume-stays chunks bytes commit exclusive Reserve h c = λ a b e t. registered-no-commit k a b e
   resume-stays chunks bytes commit exclusive (Claim n commits) h c = λ a b e t.
       let u = search-undone S later others base (withRecord l k (reservedArena place chunks commit exclusive)) (withStamps stamps k) (suc k) mark
       (length-set l k (reservedArena place chunks commit exclusive) ∙ long) h (registered-fit chunks commit exclusive h c) (negsuc 0) n commits (turnDown NoRun (calm (suc k) mark))
-      (λ x y f g. refuses-not NoRun x y f) a b e t in
+      (λ x y f g. refused-no-commit NoRun x y f) a b e t in
       (ap (λ (o : Outcome). o .answer) u, (chunks, bytes, commit, exclusive, n, commits, refl, ap (λ (o : Outcome). o .world) u))
 
   memory-stays : (q : Question) → Stay q (answerOf S l stamps k mark q ForMemory true place)
   unfolding answerOf isFor badCount
-  memory-stays Idle = λ a b e t. refuses-not _ a b e
-  memory-stays (Committing i s n) = λ a b e t. refuses-not _ a b e
-  memory-stays (Purging i j w) = λ a b e t. refuses-not _ a b e
-  memory-stays (GivingBack cause waiting) = λ a b e t. refuses-not _ a b e
+  memory-stays Idle = λ a b e t. refused-no-commit _ a b e
+  memory-stays (Committing i s n) = λ a b e t. refused-no-commit _ a b e
+  memory-stays (Purging i j w) = λ a b e t. refused-no-commit _ a b e
+  memory-stays (GivingBack cause waiting) = λ a b e t. refused-no-commit _ a b e
   memory-stays (Reserving chunks bytes commit exclusive waiting) =
-      by-cond Q (badRange S l k place (chunks * S)) _ _ (λ e a b f t. refuses-not _ a b f)
-      (λ e. by-cond Q (badCount chunks) _ _ (λ f a b g t. gives-back-not _ _ a b g)
+      by-cond Q (badRange S l k place (chunks * S)) _ _ (λ e a b f t. refused-no-commit _ a b f)
+      (λ e. by-cond Q (badCount chunks) _ _ (λ f a b g t. give-back-no-commit _ _ a b g)
       (λ f. by-cond Q (eqb (place % S) 0) _ _
-      (λ g. by-cond Q (leb 32 k) _ _ (λ h a b i t. gives-back-not _ _ a b i)
+      (λ g. by-cond Q (leb 32 k) _ _ (λ h a b i t. give-back-no-commit _ _ a b i)
       (λ h. resume-stays chunks bytes commit exclusive waiting (leb-false 32 k h) (ltb-false 1024 chunks (or-false (eqb chunks 0) _ f .1))))
-      (λ g a b h t. gives-back-not _ _ a b h)))
+      (λ g a b h t. give-back-no-commit _ _ a b h)))
     where
       Q : Outcome → Type 0
       Q = Stay (Reserving chunks bytes commit exclusive waiting)
@@ -211,7 +191,7 @@ yes-then-no S pos w ns later settings others place address bytes base words e p 
     let f = sound-facts S w (settings .page) words e .0 in
     by-cond Q (sound S w (settings .page)) _ _
     (λ g. memory-stays S later others base (w .records) (w .stamps) (w .state .count) (w .state .mark) place (f .table .long) (f .table .few) (λ i u. (f .table .rows i u, f .table .each i u .range .few)) (w .state .question))
-    (λ g a b h t. refuses-not _ a b h)
+    (λ g a b h t. refused-no-commit _ a b h)
     address bytes asked (step-sound S pos w ns settings (answer ForMemory true place) words e (others .page) p .0)
   where
     Q : Outcome → Type 0

@@ -43,7 +43,7 @@ usedCleared w i s n = worldOf (set (w .records) i (giveBackRun (at (w .records) 
 abbrev pub Restored : World → World → Type 0
 Restored w v = (i : ℕ) × (s : ℕ) × (n : ℕ) × (w .state .question ≡ Committing i s n) × (v ≡ usedCleared w i s n)
 
--- by a yes at base to the open memory question, for which a claim waits: the range is registered, and the claim finds no run there either
+-- by a yes at base to the open memory question, for which a claim waits: the range is registered
 abbrev pub Reserved : World → ℕ → World → Type 0
 Reserved w base v =
     (chunks : ℕ) × (bytes : ℕ) × (commit : Bool) × (exclusive : Bool) × (n : ℕ) × (commits : Bool)

@@ -1,6 +1,6 @@
 -- The order of the checks. Document 01, "Turned down": "Order: 1; then 2, or 3 for answers; then the call's own." Each call's own checks
 -- stand here as one list, in the document's order; the first that holds ends the call. Assumes nothing.
-use mathlib.Core.Bool.{Bool, true, false, cond, not, _&&_, _||_}
+use mathlib.Core.Bool.{Bool, cond, not, _&&_, _||_}
 use mathlib.Core.List.{List, [], _∷_}
 use Prim.Native.Nat.{ℕ, suc, _+_, _-_, _*_, _/_, _%_}
 use lib.Dec.{eqb, leb}

@@ -43,6 +43,15 @@ sweeping =
     (replicate 32768 0)
     (stateOf 1 false (Purging 0 0 (record { force = true; now = 1; delay = 0; decommit = false; purged = 0 })))
 
+-- so many arenas of 1,024 chunks from id i on, each behind the last with nothing between
+unfoldable pub blocks : ℕ → ℕ → List Arena
+blocks i zero = []
+blocks i (suc n) = reservedArena ((i + 1) * (1024 * S)) 1024 false false ∷ blocks (i + 1) n
+
+-- a table in which 32 arenas stand
+abbrev pub full : World
+full = worldOf (blocks 0 32) (replicate 32768 0) (calm 32 false)
+
 -- the layer after a call, and the number that it answers
 abbrev pub then : World → Call → World
 then w c = step S w 0 plain c .world
@@ -64,6 +73,8 @@ computed =
     ∷ says example (claim (pos 0) 5 true)
     ∷ says (then example (claim (pos 0) 1 true)) (answer ForCommit false 0)
     ∷ says example (adopt 68719476736 34393292800)
+    -- a block with a chunk between it and the last arena
+    ∷ says full (adopt (33 * (1024 * S) + S) S)
     ∷ says (then example (reserve S false false false)) (answer ForMemory false 0)
     ∷ says example (manage 1 S false (negsuc 0) false true)
     ∷ says example (manage S (2 * S) false (negsuc 0) false false)
@@ -75,4 +86,4 @@ computed =
     ∷ []
 
 unfoldable pub stated : List ℕ
-stated = 1 ∷ 2 ∷ 3 ∷ 4 ∷ 5 ∷ 6 ∷ 7 ∷ 8 ∷ 9 ∷ 10 ∷ 11 ∷ 12 ∷ 14 ∷ 15 ∷ 16 ∷ S ∷ 1 ∷ 5 ∷ []
+stated = 1 ∷ 2 ∷ 3 ∷ 4 ∷ 5 ∷ 6 ∷ 7 ∷ 8 ∷ 9 ∷ 10 ∷ 11 ∷ 12 ∷ 13 ∷ 14 ∷ 15 ∷ 16 ∷ S ∷ 1 ∷ 5 ∷ []

@@ -29,27 +29,27 @@ use Rattle.layer.specs.Answering.{isFor, counted, answerPurge, answerOf}
 use Rattle.layer.specs.Step.{Call, reserve, manage, adopt, claim, release, sweep, answer, owns, area, areaOf, sweepOf, stepOn, step}
 use Rattle.layer_laws.proofs.Kept.{SoundWorld}
 use Rattle.layer_laws.proofs.Stepped.{Words, sound-facts, step-on-kept}
-use Rattle.sweep_laws.specs.Run.{pendingIn, pendingBits, asksPurge, isRefused, isYes, saysYes, isPurging, Made, Run, isOpen, more, goOn, runSweep}
+use Rattle.sweep_laws.specs.Run.{pendingIn, pendingBits, asksPurge, isRefused, isYes, saysYes, isPurging, Made, Run, isOpen, more, goOn, withCount, runSweep}
 use Rattle.sweep_laws.proofs.Counts.{count-some, bits-some}
 use Rattle.sweep_laws.proofs.Goes.{Goes, asks, ends, visit-goes, sweep-goes, return-less}
 
 -- ---- a sweep under way
 
--- its question is open: the asked chunk is pending, its count is that of the yes answers, and the questions put and the bits still pending are at most one
--- more than the bits at the start
-pub record Going (S bits : ℕ) (v : World) (questions yeses : ℕ) : Type 0 where
+-- its question is open: the asked chunk is pending, its clock and settings are the first and its count is that of the yes answers, and the questions put
+-- and the bits still pending are at most one more than the bits at the start
+pub record Going (first : Sweep) (S bits : ℕ) (v : World) (questions yeses : ℕ) : Type 0 where
   pub id : ℕ
   pub chunk : ℕ
   pub sweep : Sweep
   pub fit : SoundWorld S v
   pub asked : v .state .question ≡ Purging id chunk sweep
   pub pending : bitAt (at (v .records) id .pending) chunk ≡ true
-  pub purged : sweep .purged ≡ yeses
+  pub kept : sweep ≡ withCount first yeses
   pub most : questions + pendingBits (v .records) (v .state .count) ≤ bits + 1
 
-pub data Fares (S bits : ℕ) (r : Run) : Type 0 where
-  going : Going S bits (r .last .world) (r .questions) (r .yes) → Fares S bits r
-  ended : isOpen r ≡ false → r .last .answer ≡ Swept (r .yes) → r .questions ≤ bits → Fares S bits r
+pub data Fares (first : Sweep) (S bits : ℕ) (r : Run) : Type 0 where
+  going : Going first S bits (r .last .world) (r .questions) (r .yes) → Fares first S bits r
+  ended : isOpen r ≡ false → r .last .answer ≡ Swept (r .yes) → r .questions ≤ bits → Fares first S bits r
 
 -- at least the asked chunk is pending
 asked-one : (S : ℕ) (l : List Arena) (stamps : List ℕ) (k : ℕ) (mark : Bool) (i j : ℕ) (w : Sweep) → SoundWorld S (worldOf l stamps (stateOf k mark (Purging i j w)))
@@ -61,10 +61,10 @@ asked-one S l stamps k mark i j w t d =
     omega (arith, a, bits-some l i k (q .0))
 
 -- where a sweep goes, it fares
-fares : (S bits left : ℕ) (stamps : List ℕ) (k : ℕ) (mark : Bool) (w : Sweep) (questions yeses : ℕ) → w .purged ≡ yeses → questions + left ≤ bits → (o : Outcome) → SoundWorld S (o .world)
-    → Goes S stamps k mark w left o → Fares S bits (record { questions = questions + asksPurge (o .answer); yes = yeses; last = o })
-fares S bits left stamps k mark w questions yeses c h o t (asks l i j address decommit a b d n e) =
-    subst (λ (x : Outcome). Fares S bits (record { questions = questions + asksPurge (x .answer); yes = yeses; last = x })) (sym e)
+fares : (first : Sweep) (S bits left : ℕ) (stamps : List ℕ) (k : ℕ) (mark : Bool) (w : Sweep) (questions yeses : ℕ) → w ≡ withCount first yeses → questions + left ≤ bits → (o : Outcome) → SoundWorld S (o .world)
+    → Goes S stamps k mark w left o → Fares first S bits (record { questions = questions + asksPurge (o .answer); yes = yeses; last = o })
+fares first S bits left stamps k mark w questions yeses c h o t (asks l i j address decommit a b d n e) =
+    subst (λ (x : Outcome). Fares first S bits (record { questions = questions + asksPurge (x .answer); yes = yeses; last = x })) (sym e)
     (going (record {
       id = i;
       chunk = j;
@@ -72,12 +72,12 @@ fares S bits left stamps k mark w questions yeses c h o t (asks l i j address de
       fit = subst (λ (x : Outcome). SoundWorld S (x .world)) e t;
       asked = refl;
       pending = d;
-      purged = c;
+      kept = c;
       most = omega (arith, h, n);
     }))
-fares S bits left stamps k mark w questions yeses c h o t (ends l e) =
-    subst (λ (x : Outcome). Fares S bits (record { questions = questions + asksPurge (x .answer); yes = yeses; last = x })) (sym e)
-    (ended refl (ap Swept c) (omega (arith, h)))
+fares first S bits left stamps k mark w questions yeses c h o t (ends l e) =
+    subst (λ (x : Outcome). Fares first S bits (record { questions = questions + asksPurge (x .answer); yes = yeses; last = x })) (sym e)
+    (ended refl (ap (λ (x : Sweep). Swept (x .purged)) c) (omega (arith, h)))
 
 -- a sweep that goes on is not refused
 goes-on : (S bits : ℕ) (stamps : List ℕ) (k : ℕ) (mark : Bool) (w : Sweep) (o : Outcome) → Goes S stamps k mark w bits o → isRefused (o .answer) ≡ false
@@ -86,17 +86,17 @@ goes-on S bits stamps k mark w o (ends l e) = ap (λ (x : Outcome). isRefused (x
 
 -- ---- a call while the question is open
 
-abbrev FaresAfter : ℕ → ℕ → ℕ → ℕ → Call → Outcome → Type 0
-FaresAfter S bits questions yeses call o = Fares S bits (record { questions = questions + asksPurge (o .answer); yes = yeses + saysYes call (o .answer); last = o })
+abbrev FaresAfter : Sweep → ℕ → ℕ → ℕ → ℕ → Call → Outcome → Type 0
+FaresAfter first S bits questions yeses call o = Fares first S bits (record { questions = questions + asksPurge (o .answer); yes = yeses + saysYes call (o .answer); last = o })
 
-module _ (S bits : ℕ) (some : 0 < S) (l : List Arena) (stamps : List ℕ) (k : ℕ) (mark : Bool) (i j : ℕ) (w : Sweep) (ns : ℕ) (settings : Settings) (questions yeses : ℕ)
-    (t : SoundWorld S (worldOf l stamps (stateOf k mark (Purging i j w)))) (d : bitAt (at l i .pending) j ≡ true) (c : w .purged ≡ yeses) (h : questions + pendingBits l k ≤ bits + 1) where
+module _ (first : Sweep) (S bits : ℕ) (some : 0 < S) (l : List Arena) (stamps : List ℕ) (k : ℕ) (mark : Bool) (i j : ℕ) (w : Sweep) (ns : ℕ) (settings : Settings) (questions yeses : ℕ)
+    (t : SoundWorld S (worldOf l stamps (stateOf k mark (Purging i j w)))) (d : bitAt (at l i .pending) j ≡ true) (c : w ≡ withCount first yeses) (h : questions + pendingBits l k ≤ bits + 1) where
   abbrev After : Call → Outcome → Type 0
-  After = FaresAfter S bits questions yeses
+  After = FaresAfter first S bits questions yeses
 
   -- a refusal or a query: nothing changes
   stays : (call : Call) (a : Answer) → asksPurge a ≡ 0 → saysYes call a ≡ 0 → After call (outcome a (worldOf l stamps (stateOf k mark (Purging i j w))))
-  stays call a x y = going (record { id = i; chunk = j; sweep = w; fit = t; asked = refl; pending = d; purged = omega (arith, c, y); most = omega (arith, h, x) })
+  stays call a x y = going (record { id = i; chunk = j; sweep = w; fit = t; asked = refl; pending = d; kept = c ∙ ap (withCount first) (let z : yeses ≡ yeses + saysYes call a = omega (arith, y) in z); most = omega (arith, h, x) })
 
   -- the answer: one bit less is pending
   goes : (granted : Bool) → Goes S stamps k mark (counted w granted) (pendingBits l k - 1) (answerPurge S l stamps k mark i j w granted)
@@ -113,9 +113,9 @@ module _ (S bits : ℕ) (some : 0 < S) (l : List Arena) (stamps : List ℕ) (k :
 
   answered : (granted : Bool) (base : ℕ) → SoundWorld S (answerPurge S l stamps k mark i j w granted .world) → After (answer ForPurge granted base) (answerPurge S l stamps k mark i j w granted)
   answered granted base x =
-      subst (λ (n : ℕ). Fares S bits (record { questions = questions + asksPurge (answerPurge S l stamps k mark i j w granted .answer); yes = yeses + n; last = answerPurge S l stamps k mark i j w granted }))
+      subst (λ (n : ℕ). Fares first S bits (record { questions = questions + asksPurge (answerPurge S l stamps k mark i j w granted .answer); yes = yeses + n; last = answerPurge S l stamps k mark i j w granted }))
       (sym (taken granted (answerPurge S l stamps k mark i j w granted .answer) (goes-on S (pendingBits l k - 1) stamps k mark (counted w granted) (answerPurge S l stamps k mark i j w granted) (goes granted))))
-      (fares S bits (pendingBits l k - 1) stamps k mark (counted w granted) questions (yeses + cond granted 1 0) (ap (λ (n : ℕ). n + cond granted 1 0) c) (omega (arith, h, asked-one S l stamps k mark i j w t d))
+      (fares first S bits (pendingBits l k - 1) stamps k mark (counted w granted) questions (yeses + cond granted 1 0) (ap (λ (x : Sweep). counted x granted) c) (omega (arith, h, asked-one S l stamps k mark i j w t d))
       (answerPurge S l stamps k mark i j w granted) x (goes granted))
     where
       taken : (g : Bool) (a : Answer) → isRefused a ≡ false → saysYes (answer ForPurge g base) a ≡ cond g 1 0
@@ -158,28 +158,31 @@ module _ (S bits : ℕ) (some : 0 < S) (l : List Arena) (stamps : List ℕ) (k :
 
 -- ---- call after call
 
-more-fares : (S bits : ℕ) → 0 < S → (r : Run) (c : Made) → Fares S bits r → Fares S bits (more S r c)
-more-fares S bits some r c (ended e f g) = subst (Fares S bits) (sym (unless (isOpen r) _ _ e)) (ended e f g)
-more-fares S bits some r c (going g) =
-    subst (Fares S bits) (sym (when (isOpen r) _ _ (ap isPurging (g .asked))))
+more-fares : (first : Sweep) (S bits : ℕ) → 0 < S → (r : Run) (c : Made) → Fares first S bits r → Fares first S bits (more S r c)
+more-fares first S bits some r c (ended e f g) = subst (Fares first S bits) (sym (unless (isOpen r) _ _ e)) (ended e f g)
+more-fares first S bits some r c (going g) =
+    subst (Fares first S bits) (sym (when (isOpen r) _ _ (ap isPurging (g .asked))))
     (let v = r .last .world in
     subst
-    (λ (q : Question). FaresAfter S bits (r .questions) (r .yes) (c .call) (step S (worldOf (v .records) (v .stamps) (stateOf (v .state .count) (v .state .mark) q)) (c .ns) (c .settings) (c .call)))
+    (λ (q : Question). FaresAfter first S bits (r .questions) (r .yes) (c .call) (step S (worldOf (v .records) (v .stamps) (stateOf (v .state .count) (v .state .mark) q)) (c .ns) (c .settings) (c .call)))
     (sym (g .asked))
-    (called S bits some (v .records) (v .stamps) (v .state .count) (v .state .mark) (g .id) (g .chunk) (g .sweep) (c .ns) (c .settings) (r .questions) (r .yes)
-    (subst (λ (q : Question). SoundWorld S (worldOf (v .records) (v .stamps) (stateOf (v .state .count) (v .state .mark) q))) (g .asked) (g .fit)) (g .pending) (g .purged) (g .most) (c .call)))
+    (called first S bits some (v .records) (v .stamps) (v .state .count) (v .state .mark) (g .id) (g .chunk) (g .sweep) (c .ns) (c .settings) (r .questions) (r .yes)
+    (subst (λ (q : Question). SoundWorld S (worldOf (v .records) (v .stamps) (stateOf (v .state .count) (v .state .mark) q))) (g .asked) (g .fit)) (g .pending) (g .kept) (g .most) (c .call)))
 
-goes-fares : (S bits : ℕ) → 0 < S → (cs : List Made) (r : Run) → Fares S bits r → Fares S bits (goOn S r cs)
+goes-fares : (first : Sweep) (S bits : ℕ) → 0 < S → (cs : List Made) (r : Run) → Fares first S bits r → Fares first S bits (goOn S r cs)
 unfolding goOn
-goes-fares S bits some [] r f = f
-goes-fares S bits some (c ∷ cs) r f = goes-fares S bits some cs (more S r c) (more-fares S bits some r c f)
+goes-fares first S bits some [] r f = f
+goes-fares first S bits some (c ∷ cs) r f = goes-fares first S bits some cs (more S r c) (more-fares first S bits some r c f)
 
 -- ---- the theorems
 
 -- the first call, on a world that row 1 lets pass and where no question is open
 module _ (S : ℕ) (some : 0 < S) (w : World) (ns : ℕ) (settings : Settings) (force : Bool) (calls : List Made) (words : Words w) (passed : sound S w (settings .page) ≡ true)
     (idle : w .state .question ≡ Idle) where
-  begins : Fares S (pendingBits (w .records) (w .state .count))
+  abbrev first : Sweep
+  first = sweepOf force ns settings
+
+  begins : Fares first S (pendingBits (w .records) (w .state .count))
       (record { questions = asksPurge (step S w ns settings (sweep force) .answer); yes = 0; last = step S w ns settings (sweep force) })
   unfolding step
   begins =
@@ -187,22 +190,22 @@ module _ (S : ℕ) (some : 0 < S) (w : World) (ns : ℕ) (settings : Settings) (
       let l = w .records in
       let k = w .state .count in
       let m = w .state .mark in
-      subst (λ (o : Outcome). Fares S (pendingBits l k) (record { questions = asksPurge (o .answer); yes = 0; last = o }))
+      subst (λ (o : Outcome). Fares first S (pendingBits l k) (record { questions = asksPurge (o .answer); yes = 0; last = o }))
       (sym (when (sound S w (settings .page)) _ _ passed ∙ ap (λ (q : Question). stepOn S l (w .stamps) k m q ns settings (sweep force)) idle))
       (let o = sweepFrom S (w .stamps) k m (sweepOf force ns settings) k 0 l in
-      subst (λ (n : ℕ). Fares S (pendingBits l k) (record { questions = n; yes = 0; last = o })) (zero-add (asksPurge (o .answer)))
-      (fares S (pendingBits l k) (pendingBits l k) (w .stamps) k m (sweepOf force ns settings) 0 0 refl (omega arith) o
+      subst (λ (n : ℕ). Fares first S (pendingBits l k) (record { questions = n; yes = 0; last = o })) (zero-add (asksPurge (o .answer)))
+      (fares first S (pendingBits l k) (pendingBits l k) (w .stamps) k m (sweepOf force ns settings) 0 0 refl (omega arith) o
       (step-on-kept S some l (w .stamps) k m (f .table) (f .stamps) Idle ns settings (sweep force) tt)
       (sweep-goes S (w .stamps) k m (sweepOf force ns settings) (pendingBits l k) k 0 l (omega arith) (omega (arith, f .table .long, f .table .few)) refl)))
 
-  through : Fares S (pendingBits (w .records) (w .state .count)) (runSweep S w ns settings force calls)
-  through = goes-fares S (pendingBits (w .records) (w .state .count)) some calls _ begins
+  through : Fares first S (pendingBits (w .records) (w .state .count)) (runSweep S w ns settings force calls)
+  through = goes-fares first S (pendingBits (w .records) (w .state .count)) some calls _ begins
 
   -- "It puts at most as many questions as bits were pending at its start."
   pub sweep-asks : runSweep S w ns settings force calls .questions ≤ pendingBits (w .records) (w .state .count)
   sweep-asks = go (runSweep S w ns settings force calls) through
     where
-      go : (r : Run) → Fares S (pendingBits (w .records) (w .state .count)) r → r .questions ≤ pendingBits (w .records) (w .state .count)
+      go : (r : Run) → Fares first S (pendingBits (w .records) (w .state .count)) r → r .questions ≤ pendingBits (w .records) (w .state .count)
       go r (ended e f g) = g
       go r (going g) =
           let v = r .last .world in
@@ -214,6 +217,19 @@ module _ (S : ℕ) (some : 0 < S) (w : World) (ns : ℕ) (settings : Settings) (
       → runSweep S w ns settings force calls .last .answer ≡ Swept (runSweep S w ns settings force calls .yes)
   sweep-counts = go (runSweep S w ns settings force calls) through
     where
-      go : (r : Run) → Fares S (pendingBits (w .records) (w .state .count)) r → isOpen r ≡ false → r .last .answer ≡ Swept (r .yes)
+      go : (r : Run) → Fares first S (pendingBits (w .records) (w .state .count)) r → isOpen r ≡ false → r .last .answer ≡ Swept (r .yes)
       go r (ended e f g) x = f
       go r (going g) x = absurd (true≢false (sym (ap isPurging (g .asked)) ∙ x))
+
+  -- "A sweep keeps its first clock and settings until it ends."
+  pub sweep-keeps : (id chunk : ℕ) (now : Sweep) → runSweep S w ns settings force calls .last .world .state .question ≡ Purging id chunk now
+      → now ≡ withCount (sweepOf force ns settings) (runSweep S w ns settings force calls .yes)
+  sweep-keeps = go (runSweep S w ns settings force calls) through
+    where
+      one : (i j id chunk : ℕ) (x now : Sweep) → Purging i j x ≡ Purging id chunk now → x ≡ now
+      one i j id chunk x now e = cc
+
+      go : (r : Run) → Fares first S (pendingBits (w .records) (w .state .count)) r → (id chunk : ℕ) (now : Sweep) → r .last .world .state .question ≡ Purging id chunk now
+          → now ≡ withCount first (r .yes)
+      go r (ended e f g) id chunk now x = absurd (true≢false (sym (ap isPurging x) ∙ e))
+      go r (going g) id chunk now x = one id chunk (g .id) (g .chunk) now (g .sweep) (sym x ∙ g .asked) ∙ g .kept

@@ -6,6 +6,7 @@ use Prim.Native.Nat.{ℕ, zero, suc, _+_}
 use Rattle.words.specs.Bits.{bitAt}
 use Rattle.arena.specs.declared.Arena.{Arena}
 use Rattle.layer.specs.declared.Settings.{Settings}
+use Rattle.layer.specs.declared.Sweep.{Sweep}
 use Rattle.layer.specs.declared.Question.{Question}
 use Rattle.layer.specs.declared.Question.the-variants.{Idle, Committing, Purging, Reserving, GivingBack}
 use Rattle.layer.specs.declared.Kind.the-variants.{ForCommit, ForPurge, ForMemory, ForGiveBack, ForNone}
@@ -111,6 +112,10 @@ more S r c =
 unfoldable pub goOn : ℕ → Run → List Made → Run
 goOn S r [] = r
 goOn S r (c ∷ cs) = goOn S (more S r c) cs
+
+-- the sweep's own clock and settings, with so many yes answers counted
+abbrev pub withCount : Sweep → ℕ → Sweep
+withCount w n = record { force = w .force; now = w .now; delay = w .delay; decommit = w .decommit; purged = n }
 
 -- the sweep's own call on the world w, and then any calls
 abbrev pub runSweep : ℕ → World → ℕ → Settings → Bool → List Made → Run

@@ -1,2 +1,4 @@
 pub mod Shown
 pub mod View
+pub mod Cases
+pub mod Keeps

@@ -1,0 +1,266 @@
+-- One call keeps the invariant, moves the book as it is fed, and tells its program what the book says. Assumes nothing.
+use mathlib.Core.Path.{_≡_, refl, sym, ap, ap₂, _∙_, subst}
+use mathlib.Core.Bool.{Bool, true, false, cond, not, _&&_, true≢false}
+use mathlib.Core.List.{List, [], _∷_, _++_}
+use mathlib.Core.Logic.{⊎-elim}
+use Prim.Native.Nat.{ℕ, zero, suc, _+_, _-_, _*_, _/_, _%_, _≤_, _<_}
+use native.Mathlib.Omega.{arith}
+use native.Mathlib.Decide.{ℕ-discrete}
+use borrow.Author.Tests.{eqb-true, eqb-false, eq-eqb, ne-eqb, leb-true, not-true}
+use lib.IntN.{ℤ, pos, negsuc}
+use lib.Dec.{eqb, leb, ltb}
+use lib.ListN.{length, set, length-set}
+use Rattle.refusals.specs.declared.Refusal.{Refusal}
+use Rattle.refusals.specs.declared.Refusal.the-variants.{QuestionOpen, NoRun, Zero}
+use Rattle.refusals.specs.Number.{number}
+use Rattle.words.specs.Bits.{bitAt}
+use Rattle.words.proofs.Tests.{by-cond, when, unless}
+use Rattle.runs.specs.declared.Found.{Found}
+use Rattle.runs.specs.declared.Found.the-variants.{At, Nothing}
+use Rattle.runs.specs.Lowest.{least, lowestRun}
+use Rattle.runs.proofs.LowestLaws.{First, first-says, least-at, least-none}
+use Rattle.runs.proofs.SearchLaws.{and-both}
+use Rattle.options.specs.Options.{arenaAllowed}
+use Rattle.arena.specs.declared.Arena.{Arena}
+use Rattle.arena.specs.declared.Commitment.{Commitment}
+use Rattle.arena.specs.Claiming.{findRun, takeRun, dirtyRun, finishGrant, giveBackRun}
+use Rattle.arena.specs.Releasing.{releaseRun}
+use Rattle.arena.specs.Sweeping.{sweepDue, disarm, toAsk, young, nextAsked, borrowChunk, returnChunk, rearm}
+use Rattle.lookup.specs.Place.{isInside}
+use Rattle.purge.specs.Stamps.{stampsOf}
+use Rattle.arena_laws.specs.Rows.{Rows}
+use Rattle.arena_laws.proofs.Changes.{found-inside, disarm-rows, return-rows, rearm-rows}
+use Rattle.layer.specs.declared.Settings.{Settings}
+use Rattle.layer.specs.declared.Sweep.{Sweep}
+use Rattle.layer.specs.declared.Question.{Question}
+use Rattle.layer.specs.declared.Question.the-variants.{Idle, Committing, Purging, Reserving, GivingBack}
+use Rattle.layer.specs.declared.Waiting.{Waiting}
+use Rattle.layer.specs.declared.Waiting.the-variants.{Reserve, Claim}
+use Rattle.layer.specs.declared.Kind.{Kind}
+use Rattle.layer.specs.declared.Kind.the-variants.{ForCommit, ForPurge, ForMemory, ForGiveBack, ForNone}
+use Rattle.layer.specs.declared.Answer.{Answer}
+use Rattle.layer.specs.declared.Reply.{Reply}
+use Rattle.layer.specs.World.{Outcome, stateOf, worldOf, outcome, reply, after, turnDown}
+use Rattle.layer.specs.Table.{at, isAt}
+use Rattle.layer.specs.Registering.{askMemory, withRecord, register, grows}
+use Rattle.layer.specs.Claiming.{eligible, serves, missReply, grantFound, searchAt, searchOf, claimOf}
+use Rattle.layer.specs.Releasing.{releaseOf}
+use Rattle.layer.specs.Sweeping.{purgeReply, sweptReply, visitAt, visit, sweepFrom}
+use Rattle.layer.specs.Answering.{isFor, counted, failReply, resume, answerCommit, answerPurge, answerMemory, answerTo, answerOf}
+use Rattle.layer.specs.Step.{Call, reserve, manage, adopt, claim, release, sweep, answer, owns, area, gate, stepOn}
+use Rattle.layer_laws.proofs.Tools.{at-same, at-other}
+use Rattle.layer_laws.proofs.Facts.{SoundTable, SoundQuestion}
+use Rattle.share_book.specs.Book.{Book, Fed, claims, releases, Say, refused, granted, released, Turn, turn, claimed, hold, unhold, enter, enterAll, sayAll}
+use Rattle.share_book.specs.Sequence.{isIdle, Role, feeds, closes, aside, inRange, ends, role, fedOf, said, toldOf, View, calm, committing, purging, viewOf, owedIn, isAnswer, declines}
+use Rattle.share_book.proofs.Shown.{bookIn, Mine, Stays, bookAt, owedAt, Inv, Fits}
+use Rattle.share_book.proofs.View.{view-commit, view-purge, view-commit-other, view-purge-other, book-granted, book-taken, book-committed, book-released, say-fresh, owed-taken, book-disarmed, book-rearmed, book-borrowed, book-returned, take-stays, dirty-stays, finish-stays, release-stays, disarm-stays, borrow-stays, return-stays, rearm-stays}
+use Rattle.share_book.proofs.Cases.{grant-cases, search-cases, miss-cases, claim-cases, release-in-cases, release-cases, reserve-cases, register-cases, manage-cases, adopt-cases, memory-cases}
+
+append-nil : {A : Type 0} (l : List A) → l ++ [] ≡ l
+append-nil [] = refl
+append-nil (a ∷ l) = ap (λ x. a ∷ x) (append-nil l)
+
+module _ (S p id b n : ℕ) where
+  -- ---- what a call that is none of the arena's business leaves: y put the question that is open after it
+  record Leaves (B : Book) (ws : List Say) (y : ℕ) (o : Outcome) : Type 0 where
+    inv : Inv S p id b n (o .world .records) (o .world .state .count) (o .world .state .question) y
+    book : bookAt S p id b n (o .world .records) (o .world .state .question) ≡ B
+    owed : owedAt S p id b n (o .world .records) (o .world .state .question) ≡ ws
+
+  left : (l : List Arena) (q : Question) (who z : ℕ) (o : Outcome) → Leaves (bookAt S p id b n l q) (owedAt S p id b n l q) (cond (isIdle q) who z) o
+      → Fits S p id b n l q who z aside o
+  left l q who z o h = record { inv = h .inv; book = h .book; says = append-nil (owedAt S p id b n l q) ∙ sym (h .owed) }
+
+  -- nothing but the answer
+  same : (l : List Arena) (k : ℕ) (q : Question) (who z : ℕ) (r : Answer) (stamps : List ℕ) (mark : Bool) → Inv S p id b n l k q z
+      → Fits S p id b n l q who z aside (after (reply r (stateOf k mark q)) l stamps)
+  same l k q who z r stamps mark v = left l q who z _ (record { inv = record { low = v .low; stays = v .stays; mine = go q (v .mine) }; book = refl; owed = refl })
+    where
+      go : (q : Question) → Mine p z (viewOf id q) → Mine p (cond (isIdle q) who z) (viewOf id q)
+      go Idle m = tt
+      go (Committing i s c) m = m
+      go (Purging i j w) m = m
+      go (Reserving chunks bytes commit exclusive waiting) m = m
+      go (GivingBack cause waiting) m = m
+
+  -- ---- a table in which nothing is open about the arena
+  record Holds (B : Book) (l : List Arena) (k : ℕ) : Type 0 where
+    low : id < k
+    stays : Stays b n (at l id)
+    shows : bookIn calm (at l id) ≡ B
+
+  holds : (l : List Arena) (k : ℕ) (q : Question) (z : ℕ) → viewOf id q ≡ calm → Inv S p id b n l k q z → Holds (bookAt S p id b n l q) l k
+  holds l k q z e v = record { low = v .low; stays = v .stays; shows = ap (λ (x : View). bookIn x (at l id)) (sym e) }
+
+  module _ (B : Book) (y : ℕ) where
+    rests : (l : List Arena) (k : ℕ) (q : Question) (r : Answer) (stamps : List ℕ) (mark : Bool) → viewOf id q ≡ calm → Holds B l k
+        → Leaves B [] y (after (reply r (stateOf k mark q)) l stamps)
+    rests l k q r stamps mark e h = record {
+      inv = record { low = h .low; stays = h .stays; mine = subst (Mine p y) (sym e) tt };
+      book = ap (λ (x : View). bookIn x (at l id)) e ∙ h .shows;
+      owed = ap (λ (x : View). owedIn S x (at l id)) e;
+    }
+
+    -- another record is stored
+    elsewhere : (l : List Arena) (k k′ i : ℕ) (c : Arena) → k ≤ k′ → (i ≡ id → ⊥) → Holds B l k → Holds B (set l i c) k′
+    elsewhere l k k′ i c u d h = record {
+      low = omega (arith, h .low);
+      stays = subst (Stays b n) (sym there) (h .stays);
+      shows = ap (bookIn calm) there ∙ h .shows;
+    }
+      where
+        there : at (set l i c) id ≡ at l id
+        there = at-other l i id c (λ e. d (sym e))
+
+    module _ (l : List Arena) (stamps : List ℕ) (k : ℕ) (mark : Bool) (h : Holds B l k) where
+      -- ---- claims that do not find the arena
+      grants : (i m : ℕ) (commits : Bool) → (i ≡ id → ⊥) → Leaves B [] y (grantFound S l stamps k mark i m commits (findRun (at l i) m))
+      grants i m commits d =
+          grant-cases S l stamps k mark (Leaves B [] y) i m commits (λ e. rests l k Idle _ stamps mark refl h)
+          (λ s e. rests (set l i (dirtyRun (takeRun (at l i) s m) s m)) k Idle _ stamps mark refl (elsewhere l k k i _ (omega arith) d h))
+          (λ s e. rests (set l i (takeRun (at l i) s m)) k (Committing i s m) _ stamps mark (view-commit-other id i s m d) (elsewhere l k k i _ (omega arith) d h))
+
+      -- a search that does not find it; what a miss leaves is given
+      seeks : (at-id : ℤ) (m : ℕ) (commits : Bool) (missed : Reply) → ((i : ℕ) → serves at-id m l i ≡ true → i ≡ id → ⊥) → Leaves B [] y (after missed l stamps)
+          → Leaves B [] y (searchOf S l stamps k mark at-id m commits missed)
+      seeks at-id m commits missed d e = search-cases S l stamps k mark (Leaves B [] y) at-id m commits missed (λ f. e) (λ i u f. grants i m commits (d i f))
+
+      -- an id that is negative passes an exclusive arena over
+      not-exclusive : (j m i : ℕ) → serves (negsuc j) m l i ≡ true → i ≡ id → ⊥
+      unfolding serves eligible
+      not-exclusive j m i f e =
+          true≢false (sym (h .stays .exclusive) ∙ ap (λ (x : ℕ). at l x .exclusive) (sym e)
+          ∙ not-true (at l i .exclusive) (and-both (not (at l i .exclusive)) (isAt (findRun (at l i) m)) f .0))
+
+      -- and one that is not names one arena
+      not-named : (j m i : ℕ) → (j ≡ id → ⊥) → serves (pos j) m l i ≡ true → i ≡ id → ⊥
+      unfolding serves eligible
+      not-named j m i d f e = d (sym (eqb-true i j (and-both (eqb i j) (isAt (findRun (at l i) m)) f .0)) ∙ e)
+
+      asks-memory : (size page : ℕ) (commit large exclusive : Bool) (waiting : Waiting) → Leaves B [] y (after (askMemory S k mark size page commit large exclusive waiting) l stamps)
+      unfolding askMemory
+      asks-memory size page commit large exclusive waiting = rests l k _ _ stamps mark refl h
+
+      claims-elsewhere : (at-id : ℤ) (m : ℕ) (commits : Bool) (settings : Settings) → ((i : ℕ) → serves at-id m l i ≡ true → i ≡ id → ⊥)
+          → Leaves B [] y (claimOf S l stamps k mark at-id m commits settings)
+      claims-elsewhere at-id m commits settings d =
+          claim-cases S l stamps k mark (Leaves B [] y) at-id m commits settings (λ e. rests l k Idle _ stamps mark refl h) (λ e f. rests l k Idle _ stamps mark refl h)
+          (λ e f. seeks at-id m commits _ d
+          (miss-cases S l stamps k mark (Leaves B [] y) at-id m commits settings (rests l k Idle _ stamps mark refl h) (rests l k Idle _ stamps true refl h)
+          (asks-memory (settings .reserve) (settings .page) false false false (Claim m commits))))
+
+      -- ---- releases outside the range
+      releases-elsewhere : (x m : ℕ) (told : Commitment) (pending : Bool) (now delay : ℕ) → isInside S (at l id) x ≡ false
+          → Leaves B [] y (releaseOf S l stamps k mark x m told pending now delay)
+      releases-elsewhere x m told pending now delay c =
+          release-cases S l stamps k mark (Leaves B [] y) m told pending now delay x (λ e. rests l k Idle _ stamps mark refl h) (λ e f. rests l k Idle _ stamps mark refl h)
+          (λ i e u f. release-in-cases S l stamps k mark (Leaves B [] y) m told pending now delay i (x - at l i .base)
+          (λ g. rests l k Idle _ stamps mark refl h) (λ g v. rests l k Idle _ stamps mark refl h)
+          (λ g v. rests (set l i (releaseRun (at l i) ((x - at l i .base) / S) m told pending now delay)) k Idle _ _ mark refl
+          (elsewhere l k k i _ (omega arith) (λ d. true≢false (sym f ∙ ap (λ (j : ℕ). isInside S (at l j) x) d ∙ c)) h)))
+
+      -- ---- registering: always past the last arena
+      added : (c : Arena) → Holds B (withRecord l k c) (suc k)
+      added c = elsewhere l k (suc k) k c (omega arith) (λ d. omega (arith, d, h .low)) h
+
+      registers-one : (chunks : ℕ) (c : Arena) → Leaves B [] y (register l stamps k mark chunks c)
+      registers-one chunks c =
+          register-cases S l stamps k mark (Leaves B [] y) chunks c (rests l k Idle _ stamps mark refl h) (rests l k Idle _ stamps mark refl h)
+          (λ e f. rests (withRecord l k c) (suc k) Idle _ _ mark refl (added c))
+
+      -- an arena that grows is not exclusive
+      not-grown : (i address m : ℕ) → grows S (at l i) address m ≡ true → i ≡ id → ⊥
+      unfolding grows
+      not-grown i address m f e =
+          true≢false (sym (h .stays .exclusive) ∙ ap (λ (x : ℕ). at l x .exclusive) (sym e)
+          ∙ not-true (at l i .exclusive) (and-both (not (at l i .exclusive)) _ (and-both (at l i .owned) _ f .1) .0))
+
+    -- ---- answers to a memory question
+
+    -- what waited goes on in the new table
+    resumes : (l : List Arena) (stamps : List ℕ) (k : ℕ) (mark : Bool) (h : Holds B l k) (c : Arena) (waiting : Waiting) → Leaves B [] y (resume S l stamps k mark c waiting)
+    resumes l stamps k mark h c Reserve = rests (withRecord l k c) (suc k) Idle _ _ mark refl (added l stamps k mark h c)
+    resumes l stamps k mark h c (Claim m commits) =
+        let u : Holds B (withRecord l k c) (suc k) = added l stamps k mark h c in
+        seeks (withRecord l k c) _ (suc k) mark u (negsuc 0) m commits _ (not-exclusive (withRecord l k c) stamps (suc k) mark u 0 m) (rests (withRecord l k c) (suc k) Idle _ _ mark refl u)
+
+    fails : (l : List Arena) (stamps : List ℕ) (k : ℕ) (mark : Bool) (h : Holds B l k) (why : Refusal) (waiting : Waiting) → Leaves B [] y (after (failReply k mark why waiting) l stamps)
+    fails l stamps k mark h why Reserve = rests l k Idle _ stamps mark refl h
+    fails l stamps k mark h why (Claim m commits) = rests l k Idle _ stamps true refl h
+
+    remembers : (l : List Arena) (stamps : List ℕ) (k : ℕ) (mark : Bool) (h : Holds B l k) (chunks bytes : ℕ) (commit exclusive : Bool) (waiting : Waiting) (granted : Bool) (base : ℕ)
+        → Leaves B [] y (answerMemory S l stamps k mark chunks bytes commit exclusive waiting granted base)
+    remembers l stamps k mark h chunks bytes commit exclusive waiting false base = fails l stamps k mark h _ waiting
+    remembers l stamps k mark h chunks bytes commit exclusive waiting true base =
+        memory-cases S l stamps k mark (Leaves B [] y) chunks bytes commit exclusive waiting base (rests l k _ _ stamps mark refl h) (λ cause. rests l k _ _ stamps mark refl h)
+        (λ e f. resumes l stamps k mark h _ waiting)
+
+    -- ---- sweeps: many stores, and at most one question
+
+    -- the arena's record with nothing open about it
+    record Ready (a : Arena) : Type 0 where
+      rows : Rows a
+      stays : Stays b n a
+      shows : bookIn calm a ≡ B
+
+    module _ (stamps : List ℕ) (k : ℕ) (mark : Bool) (w : Sweep) (low : id < k) (few : k ≤ 32) (small : n ≤ 1024) where
+      by-store : (P : Arena → Type 0) (l : List Arena) (i : ℕ) (c : Arena) → length l ≡ 32 → (i ≡ id → P c) → ((i ≡ id → ⊥) → P (at l id)) → P (at (set l i c) id)
+      by-store P l i c u f g = go (ℕ-discrete i id)
+        where
+          go : Dec (i ≡ id) → P (at (set l i c) id)
+          go (yes e) = subst P (sym (ap (λ (x : ℕ). at (set l x c) id) e ∙ at-same l id c (omega (arith, u, low, few)))) (f e)
+          go (no d) = subst P (sym (at-other l i id c (λ e. d (sym e)))) (g d)
+
+      -- arena i, whose record is a, from a place on
+      visits : (l : List Arena) (i : ℕ) (a : Arena) (from : ℕ) (rest : List Arena → Outcome) → length l ≡ 32 → (i ≡ id → Ready a) → ((i ≡ id → ⊥) → Ready (at l id))
+          → ((m : List Arena) → length m ≡ 32 → Ready (at m id) → Leaves B [] y (rest m)) → Leaves B [] y (visit S stamps k mark w l i a from rest)
+      unfolding visit nextAsked purgeReply toAsk
+      visits l i a from rest u f g next =
+          go (least (toAsk a (stampsOf stamps i) (w .force) (w .now) (w .delay)) from (a .chunks - from))
+          (first-says (toAsk a (stampsOf stamps i) (w .force) (w .now) (w .delay)) from (a .chunks - from))
+        where
+          go : (x : Found) → First (toAsk a (stampsOf stamps i) (w .force) (w .now) (w .delay)) from (a .chunks - from) x → Leaves B [] y (visitAt S stamps k mark w l i a rest x)
+          go Nothing h =
+              next (set l i (rearm a (stampsOf stamps i) (w .force) (w .now) (w .delay))) (length-set l i _ ∙ u)
+              (by-store Ready l i _ u
+              (λ e. let r : Ready a = f e in
+              record {
+                rows = rearm-rows a (stampsOf stamps i) (w .force) (w .now) (w .delay) (r .rows);
+                stays = rearm-stays b n a (r .stays) (stampsOf stamps i) (w .force) (w .now) (w .delay);
+                shows = book-rearmed a (stampsOf stamps i) (w .force) (w .now) (w .delay) ∙ r .shows;
+              })
+              g)
+          go (At j) h = ask (ℕ-discrete i id)
+            where
+              clear : bitAt (a .used) j ≡ false
+              clear = not-true (bitAt (a .used) j) (and-both (not (young (stampsOf stamps i) (w .force) (w .now) (w .delay) j)) _ (and-both (bitAt (a .pending) j) _ (h .2) .1) .1)
+
+              own : Ready a → Leaves B [] y (after (purgeReply S k mark w id a j) (set l id (borrowChunk a j)) stamps)
+              own r =
+                  let here : at (set l id (borrowChunk a j)) id ≡ borrowChunk a j = at-same l id (borrowChunk a j) (omega (arith, u, low, few)) in
+                  record {
+                    inv = record {
+                      low = low;
+                      stays = subst (Stays b n) (sym here) (borrow-stays b n a (r .stays) j);
+                      mine = subst (Mine p y) (sym (view-purge id j w)) tt;
+                    };
+                    book = ap₂ bookIn (view-purge id j w) here ∙ book-borrowed a j (r .rows) (omega (arith, h .0, h .1, r .stays .chunks, small)) clear ∙ r .shows;
+                    owed = ap₂ (owedIn S) (view-purge id j w) here;
+                  }
+
+              ask : Dec (i ≡ id) → Leaves B [] y (after (purgeReply S k mark w i a j) (set l i (borrowChunk a j)) stamps)
+              ask (yes e) = subst (λ (x : ℕ). Leaves B [] y (after (purgeReply S k mark w x a j) (set l x (borrowChunk a j)) stamps)) (sym e) (own (f e))
+              ask (no d) =
+                  rests (set l i (borrowChunk a j)) k (Purging i j w) _ stamps mark (view-purge-other id i j w d)
+                  (elsewhere l k k i _ (omega arith) d (record { low = low; stays = g d .stays; shows = g d .shows }))
+
+      sweeps : (f i : ℕ) (l : List Arena) → length l ≡ 32 → Ready (at l id) → Leaves B [] y (sweepFrom S stamps k mark w f i l)
+      unfolding sweepFrom sweptReply
+      sweeps zero i l u r = rests l k Idle _ stamps mark refl (record { low = low; stays = r .stays; shows = r .shows })
+      sweeps (suc f) i l u r =
+          by-cond (Leaves B [] y) (sweepDue (at l i) (w .force) (w .now)) _ _
+          (λ e. visits l i (disarm (at l i)) 0 (sweepFrom S stamps k mark w f (i + 1)) u
+          (λ d. subst (λ (x : ℕ). Ready (disarm (at l x))) (sym d)
+          (record { rows = disarm-rows (at l id) (r .rows); stays = disarm-stays b n (at l id) (r .stays); shows = book-disarmed calm (at l id) ∙ r .shows }))
+          (λ d. r) (λ m v x. sweeps f (i + 1) m v x))
+          (λ e. sweeps f (i + 1) l u r)

@@ -38,14 +38,12 @@ use Rattle.layer.specs.Claiming.{serves, isNegative, asksCommit, grantArena, gr
 use Rattle.layer.specs.Releasing.{releases, releaseReply, releaseIn, releaseAt, releaseOf}
 use Rattle.layer.specs.Answering.{giveBackReply, resume, answerMemory}
 
-module _ (S : ℕ) (l : List Arena) (stamps : List ℕ) (k : ℕ) (mark : Bool) (P : Outcome → Type 0) where
+module _ (S : ℕ) (l : List Arena) (stamps : List ℕ) (k : ℕ) (mark : Bool) where
   -- turned down, and no question open
   abbrev pub down : Refusal → Outcome
   down why = after (turnDown why (calm k mark)) l stamps
 
-  -- ---- claims
-
-  -- what a claim of m makes of the run from s on of arena i
+  -- the run of m from s on of arena i, granted, and taken while its commit is asked for
   abbrev pub granting : ℕ → ℕ → ℕ → Outcome
   granting i m s =
       after (reply (Claimed (at l i .base + s * S) (runFresh (at l i) s m) (runCommitted (at l i) s m)) (calm k mark)) (set l i (dirtyRun (takeRun (at l i) s m) s m)) stamps
@@ -53,8 +51,11 @@ module _ (S : ℕ) (l : List Arena) (stamps : List ℕ) (k : ℕ) (mark : Bool) 
   abbrev pub asking : ℕ → ℕ → ℕ → Outcome
   asking i m s = after (reply (Asks (AskCommit (at l i .base + s * S) (m * S))) (stateOf k mark (Committing i s m))) (set l i (takeRun (at l i) s m)) stamps
 
-  pub grant-cases : (i m : ℕ) (commits : Bool) → (findRun (at l i) m ≡ Nothing → P (down NoRun))
-      → ((s : ℕ) → findRun (at l i) m ≡ At s → P (granting i m s)) → ((s : ℕ) → findRun (at l i) m ≡ At s → P (asking i m s))
+module _ (S : ℕ) (l : List Arena) (stamps : List ℕ) (k : ℕ) (mark : Bool) (P : Outcome → Type 0) where
+  -- ---- claims
+
+  pub grant-cases : (i m : ℕ) (commits : Bool) → (findRun (at l i) m ≡ Nothing → P (down S l stamps k mark NoRun))
+      → ((s : ℕ) → findRun (at l i) m ≡ At s → P (granting S l stamps k mark i m s)) → ((s : ℕ) → findRun (at l i) m ≡ At s → P (asking S l stamps k mark i m s))
       → P (grantFound S l stamps k mark i m commits (findRun (at l i) m))
   unfolding grantArena grantReply
   grant-cases i m commits none grant ask = go (findRun (at l i) m) refl
@@ -80,7 +81,7 @@ module _ (S : ℕ) (l : List Arena) (stamps : List ℕ) (k : ℕ) (mark : Bool) 
       go (At i) h = found i (omega (arith, h .1)) (h .2)
       go Nothing h = none (λ i u. h i (omega arith) (omega arith))
 
-  pub miss-cases : (id : ℤ) (m : ℕ) (commits : Bool) (settings : Settings) → P (down NoRun) → P (after (turnDown NoRun (calm k true)) l stamps)
+  pub miss-cases : (id : ℤ) (m : ℕ) (commits : Bool) (settings : Settings) → P (down S l stamps k mark NoRun) → P (after (turnDown NoRun (calm k true)) l stamps)
       → P (after (askMemory S k mark (settings .reserve) (settings .page) false false false (Claim m commits)) l stamps)
       → P (after (missReply S k mark id m commits settings) l stamps)
   unfolding missReply
@@ -88,8 +89,8 @@ module _ (S : ℕ) (l : List Arena) (stamps : List ℕ) (k : ℕ) (mark : Bool) 
       by-cond (λ (r : Reply). P (after r l stamps)) (isNegative id && (leb S (settings .reserve) && not mark)) _ _
       (λ e. by-cond (λ (r : Reply). P (after r l stamps)) (tooLarge S (settings .reserve)) _ _ (λ f. gave-up) (λ f. ask)) (λ e. none)
 
-  pub claim-cases : (id : ℤ) (m : ℕ) (commits : Bool) (settings : Settings) → (eqb m 0 ≡ true → P (down Zero))
-      → (eqb m 0 ≡ false → arenaAllowed (settings .off) id ≡ false → P (down ArenasOff))
+  pub claim-cases : (id : ℤ) (m : ℕ) (commits : Bool) (settings : Settings) → (eqb m 0 ≡ true → P (down S l stamps k mark Zero))
+      → (eqb m 0 ≡ false → arenaAllowed (settings .off) id ≡ false → P (down S l stamps k mark ArenasOff))
       → (eqb m 0 ≡ false → arenaAllowed (settings .off) id ≡ true → P (searchOf S l stamps k mark id m commits (missReply S k mark id m commits settings)))
       → P (claimOf S l stamps k mark id m commits settings)
   unfolding claimOf
@@ -100,8 +101,8 @@ module _ (S : ℕ) (l : List Arena) (stamps : List ℕ) (k : ℕ) (mark : Bool) 
 
   module _ (m : ℕ) (told : Commitment) (pending : Bool) (now delay : ℕ) where
     -- the run of m at so many bytes from arena i's base on
-    pub release-in-cases : (i offset : ℕ) → (eqb (offset % S) 0 ≡ false → P (down NotWhole))
-        → (eqb (offset % S) 0 ≡ true → leb (offset / S + m) (at l i .chunks) ≡ false → P (down PastEnd))
+    pub release-in-cases : (i offset : ℕ) → (eqb (offset % S) 0 ≡ false → P (down S l stamps k mark NotWhole))
+        → (eqb (offset % S) 0 ≡ true → leb (offset / S + m) (at l i .chunks) ≡ false → P (down S l stamps k mark PastEnd))
         → (eqb (offset % S) 0 ≡ true → leb (offset / S + m) (at l i .chunks) ≡ true
             → P (after (reply Released (calm k mark)) (set l i (releaseRun (at l i) (offset / S) m told pending now delay))
                 (cond pending (stampRun stamps (1024 * i + offset / S) m now) stamps)))
@@ -118,26 +119,26 @@ module _ (S : ℕ) (l : List Arena) (stamps : List ℕ) (k : ℕ) (mark : Bool) 
         go true e false f = past e f
         go true e true f = whole e f
 
-    pub release-cases : (x : ℕ) → (eqb m 0 ≡ true → P (down Zero)) → (eqb m 0 ≡ false → findArena S l k x ≡ Nothing → P (down NotInside))
+    pub release-cases : (x : ℕ) → (eqb m 0 ≡ true → P (down S l stamps k mark Zero)) → (eqb m 0 ≡ false → ((i : ℕ) → i < k → isInside S (at l i) x ≡ false) → P (down S l stamps k mark NotInside))
         → ((i : ℕ) → eqb m 0 ≡ false → i < k → isInside S (at l i) x ≡ true → P (releaseIn S l stamps k mark i (x - at l i .base) m told pending now delay))
         → P (releaseOf S l stamps k mark x m told pending now delay)
     unfolding releaseOf findArena
     release-cases x zero nowhere inside =
-        by-cond P (eqb m 0) _ _ zero (λ e. go e (least (λ i. isInside S (at l i) x) 0 k) refl (first-says (λ i. isInside S (at l i) x) 0 k))
+        by-cond P (eqb m 0) _ _ zero (λ e. go e (least (λ i. isInside S (at l i) x) 0 k) (first-says (λ i. isInside S (at l i) x) 0 k))
       where
-        go : eqb m 0 ≡ false → (f : Found) → findArena S l k x ≡ f → First (λ i. isInside S (at l i) x) 0 k f → P (releaseAt S l stamps k mark x m told pending now delay f)
-        go e (At i) g h = inside i e (omega (arith, h .1)) (h .2)
-        go e Nothing g h = nowhere e g
+        go : eqb m 0 ≡ false → (f : Found) → First (λ i. isInside S (at l i) x) 0 k f → P (releaseAt S l stamps k mark x m told pending now delay f)
+        go e (At i) h = inside i e (omega (arith, h .1)) (h .2)
+        go e Nothing h = nowhere e (λ i u. h i (omega arith) (omega arith))
 
   -- ---- registering
 
-  pub reserve-cases : (size : ℕ) (commit large exclusive : Bool) (page : ℕ) → P (down ChunkCount)
+  pub reserve-cases : (size : ℕ) (commit large exclusive : Bool) (page : ℕ) → P (down S l stamps k mark ChunkCount)
       → ((waiting : Waiting) → P (after (askMemory S k mark size page commit large exclusive waiting) l stamps)) → P (reserveOf S l stamps k mark size commit large exclusive page)
   unfolding reserveOf reserveReply
   reserve-cases size commit large exclusive page many ask =
       by-cond (λ (r : Reply). P (after r l stamps)) (tooLarge S size) _ _ (λ e. many) (λ e. ask _)
 
-  pub register-cases : (chunks : ℕ) (a : Arena) → P (down ChunkCount) → P (down TableFull)
+  pub register-cases : (chunks : ℕ) (a : Arena) → P (down S l stamps k mark ChunkCount) → P (down S l stamps k mark TableFull)
       → (badCount chunks ≡ false → k < 32 → P (after (reply (Registered k) (calm (suc k) mark)) (withRecord l k a) (withStamps stamps k)))
       → P (register l stamps k mark chunks a)
   unfolding registers registerReply
@@ -151,7 +152,7 @@ module _ (S : ℕ) (l : List Arena) (stamps : List ℕ) (k : ℕ) (mark : Bool) 
       go false e true f = full
       go false e false f = new e (leb-false 32 k f)
 
-  pub manage-cases : (start size : ℕ) (exclusive : Bool) (node : ℤ) (mapped reserved : Bool) → P (down NoWholeChunk) → P (down HostRefused) → P (down Range)
+  pub manage-cases : (start size : ℕ) (exclusive : Bool) (node : ℤ) (mapped reserved : Bool) → P (down S l stamps k mark NoWholeChunk) → P (down S l stamps k mark HostRefused) → P (down S l stamps k mark Range)
       → (let chunks = (pastWhole S start size - firstWhole S start) / S in P (register l stamps k mark chunks (managedArena (firstWhole S start) chunks exclusive node)))
       → P (manageOf S l stamps k mark start size exclusive node mapped reserved)
   unfolding manageOf
@@ -160,7 +161,7 @@ module _ (S : ℕ) (l : List Arena) (stamps : List ℕ) (k : ℕ) (mark : Bool) 
       (λ e. by-cond P (mapped || not reserved) _ _ (λ f. host)
       (λ f. by-cond P (badRange S l k (firstWhole S start) (pastWhole S start size - firstWhole S start)) _ _ (λ g. range) (λ g. add)))
 
-  pub adopt-cases : (address size : ℕ) → P (down Zero) → P (down NotWhole) → P (down Range)
+  pub adopt-cases : (address size : ℕ) → P (down S l stamps k mark Zero) → P (down S l stamps k mark NotWhole) → P (down S l stamps k mark Range)
       → ((i : ℕ) → i < k → grows S (at l i) address (size / S) ≡ true → P (after (reply (Registered i) (calm k mark)) (set l i (grownArena (at l i) (size / S))) stamps))
       → P (register l stamps k mark (size / S) (adoptedArena address (size / S)))
       → P (adoptOf S l stamps k mark address size)

@@ -11,9 +11,10 @@ use lib.IntN.{ℤ, pos, negsuc}
 use lib.Dec.{eqb, leb, ltb}
 use lib.ListN.{length, set, length-set}
 use Rattle.refusals.specs.declared.Refusal.{Refusal}
-use Rattle.refusals.specs.declared.Refusal.the-variants.{QuestionOpen, NoRun, Zero}
+use Rattle.refusals.specs.declared.Refusal.the-variants.{QuestionOpen, Zero, NotWhole, PastEnd, NoRun}
 use Rattle.refusals.specs.Number.{number}
 use Rattle.words.specs.Bits.{bitAt}
+use Rattle.words.proofs.RowLaws.{lt-or-le}
 use Rattle.words.proofs.Tests.{by-cond, when, unless}
 use Rattle.runs.specs.declared.Found.{Found}
 use Rattle.runs.specs.declared.Found.the-variants.{At, Nothing}
@@ -26,7 +27,8 @@ use Rattle.arena.specs.declared.Commitment.{Commitment}
 use Rattle.arena.specs.Claiming.{findRun, takeRun, dirtyRun, finishGrant, giveBackRun}
 use Rattle.arena.specs.Releasing.{releaseRun}
 use Rattle.arena.specs.Sweeping.{sweepDue, disarm, toAsk, young, nextAsked, borrowChunk, returnChunk, rearm}
-use Rattle.lookup.specs.Place.{isInside}
+use Rattle.lookup.specs.Place.{bytesOf, endOf, isInside}
+use Rattle.lookup.proofs.PlaceLaws.{Within, inside-facts}
 use Rattle.purge.specs.Stamps.{stampsOf}
 use Rattle.arena_laws.specs.Rows.{Rows}
 use Rattle.arena_laws.proofs.Changes.{found-inside, disarm-rows, return-rows, rearm-rows}
@@ -44,21 +46,46 @@ use Rattle.layer.specs.World.{Outcome, stateOf, worldOf, outcome, reply, after,
 use Rattle.layer.specs.Table.{at, isAt}
 use Rattle.layer.specs.Registering.{askMemory, withRecord, register, grows}
 use Rattle.layer.specs.Claiming.{eligible, serves, missReply, grantFound, searchAt, searchOf, claimOf}
-use Rattle.layer.specs.Releasing.{releaseOf}
+use Rattle.layer.specs.Releasing.{releaseIn, releaseOf}
 use Rattle.layer.specs.Sweeping.{purgeReply, sweptReply, visitAt, visit, sweepFrom}
 use Rattle.layer.specs.Answering.{isFor, counted, failReply, resume, answerCommit, answerPurge, answerMemory, answerTo, answerOf}
 use Rattle.layer.specs.Step.{Call, reserve, manage, adopt, claim, release, sweep, answer, owns, area, gate, stepOn}
 use Rattle.layer_laws.proofs.Tools.{at-same, at-other}
 use Rattle.layer_laws.proofs.Facts.{SoundTable, SoundQuestion}
+use Rattle.layer_laws.proofs.Registered.{meets-false}
 use Rattle.share_book.specs.Book.{Book, Fed, claims, releases, Say, refused, granted, released, Turn, turn, claimed, hold, unhold, enter, enterAll, sayAll}
 use Rattle.share_book.specs.Sequence.{isIdle, Role, feeds, closes, aside, inRange, ends, role, fedOf, said, toldOf, View, calm, committing, purging, viewOf, owedIn, isAnswer, declines}
 use Rattle.share_book.proofs.Shown.{bookIn, Mine, Stays, bookAt, owedAt, Inv, Fits}
 use Rattle.share_book.proofs.View.{view-commit, view-purge, view-commit-other, view-purge-other, book-granted, book-taken, book-committed, book-released, say-fresh, owed-taken, book-disarmed, book-rearmed, book-borrowed, book-returned, take-stays, dirty-stays, finish-stays, release-stays, disarm-stays, borrow-stays, return-stays, rearm-stays}
-use Rattle.share_book.proofs.Cases.{grant-cases, search-cases, miss-cases, claim-cases, release-in-cases, release-cases, reserve-cases, register-cases, manage-cases, adopt-cases, memory-cases}
+use Rattle.share_book.proofs.Cases.{down, granting, asking, grant-cases, search-cases, miss-cases, claim-cases, release-in-cases, release-cases, reserve-cases, register-cases, manage-cases, adopt-cases, memory-cases}
 
 append-nil : {A : Type 0} (l : List A) → l ++ [] ≡ l
 append-nil [] = refl
 append-nil (a ∷ l) = ap (λ x. a ∷ x) (append-nil l)
+
+-- an address lies in one arena at most
+pub only-one : (S : ℕ) (l : List Arena) (k i j x : ℕ) → SoundTable S l k → i < k → j < k → isInside S (at l i) x ≡ true → isInside S (at l j) x ≡ true → i ≡ j
+only-one S l k i j x t u v e f = go (ℕ-discrete i j)
+  where
+    apart : (i j : ℕ) → i < j → j < k → isInside S (at l i) x ≡ true → isInside S (at l j) x ≡ true → ⊥
+    apart i j u v e f =
+        let g : Within S (at l i) x = inside-facts S (at l i) x e in
+        let h : Within S (at l j) x = inside-facts S (at l j) x f in
+        ⊎-elim (λ (m : endOf S (at l i) ≤ at l j .base). omega (arith, g .before, h .from, ends i)) (λ (m : at l j .base + bytesOf S (at l j) ≤ at l i .base). omega (arith, g .from, h .before, bytes j))
+        (meets-false S (at l i) (at l j .base) (bytesOf S (at l j)) (t .apart i j u v) (omega (arith, h .from, h .before, bytes j)))
+      where
+        bytes : (j : ℕ) → bytesOf S (at l j) ≡ at l j .chunks * S
+        bytes j = unfold bytesOf in refl
+
+        ends : (j : ℕ) → endOf S (at l j) ≡ at l j .base + at l j .chunks * S
+        ends j = unfold endOf bytesOf in refl
+
+    go : Dec (i ≡ j) → i ≡ j
+    go (yes d) = d
+    go (no d) = ⊎-elim (λ (m : i < j). absurd (apart i j m v e f)) (λ (m : j ≤ i). absurd (apart j i (omega (arith, ne d)) u f e)) (lt-or-le i j)
+      where
+        ne : (i ≡ j → ⊥) → (j ≡ i → ⊥)
+        ne d e = d (sym e)
 
 module _ (S p id b n : ℕ) where
   -- ---- what a call that is none of the arena's business leaves: y put the question that is open after it
@@ -70,6 +97,11 @@ module _ (S p id b n : ℕ) where
   left : (l : List Arena) (q : Question) (who z : ℕ) (o : Outcome) → Leaves (bookAt S p id b n l q) (owedAt S p id b n l q) (cond (isIdle q) who z) o
       → Fits S p id b n l q who z aside o
   left l q who z o h = record { inv = h .inv; book = h .book; says = append-nil (owedAt S p id b n l q) ∙ sym (h .owed) }
+
+  -- where nothing is owed
+  quiet : (l : List Arena) (q : Question) (who z : ℕ) (o : Outcome) → owedAt S p id b n l q ≡ [] → Leaves (bookAt S p id b n l q) [] (cond (isIdle q) who z) o
+      → Fits S p id b n l q who z aside o
+  quiet l q who z o e h = left l q who z o (record { inv = h .inv; book = h .book; owed = h .owed ∙ sym e })
 
   -- nothing but the answer
   same : (l : List Arena) (k : ℕ) (q : Question) (who z : ℕ) (r : Answer) (stamps : List ℕ) (mark : Bool) → Inv S p id b n l k q z
@@ -264,3 +296,177 @@ module _ (S p id b n : ℕ) where
           (record { rows = disarm-rows (at l id) (r .rows); stays = disarm-stays b n (at l id) (r .stays); shows = book-disarmed calm (at l id) ∙ r .shows }))
           (λ d. r) (λ m v x. sweeps f (i + 1) m v x))
           (λ e. sweeps f (i + 1) l u r)
+
+  -- ---- what feeds the book: the book's turn and the layer's step side by side
+  record Match (who : ℕ) (x : Turn) (o : Outcome) : Type 0 where
+    inv : Inv S p id b n (o .world .records) (o .world .state .count) (o .world .state .question) who
+    book : bookAt S p id b n (o .world .records) (o .world .state .question) ≡ x .book
+    says : x .say ∷ [] ≡ said (o .answer) ++ owedAt S p id b n (o .world .records) (o .world .state .question)
+
+  as-turn : (who : ℕ) (x y : Turn) (o : Outcome) → x ≡ y → Match who y o → Match who x o
+  as-turn who x y o e m = subst (λ (w : Turn). Match who w o) (sym e) m
+
+  module _ (l : List Arena) (stamps : List ℕ) (k : ℕ) (mark : Bool) (t : SoundTable S l k) (who z : ℕ) where
+    matched : (f : Fed) (o : Outcome) → Match who (enter S lowestRun (bookAt S p id b n l Idle) f) o → Fits S p id b n l Idle who z (feeds f) o
+    matched f o m = record { inv = m .inv; book = m .book; says = m .says }
+
+    -- the arena's record after a store
+    here-at : id < k → (c : Arena) → at (set l id c) id ≡ c
+    here-at low c = at-same l id c (omega (arith, low, t .long, t .few))
+
+    -- a run that ends inside the arena ends inside its maps
+    fits-at : id < k → (s m : ℕ) → s + m ≤ at l id .chunks → s + m ≤ 1024
+    fits-at low s m h = omega (arith, h, t .each id low .range .few)
+
+    module _ (v : Inv S p id b n l k Idle z) where
+      here : (c : Arena) → at (set l id c) id ≡ c
+      here = here-at (v .low)
+
+      turned-down : (why : Refusal) → Match who (turn (refused (number why)) (bookAt S p id b n l Idle)) (after (turnDown why (stateOf k mark Idle)) l stamps)
+      turned-down why = record { inv = record { low = v .low; stays = v .stays; mine = tt }; book = refl; says = refl }
+
+      stored : (c : Arena) (q : Question) (view : View) → Stays b n c → viewOf id q ≡ view → Mine p who view → Inv S p id b n (set l id c) k q who
+      stored c q view x e m = record { low = v .low; stays = subst (Stays b n) (sym (here c)) x; mine = subst (Mine p who) (sym e) m }
+
+      granted-run : (m s : ℕ) → s + m ≤ at l id .chunks → Match who (claimed S (bookAt S p id b n l Idle) m (At s)) (granting S l stamps k mark id m s)
+      granted-run m s h = record {
+        inv = stored (dirtyRun (takeRun (at l id) s m) s m) Idle calm (dirty-stays b n _ (take-stays b n _ (v .stays) s m) s m) refl tt;
+        book = ap (bookIn calm) (here (dirtyRun (takeRun (at l id) s m) s m)) ∙ book-granted (at l id) s m (t .rows id (v .low)) (fits-at (v .low) s m h);
+        says = ap (λ (x : Say). x ∷ []) (say-fresh S (at l id) s m);
+      }
+
+      asked-run : who ≡ p → (m s : ℕ) → s + m ≤ at l id .chunks → Match who (claimed S (bookAt S p id b n l Idle) m (At s)) (asking S l stamps k mark id m s)
+      asked-run w m s h =
+          let there : at (set l id (takeRun (at l id) s m)) id ≡ takeRun (at l id) s m = here (takeRun (at l id) s m) in
+          record {
+            inv = stored (takeRun (at l id) s m) (Committing id s m) (committing s m) (take-stays b n _ (v .stays) s m) (view-commit id s m) w;
+            book = ap₂ bookIn (view-commit id s m) there ∙ book-taken (at l id) s m (t .rows id (v .low)) (fits-at (v .low) s m h);
+            says = ap (λ (x : Say). x ∷ []) (say-fresh S (at l id) s m) ∙ sym (ap₂ (owedIn S) (view-commit id s m) there ∙ owed-taken S (at l id) s m);
+          }
+
+      -- a claim that names the arena finds it exactly if it has the run
+      own-search : who ≡ p → (m : ℕ) (commits : Bool) (settings : Settings)
+          → Match who (claimed S (bookAt S p id b n l Idle) m (findRun (at l id) m)) (searchOf S l stamps k mark (pos id) m commits (missReply S k mark (pos id) m commits settings))
+      own-search w m commits settings =
+          search-cases S l stamps k mark (Match who (claimed S (bookAt S p id b n l Idle) m (findRun (at l id) m))) (pos id) m commits _ missed
+          (λ i u f. subst (λ (j : ℕ). Match who (claimed S (bookAt S p id b n l Idle) m (findRun (at l id) m)) (grantFound S l stamps k mark j m commits (findRun (at l j) m)))
+          (sym (named i f)) run)
+        where
+          named : (i : ℕ) → serves (pos id) m l i ≡ true → i ≡ id
+          named i f = unfold serves eligible in eqb-true i id (and-both (eqb i id) (isAt (findRun (at l i) m)) f .0)
+
+          run : Match who (claimed S (bookAt S p id b n l Idle) m (findRun (at l id) m)) (grantFound S l stamps k mark id m commits (findRun (at l id) m))
+          run =
+              grant-cases S l stamps k mark (Match who (claimed S (bookAt S p id b n l Idle) m (findRun (at l id) m))) id m commits
+              (λ e. as-turn who _ _ _ (ap (claimed S (bookAt S p id b n l Idle) m) e) (turned-down NoRun))
+              (λ s e. as-turn who _ _ _ (ap (claimed S (bookAt S p id b n l Idle) m) e) (granted-run m s (found-inside (at l id) m s e)))
+              (λ s e. as-turn who _ _ _ (ap (claimed S (bookAt S p id b n l Idle) m) e) (asked-run w m s (found-inside (at l id) m s e)))
+
+          missed : ((i : ℕ) → i < k → serves (pos id) m l i ≡ false)
+              → Match who (claimed S (bookAt S p id b n l Idle) m (findRun (at l id) m)) (after (missReply S k mark (pos id) m commits settings) l stamps)
+          missed g = none (findRun (at l id) m) (sym (served id) ∙ g id (v .low))
+            where
+              served : (i : ℕ) → serves (pos id) m l id ≡ isAt (findRun (at l id) m)
+              served i = unfold serves eligible in ap (λ (x : Bool). x && isAt (findRun (at l id) m)) (eq-eqb id id refl)
+
+              none : (f : Found) → isAt f ≡ false → Match who (claimed S (bookAt S p id b n l Idle) m f) (after (missReply S k mark (pos id) m commits settings) l stamps)
+              none (At s) e = absurd (true≢false e)
+              none Nothing e = unfold missReply in turned-down NoRun
+
+      own-claim : who ≡ p → (m : ℕ) (commits : Bool) (settings : Settings)
+          → Match who (enter S lowestRun (bookAt S p id b n l Idle) (claims m)) (claimOf S l stamps k mark (pos id) m commits settings)
+      unfolding enter findRun
+      own-claim w m commits settings =
+          claim-cases S l stamps k mark (Match who (enter S lowestRun (bookAt S p id b n l Idle) (claims m))) (pos id) m commits settings
+          (λ e. as-turn who _ _ _ (when (eqb m 0) _ _ e) (turned-down Zero))
+          (λ e f. absurd (true≢false (sym (allowed (settings .off)) ∙ f)))
+          (λ e f. as-turn who _ _ _ (unless (eqb m 0) _ _ e) (own-search w m commits settings))
+        where
+          allowed : (off : Bool) → arenaAllowed off (pos id) ≡ true
+          allowed true = unfold arenaAllowed in refl
+          allowed false = unfold arenaAllowed in refl
+
+      -- a release in the range is the arena's
+      own-release : (x m : ℕ) (told : Commitment) (pending : Bool) (now delay : ℕ) → isInside S (at l id) x ≡ true
+          → Match who (enter S lowestRun (bookAt S p id b n l Idle) (releases x m)) (releaseOf S l stamps k mark x m told pending now delay)
+      unfolding enter
+      own-release x m told pending now delay c =
+          release-cases S l stamps k mark (Match who (enter S lowestRun (bookAt S p id b n l Idle) (releases x m))) m told pending now delay x
+          (λ e. as-turn who _ _ _ (when (eqb m 0) _ _ e) (turned-down Zero))
+          (λ e f. absurd (true≢false (sym c ∙ f id (v .low))))
+          (λ i e u f. as-turn who _ _ _ (unless (eqb m 0) _ _ e)
+          (subst (λ (j : ℕ). Match who answered (releaseIn S l stamps k mark j (x - at l j .base) m told pending now delay)) (only-one S l k id i x t (v .low) u c f) inside))
+        where
+          answered : Turn
+          answered =
+              cond (eqb ((x - at l id .base) % S) 0)
+              (cond (leb ((x - at l id .base) / S + m) (at l id .chunks)) (turn released (unhold (bookAt S p id b n l Idle) ((x - at l id .base) / S) m)) (turn (refused 9) (bookAt S p id b n l Idle)))
+              (turn (refused 7) (bookAt S p id b n l Idle))
+
+          inside : Match who answered (releaseIn S l stamps k mark id (x - at l id .base) m told pending now delay)
+          inside =
+              release-in-cases S l stamps k mark (Match who answered) m told pending now delay id (x - at l id .base)
+              (λ f. as-turn who _ _ _ (unless (eqb ((x - at l id .base) % S) 0) _ _ f) (turned-down NotWhole))
+              (λ f g. as-turn who _ _ _ (when (eqb ((x - at l id .base) % S) 0) _ _ f ∙ unless (leb ((x - at l id .base) / S + m) (at l id .chunks)) _ _ g) (turned-down PastEnd))
+              (λ f g. as-turn who _ _ _ (when (eqb ((x - at l id .base) % S) 0) _ _ f ∙ when (leb ((x - at l id .base) / S + m) (at l id .chunks)) _ _ g)
+              (record {
+                inv = stored _ Idle calm (release-stays b n (at l id) (v .stays) ((x - at l id .base) / S) m told pending now delay) refl tt;
+                book = ap (bookIn calm) (here _) ∙ book-released (at l id) ((x - at l id .base) / S) m (t .rows id (v .low)) (fits-at (v .low) _ m (leb-true _ _ g)) told pending now delay;
+                says = refl;
+              }))
+
+    -- ---- answers
+
+    -- yes to the arena's own commit question: its program gets what was owed
+    own-yes : (s m : ℕ) → SoundQuestion l k (Committing id s m) → Inv S p id b n l k (Committing id s m) z
+        → Fits S p id b n l (Committing id s m) who z closes (answerCommit S l stamps k mark id s m true)
+    own-yes s m h v = record {
+      inv = record { low = v .low; stays = subst (Stays b n) (sym there) (finish-stays b n (at l id) (v .stays) s m true); mine = tt };
+      book = ap (bookIn calm) there ∙ book-committed (at l id) s m (t .rows id (v .low)) (fits-at (v .low) s m (h .1)) true ∙ ap (λ (x : View). bookIn x (at l id)) (sym (view-commit id s m));
+      says = append-nil (owedAt S p id b n l (Committing id s m)) ∙ ap (λ (x : View). owedIn S x (at l id)) (view-commit id s m);
+    }
+      where
+        there : at (set l id (finishGrant (at l id) s m true)) id ≡ finishGrant (at l id) s m true
+        there = here-at (v .low) (finishGrant (at l id) s m true)
+
+    -- an answer to another arena's
+    other-commit : (i s m : ℕ) (agreed : Bool) → (i ≡ id → ⊥) → Inv S p id b n l k (Committing i s m) z
+        → Fits S p id b n l (Committing i s m) who z aside (answerCommit S l stamps k mark i s m agreed)
+    other-commit i s m agreed d v =
+        quiet l (Committing i s m) who z _ (ap (λ (x : View). owedIn S x (at l id)) (view-commit-other id i s m d)) (go agreed)
+      where
+        e : viewOf id (Committing i s m) ≡ calm
+        e = view-commit-other id i s m d
+
+        go : (agreed : Bool) → Leaves (bookAt S p id b n l (Committing i s m)) [] z (answerCommit S l stamps k mark i s m agreed)
+        go true = rests _ z _ k Idle _ stamps mark refl (elsewhere _ z l k k i _ (omega arith) d (holds l k (Committing i s m) z e v))
+        go false = rests _ z _ k Idle _ stamps mark refl (elsewhere _ z l k k i _ (omega arith) d (holds l k (Committing i s m) z e v))
+
+    -- the chunk comes back, and the sweep goes on
+    purge-answer : (i j : ℕ) (w : Sweep) (agreed : Bool) → SoundQuestion l k (Purging i j w) → Inv S p id b n l k (Purging i j w) z
+        → Fits S p id b n l (Purging i j w) who z aside (answerPurge S l stamps k mark i j w agreed)
+    purge-answer i j w agreed h v =
+        quiet l (Purging i j w) who z _ (none (eqb i id))
+        (visits B z stamps k mark (counted w agreed) (v .low) (t .few) small l i (returnChunk (at l i) j agreed (w .decommit)) (j + 1) _ (t .long) own other
+        (λ m u r. sweeps B z stamps k mark (counted w agreed) (v .low) (t .few) small _ _ m u r))
+      where
+        B : Book
+        B = bookAt S p id b n l (Purging i j w)
+
+        small : n ≤ 1024
+        small = omega (arith, v .stays .chunks, t .each id (v .low) .range .few)
+
+        none : (c : Bool) → owedIn S (cond c (purging j) calm) (at l id) ≡ []
+        none true = refl
+        none false = refl
+
+        own : i ≡ id → Ready B z (returnChunk (at l i) j agreed (w .decommit))
+        own e = subst (λ (x : ℕ). Ready B z (returnChunk (at l x) j agreed (w .decommit))) (sym e) (record {
+          rows = return-rows (at l id) j agreed (w .decommit) (t .rows id (v .low));
+          stays = return-stays b n (at l id) (v .stays) j agreed (w .decommit);
+          shows = book-returned (at l id) j agreed (w .decommit) (t .rows id (v .low)) (omega (arith, h .1, t .each i (h .0) .range .few))
+              ∙ ap (λ (x : View). bookIn x (at l id)) (sym (view-purge id j w) ∙ ap (λ (x : ℕ). viewOf id (Purging x j w)) (sym e));
+        })
+
+        other : (i ≡ id → ⊥) → Ready B z (at l id)
+        other d = record { rows = t .rows id (v .low); stays = v .stays; shows = ap (λ (x : View). bookIn x (at l id)) (sym (view-purge-other id i j w d)) }

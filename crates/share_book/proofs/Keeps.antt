@@ -21,6 +21,7 @@ use Rattle.runs.specs.declared.Found.the-variants.{At, Nothing}
 use Rattle.runs.specs.Lowest.{least, lowestRun}
 use Rattle.runs.proofs.LowestLaws.{First, first-says, least-at, least-none}
 use Rattle.runs.proofs.SearchLaws.{and-both}
+use Rattle.clock.specs.Clock.{nowMs, delayMs}
 use Rattle.options.specs.Options.{arenaAllowed}
 use Rattle.arena.specs.declared.Arena.{Arena}
 use Rattle.arena.specs.declared.Commitment.{Commitment}
@@ -470,3 +471,121 @@ module _ (S p id b n : ℕ) where
 
         other : (i ≡ id → ⊥) → Ready B z (at l id)
         other d = record { rows = t .rows id (v .low); stays = v .stays; shows = ap (λ (x : View). bookIn x (at l id)) (sym (view-purge-other id i j w d)) }
+
+    answers : (q : Question) (kind : Kind) (agreed : Bool) (base : ℕ) → SoundQuestion l k q → Inv S p id b n l k q z → (z ≡ p → declines q (answer kind agreed base) ≡ false)
+        → Fits S p id b n l q who z (cond (ends id q kind) closes aside) (answerOf S l stamps k mark q kind agreed base)
+    unfolding answerOf isFor
+    answers Idle kind agreed base h v w = by-cond (Fits S p id b n l Idle who z aside) (isFor Idle kind) _ _ (λ e. same l k Idle who z _ stamps mark v) (λ e. same l k Idle who z _ stamps mark v)
+    answers (Committing i s m) ForCommit agreed base h v w = go (ℕ-discrete i id) agreed w
+      where
+        go : Dec (i ≡ id) → (agreed : Bool) → (z ≡ p → not agreed ≡ false) → Fits S p id b n l (Committing i s m) who z (cond (eqb i id) closes aside) (answerCommit S l stamps k mark i s m agreed)
+        go (no d) agreed w = subst (λ (c : Bool). Fits S p id b n l (Committing i s m) who z (cond c closes aside) (answerCommit S l stamps k mark i s m agreed)) (sym (ne-eqb i id d)) (other-commit i s m agreed d v)
+        go (yes e) false w = absurd (true≢false (w (subst (Mine p z) (ap (λ (x : ℕ). viewOf id (Committing x s m)) e ∙ view-commit id s m) (v .mine))))
+        go (yes e) true w =
+            subst (λ (c : Bool). Fits S p id b n l (Committing i s m) who z (cond c closes aside) (answerCommit S l stamps k mark i s m true)) (sym (eq-eqb i id e))
+            (subst (λ (x : ℕ). SoundQuestion l k (Committing x s m) → Inv S p id b n l k (Committing x s m) z → Fits S p id b n l (Committing x s m) who z closes (answerCommit S l stamps k mark x s m true))
+            (sym e) (own-yes s m) h v)
+    answers (Committing i s m) ForPurge agreed base h v w = same l k (Committing i s m) who z _ stamps mark v
+    answers (Committing i s m) ForMemory agreed base h v w = same l k (Committing i s m) who z _ stamps mark v
+    answers (Committing i s m) ForGiveBack agreed base h v w = same l k (Committing i s m) who z _ stamps mark v
+    answers (Committing i s m) ForNone agreed base h v w = same l k (Committing i s m) who z _ stamps mark v
+    answers (Purging i j u) kind agreed base h v w =
+        by-cond (Fits S p id b n l (Purging i j u) who z aside) (isFor (Purging i j u) kind) _ _ (λ e. purge-answer i j u agreed h v) (λ e. same l k (Purging i j u) who z _ stamps mark v)
+    answers (Reserving chunks bytes commit exclusive waiting) kind agreed base h v w =
+        let q : Question = Reserving chunks bytes commit exclusive waiting in
+        by-cond (Fits S p id b n l (Reserving chunks bytes commit exclusive waiting) who z aside) (isFor (Reserving chunks bytes commit exclusive waiting) kind) _ _
+        (λ e. quiet l (Reserving chunks bytes commit exclusive waiting) who z _ refl
+        (remembers _ z l stamps k mark (holds l k (Reserving chunks bytes commit exclusive waiting) z refl v) chunks bytes commit exclusive waiting agreed base))
+        (λ e. same l k (Reserving chunks bytes commit exclusive waiting) who z _ stamps mark v)
+    answers (GivingBack cause waiting) kind agreed base h v w =
+        by-cond (Fits S p id b n l (GivingBack cause waiting) who z aside) (isFor (GivingBack cause waiting) kind) _ _
+        (λ e. quiet l (GivingBack cause waiting) who z _ refl (fails _ z l stamps k mark (holds l k (GivingBack cause waiting) z refl v) _ waiting))
+        (λ e. same l k (GivingBack cause waiting) who z _ stamps mark v)
+
+    -- ---- while a question is open every call but an answer is turned down, and none of them feeds the book
+
+    gated : (q : Question) (r : Role) (go : Outcome) → Inv S p id b n l k q z → (Inv S p id b n l k Idle z → Fits S p id b n l Idle who z r go) → (isIdle q ≡ false → r ≡ aside)
+        → Fits S p id b n l q who z r (gate q go (after (turnDown QuestionOpen (stateOf k mark q)) l stamps))
+    gated q r go v f g = at-gate q v g
+      where
+        shut : (q : Question) → Inv S p id b n l k q z → r ≡ aside → Fits S p id b n l q who z r (after (turnDown QuestionOpen (stateOf k mark q)) l stamps)
+        shut q v e = subst (λ (x : Role). Fits S p id b n l q who z x (after (turnDown QuestionOpen (stateOf k mark q)) l stamps)) (sym e) (same l k q who z _ stamps mark v)
+
+        at-gate : (q : Question) → Inv S p id b n l k q z → (isIdle q ≡ false → r ≡ aside) → Fits S p id b n l q who z r (gate q go (after (turnDown QuestionOpen (stateOf k mark q)) l stamps))
+        at-gate Idle v g = f v
+        at-gate (Committing i s m) v g = shut (Committing i s m) v (g refl)
+        at-gate (Purging i j w) v g = shut (Purging i j w) v (g refl)
+        at-gate (Reserving chunks bytes commit exclusive waiting) v g = shut (Reserving chunks bytes commit exclusive waiting) v (g refl)
+        at-gate (GivingBack cause waiting) v g = shut (GivingBack cause waiting) v (g refl)
+
+    -- what would feed the book is its program's, which calls only where no question is open
+    busy : (q : Question) (c : Bool) (f : Fed) → (cond c (feeds f) aside ≡ feeds f → who ≡ p) → (who ≡ p → q ≡ Idle) → isIdle q ≡ false → cond c (feeds f) aside ≡ aside
+    busy q true f alone idle e = absurd (true≢false (sym (ap isIdle (idle (alone refl))) ∙ e))
+    busy q false f alone idle e = refl
+
+    -- the range that the book was told is the record's
+    in-range : (q : Question) (x : ℕ) → Inv S p id b n l k q z → isInside S (at l id) x ≡ inRange S b n x
+    unfolding isInside endOf bytesOf inRange
+    in-range q x v = ap₂ (λ (from chunks : ℕ). leb from x && ltb x (from + chunks * S)) (v .stays .base) (v .stays .chunks)
+
+    -- ---- one call
+
+    pub keeps : (q : Question) (ns : ℕ) (settings : Settings) (c : Call) → SoundQuestion l k q → Inv S p id b n l k q z
+        → ((f : Fed) → role S id b n q c ≡ feeds f → who ≡ p)
+        → (who ≡ p → isAnswer c ≡ false → q ≡ Idle)
+        → (z ≡ p → declines q c ≡ false)
+        → Fits S p id b n l q who z (role S id b n q c) (stepOn S l stamps k mark q ns settings c)
+    keeps q ns settings (reserve size commit large exclusive) h v alone idle agrees =
+        gated q aside _ v
+        (λ u. quiet l Idle who z _ refl (reserve-cases S l stamps k mark (Leaves _ [] who) size commit large exclusive (settings .page)
+        (rests _ who l k Idle _ stamps mark refl (holds l k Idle z refl u)) (λ waiting. asks-memory _ who l stamps k mark (holds l k Idle z refl u) size (settings .page) commit large exclusive waiting)))
+        (λ e. refl)
+    keeps q ns settings (manage start size exclusive node mapped reserved) h v alone idle agrees =
+        gated q aside _ v
+        (λ u. let x = holds l k Idle z refl u in
+        quiet l Idle who z _ refl (manage-cases S l stamps k mark (Leaves _ [] who) start size exclusive node mapped reserved
+        (rests _ who l k Idle _ stamps mark refl x) (rests _ who l k Idle _ stamps mark refl x) (rests _ who l k Idle _ stamps mark refl x) (registers-one _ who l stamps k mark x _ _)))
+        (λ e. refl)
+    keeps q ns settings (adopt address size) h v alone idle agrees =
+        gated q aside _ v
+        (λ u. let x = holds l k Idle z refl u in
+        quiet l Idle who z _ refl (adopt-cases S l stamps k mark (Leaves _ [] who) address size
+        (rests _ who l k Idle _ stamps mark refl x) (rests _ who l k Idle _ stamps mark refl x) (rests _ who l k Idle _ stamps mark refl x)
+        (λ i j e. rests _ who _ k Idle _ stamps mark refl (elsewhere _ who l k k i _ (omega arith) (not-grown _ who l stamps k mark x i address (size / S) e) x))
+        (registers-one _ who l stamps k mark x _ _)))
+        (λ e. refl)
+    keeps q ns settings (claim (pos i) m commits) h v alone idle agrees =
+        gated q (cond (eqb i id) (feeds (claims m)) aside) _ v (λ u. go (ℕ-discrete i id) u) (busy q (eqb i id) (claims m) (alone (claims m)) (λ w. idle w refl))
+      where
+        go : Dec (i ≡ id) → Inv S p id b n l k Idle z → Fits S p id b n l Idle who z (cond (eqb i id) (feeds (claims m)) aside) (claimOf S l stamps k mark (pos i) m commits settings)
+        go (yes e) u =
+            subst (λ (c : Bool). Fits S p id b n l Idle who z (cond c (feeds (claims m)) aside) (claimOf S l stamps k mark (pos i) m commits settings)) (sym (eq-eqb i id e))
+            (subst (λ (x : ℕ). Fits S p id b n l Idle who z (feeds (claims m)) (claimOf S l stamps k mark (pos x) m commits settings)) (sym e)
+            (matched (claims m) _ (own-claim u (alone (claims m) (ap (λ (c : Bool). cond c (feeds (claims m)) aside) (eq-eqb i id e))) m commits settings)))
+        go (no d) u =
+            subst (λ (c : Bool). Fits S p id b n l Idle who z (cond c (feeds (claims m)) aside) (claimOf S l stamps k mark (pos i) m commits settings)) (sym (ne-eqb i id d))
+            (quiet l Idle who z _ refl (claims-elsewhere _ who l stamps k mark (holds l k Idle z refl u) (pos i) m commits settings
+            (λ j. not-named _ who l stamps k mark (holds l k Idle z refl u) i m j d)))
+    keeps q ns settings (claim (negsuc i) m commits) h v alone idle agrees =
+        gated q aside _ v
+        (λ u. let x = holds l k Idle z refl u in
+        quiet l Idle who z _ refl (claims-elsewhere _ who l stamps k mark x (negsuc i) m commits settings (not-exclusive _ who l stamps k mark x i m)))
+        (λ e. refl)
+    keeps q ns settings (release x m told pending) h v alone idle agrees =
+        gated q (cond (inRange S b n x) (feeds (releases x m)) aside) _ v (λ u. go (inRange S b n x) refl u) (busy q (inRange S b n x) (releases x m) (alone (releases x m)) (λ w. idle w refl))
+      where
+        range : isInside S (at l id) x ≡ inRange S b n x
+        range = in-range q x v
+
+        go : (c : Bool) → inRange S b n x ≡ c → Inv S p id b n l k Idle z
+            → Fits S p id b n l Idle who z (cond c (feeds (releases x m)) aside) (releaseOf S l stamps k mark x m told pending (nowMs ns) (delayMs (settings .delay)))
+        go true e u = matched (releases x m) _ (own-release u x m told pending _ _ (range ∙ e))
+        go false e u = quiet l Idle who z _ refl (releases-elsewhere _ who l stamps k mark (holds l k Idle z refl u) x m told pending _ _ (range ∙ e))
+    keeps q ns settings (sweep force) h v alone idle agrees =
+        gated q aside _ v
+        (λ u. quiet l Idle who z _ refl (sweeps _ who stamps k mark _ (u .low) (t .few) (omega (arith, u .stays .chunks, t .each id (u .low) .range .few)) k 0 l (t .long)
+        (record { rows = t .rows id (u .low); stays = u .stays; shows = refl })))
+        (λ e. refl)
+    keeps q ns settings (answer kind agreed base) h v alone idle agrees = answers q kind agreed base h v agrees
+    keeps q ns settings (owns address) h v alone idle agrees = same l k q who z _ stamps mark v
+    keeps q ns settings (area i) h v alone idle agrees = same l k q who z _ stamps mark v

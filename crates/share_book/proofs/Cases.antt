@@ -2,10 +2,10 @@
 use mathlib.Core.Path.{_≡_, refl}
 use mathlib.Core.Bool.{Bool, true, false, cond, not, _&&_, _||_}
 use mathlib.Core.List.{List}
-use Prim.Native.Nat.{ℕ, suc, _+_, _-_, _*_, _/_, _%_, _≤_, _<_}
+use Prim.Native.Nat.{ℕ, suc, _+_, _-_, _*_, _/_, _%_, _<_}
 use native.Mathlib.Omega.{arith}
-use borrow.Author.Tests.{leb-true, leb-false, eqb-false}
-use lib.Dec.{eqb, leb, ltb}
+use borrow.Author.Tests.{leb-false}
+use lib.Dec.{eqb, leb}
 use lib.IntN.{ℤ}
 use lib.ListN.{set}
 use Rattle.refusals.specs.declared.Refusal.{Refusal}
@@ -25,7 +25,7 @@ use Rattle.lookup.specs.Place.{isInside}
 use Rattle.layer.specs.declared.Settings.{Settings}
 use Rattle.layer.specs.declared.Question.the-variants.{Committing, Reserving}
 use Rattle.layer.specs.declared.Waiting.{Waiting}
-use Rattle.layer.specs.declared.Waiting.the-variants.{Claim}
+use Rattle.layer.specs.declared.Waiting.the-variants.{Reserve, Claim}
 use Rattle.layer.specs.declared.Unusable.{Unusable}
 use Rattle.layer.specs.declared.Unusable.the-variants.{Count, Misaligned, Full}
 use Rattle.layer.specs.declared.Ask.the-variants.{AskCommit}
@@ -104,17 +104,17 @@ module _ (S : ℕ) (l : List Arena) (stamps : List ℕ) (k : ℕ) (mark : Bool) 
     pub release-in-cases : (i offset : ℕ) → (eqb (offset % S) 0 ≡ false → P (down S l stamps k mark NotWhole))
         → (eqb (offset % S) 0 ≡ true → leb (offset / S + m) (at l i .chunks) ≡ false → P (down S l stamps k mark PastEnd))
         → (eqb (offset % S) 0 ≡ true → leb (offset / S + m) (at l i .chunks) ≡ true
-            → P (after (reply Released (calm k mark)) (set l i (releaseRun (at l i) (offset / S) m told pending now delay))
-                (cond pending (stampRun stamps (1024 * i + offset / S) m now) stamps)))
+        → P (after (reply Released (calm k mark)) (set l i (releaseRun (at l i) (offset / S) m told pending now delay))
+        (cond pending (stampRun stamps (1024 * i + offset / S) m now) stamps)))
         → P (releaseIn S l stamps k mark i offset m told pending now delay)
     unfolding releases releaseReply
     release-in-cases i offset part past whole = go (eqb (offset % S) 0) refl (leb (offset / S + m) (at l i .chunks)) refl
       where
         go : (w : Bool) → eqb (offset % S) 0 ≡ w → (r : Bool) → leb (offset / S + m) (at l i .chunks) ≡ r
             → P (cond (w && r)
-                (after (cond w (cond r (reply Released (calm k mark)) (turnDown PastEnd (calm k mark))) (turnDown NotWhole (calm k mark)))
-                (set l i (releaseRun (at l i) (offset / S) m told pending now delay)) (cond pending (stampRun stamps (1024 * i + offset / S) m now) stamps))
-                (after (cond w (cond r (reply Released (calm k mark)) (turnDown PastEnd (calm k mark))) (turnDown NotWhole (calm k mark))) l stamps))
+            (after (cond w (cond r (reply Released (calm k mark)) (turnDown PastEnd (calm k mark))) (turnDown NotWhole (calm k mark)))
+            (set l i (releaseRun (at l i) (offset / S) m told pending now delay)) (cond pending (stampRun stamps (1024 * i + offset / S) m now) stamps))
+            (after (cond w (cond r (reply Released (calm k mark)) (turnDown PastEnd (calm k mark))) (turnDown NotWhole (calm k mark))) l stamps))
         go false e r f = part e
         go true e false f = past e f
         go true e true f = whole e f
@@ -133,10 +133,10 @@ module _ (S : ℕ) (l : List Arena) (stamps : List ℕ) (k : ℕ) (mark : Bool) 
   -- ---- registering
 
   pub reserve-cases : (size : ℕ) (commit large exclusive : Bool) (page : ℕ) → P (down S l stamps k mark ChunkCount)
-      → ((waiting : Waiting) → P (after (askMemory S k mark size page commit large exclusive waiting) l stamps)) → P (reserveOf S l stamps k mark size commit large exclusive page)
+      → P (after (askMemory S k mark size page commit large exclusive Reserve) l stamps) → P (reserveOf S l stamps k mark size commit large exclusive page)
   unfolding reserveOf reserveReply
   reserve-cases size commit large exclusive page many ask =
-      by-cond (λ (r : Reply). P (after r l stamps)) (tooLarge S size) _ _ (λ e. many) (λ e. ask _)
+      by-cond (λ (r : Reply). P (after r l stamps)) (tooLarge S size) _ _ (λ e. many) (λ e. ask)
 
   pub register-cases : (chunks : ℕ) (a : Arena) → P (down S l stamps k mark ChunkCount) → P (down S l stamps k mark TableFull)
       → (badCount chunks ≡ false → k < 32 → P (after (reply (Registered k) (calm (suc k) mark)) (withRecord l k a) (withStamps stamps k)))
@@ -146,8 +146,8 @@ module _ (S : ℕ) (l : List Arena) (stamps : List ℕ) (k : ℕ) (mark : Bool) 
     where
       go : (c : Bool) → badCount chunks ≡ c → (d : Bool) → leb 32 k ≡ d
           → P (cond (not c && not d)
-              (after (cond c (turnDown ChunkCount (calm k mark)) (cond d (turnDown TableFull (calm k mark)) (reply (Registered k) (calm (suc k) mark)))) (withRecord l k a) (withStamps stamps k))
-              (after (cond c (turnDown ChunkCount (calm k mark)) (cond d (turnDown TableFull (calm k mark)) (reply (Registered k) (calm (suc k) mark)))) l stamps))
+          (after (cond c (turnDown ChunkCount (calm k mark)) (cond d (turnDown TableFull (calm k mark)) (reply (Registered k) (calm (suc k) mark)))) (withRecord l k a) (withStamps stamps k))
+          (after (cond c (turnDown ChunkCount (calm k mark)) (cond d (turnDown TableFull (calm k mark)) (reply (Registered k) (calm (suc k) mark)))) l stamps))
       go true e d f = many
       go false e true f = full
       go false e false f = new e (leb-false 32 k f)

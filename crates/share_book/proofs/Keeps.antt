@@ -1,12 +1,12 @@
 -- One call keeps the invariant, moves the book as it is fed, and tells its program what the book says. Assumes nothing.
 use mathlib.Core.Path.{_≡_, refl, sym, ap, ap₂, _∙_, subst}
 use mathlib.Core.Bool.{Bool, true, false, cond, not, _&&_, true≢false}
-use mathlib.Core.List.{List, [], _∷_, _++_}
+use mathlib.Core.List.{List, [], _∷_, _++_, append-nil}
 use mathlib.Core.Logic.{⊎-elim}
 use Prim.Native.Nat.{ℕ, zero, suc, _+_, _-_, _*_, _/_, _%_, _≤_, _<_}
 use native.Mathlib.Omega.{arith}
 use native.Mathlib.Decide.{ℕ-discrete}
-use borrow.Author.Tests.{eqb-true, eqb-false, eq-eqb, ne-eqb, leb-true, not-true}
+use borrow.Author.Tests.{eqb-true, eq-eqb, ne-eqb, leb-true, not-true}
 use lib.IntN.{ℤ, pos, negsuc}
 use lib.Dec.{eqb, leb, ltb}
 use lib.ListN.{length, set, length-set}
@@ -19,13 +19,13 @@ use Rattle.words.proofs.Tests.{by-cond, when, unless}
 use Rattle.runs.specs.declared.Found.{Found}
 use Rattle.runs.specs.declared.Found.the-variants.{At, Nothing}
 use Rattle.runs.specs.Lowest.{least, lowestRun}
-use Rattle.runs.proofs.LowestLaws.{First, first-says, least-at, least-none}
+use Rattle.runs.proofs.LowestLaws.{First, first-says}
 use Rattle.runs.proofs.SearchLaws.{and-both}
 use Rattle.clock.specs.Clock.{nowMs, delayMs}
 use Rattle.options.specs.Options.{arenaAllowed}
 use Rattle.arena.specs.declared.Arena.{Arena}
 use Rattle.arena.specs.declared.Commitment.{Commitment}
-use Rattle.arena.specs.Claiming.{findRun, takeRun, dirtyRun, finishGrant, giveBackRun}
+use Rattle.arena.specs.Claiming.{findRun, takeRun, dirtyRun, finishGrant}
 use Rattle.arena.specs.Releasing.{releaseRun}
 use Rattle.arena.specs.Sweeping.{sweepDue, disarm, toAsk, young, nextAsked, borrowChunk, returnChunk, rearm}
 use Rattle.lookup.specs.Place.{bytesOf, endOf, isInside}
@@ -43,26 +43,22 @@ use Rattle.layer.specs.declared.Kind.{Kind}
 use Rattle.layer.specs.declared.Kind.the-variants.{ForCommit, ForPurge, ForMemory, ForGiveBack, ForNone}
 use Rattle.layer.specs.declared.Answer.{Answer}
 use Rattle.layer.specs.declared.Reply.{Reply}
-use Rattle.layer.specs.World.{Outcome, stateOf, worldOf, outcome, reply, after, turnDown}
+use Rattle.layer.specs.World.{Outcome, stateOf, reply, after, turnDown}
 use Rattle.layer.specs.Table.{at, isAt}
 use Rattle.layer.specs.Registering.{askMemory, withRecord, register, grows}
-use Rattle.layer.specs.Claiming.{eligible, serves, missReply, grantFound, searchAt, searchOf, claimOf}
+use Rattle.layer.specs.Claiming.{eligible, serves, missReply, grantFound, searchOf, claimOf}
 use Rattle.layer.specs.Releasing.{releaseIn, releaseOf}
 use Rattle.layer.specs.Sweeping.{purgeReply, sweptReply, visitAt, visit, sweepFrom}
-use Rattle.layer.specs.Answering.{isFor, counted, failReply, resume, answerCommit, answerPurge, answerMemory, answerTo, answerOf}
+use Rattle.layer.specs.Answering.{isFor, counted, failReply, resume, answerCommit, answerPurge, answerMemory, answerOf}
 use Rattle.layer.specs.Step.{Call, reserve, manage, adopt, claim, release, sweep, answer, owns, area, gate, stepOn}
 use Rattle.layer_laws.proofs.Tools.{at-same, at-other}
 use Rattle.layer_laws.proofs.Facts.{SoundTable, SoundQuestion}
 use Rattle.layer_laws.proofs.Registered.{meets-false}
-use Rattle.share_book.specs.Book.{Book, Fed, claims, releases, Say, refused, granted, released, Turn, turn, claimed, hold, unhold, enter, enterAll, sayAll}
-use Rattle.share_book.specs.Sequence.{isIdle, Role, feeds, closes, aside, inRange, ends, role, fedOf, said, toldOf, View, calm, committing, purging, viewOf, owedIn, isAnswer, declines}
+use Rattle.share_book.specs.Book.{Book, Fed, claims, releases, Say, refused, granted, released, Turn, turn, claimed, unhold, enter}
+use Rattle.share_book.specs.Sequence.{isIdle, Role, feeds, closes, aside, inRange, ends, role, said, View, calm, committing, purging, viewOf, owedIn, isAnswer, declines}
 use Rattle.share_book.proofs.Shown.{bookIn, Mine, Stays, bookAt, owedAt, Inv, Fits}
 use Rattle.share_book.proofs.View.{view-commit, view-purge, view-commit-other, view-purge-other, book-granted, book-taken, book-committed, book-released, say-fresh, owed-taken, book-disarmed, book-rearmed, book-borrowed, book-returned, take-stays, dirty-stays, finish-stays, release-stays, disarm-stays, borrow-stays, return-stays, rearm-stays}
 use Rattle.share_book.proofs.Cases.{down, granting, asking, grant-cases, search-cases, miss-cases, claim-cases, release-in-cases, release-cases, reserve-cases, register-cases, manage-cases, adopt-cases, memory-cases}
-
-append-nil : {A : Type 0} (l : List A) → l ++ [] ≡ l
-append-nil [] = refl
-append-nil (a ∷ l) = ap (λ x. a ∷ x) (append-nil l)
 
 -- an address lies in one arena at most
 pub only-one : (S : ℕ) (l : List Arena) (k i j x : ℕ) → SoundTable S l k → i < k → j < k → isInside S (at l i) x ≡ true → isInside S (at l j) x ≡ true → i ≡ j
@@ -72,7 +68,8 @@ only-one S l k i j x t u v e f = go (ℕ-discrete i j)
     apart i j u v e f =
         let g : Within S (at l i) x = inside-facts S (at l i) x e in
         let h : Within S (at l j) x = inside-facts S (at l j) x f in
-        ⊎-elim (λ (m : endOf S (at l i) ≤ at l j .base). omega (arith, g .before, h .from, ends i)) (λ (m : at l j .base + bytesOf S (at l j) ≤ at l i .base). omega (arith, g .from, h .before, bytes j))
+        ⊎-elim (λ (m : endOf S (at l i) ≤ at l j .base). omega (arith, g .before, h .from, ends i))
+        (λ (m : at l j .base + bytesOf S (at l j) ≤ at l i .base). omega (arith, g .from, h .before, bytes j))
         (meets-false S (at l i) (at l j .base) (bytesOf S (at l j)) (t .apart i j u v) (omega (arith, h .from, h .before, bytes j)))
       where
         bytes : (j : ℕ) → bytesOf S (at l j) ≡ at l j .chunks * S
@@ -83,30 +80,40 @@ only-one S l k i j x t u v e f = go (ℕ-discrete i j)
 
     go : Dec (i ≡ j) → i ≡ j
     go (yes d) = d
-    go (no d) = ⊎-elim (λ (m : i < j). absurd (apart i j m v e f)) (λ (m : j ≤ i). absurd (apart j i (omega (arith, ne d)) u f e)) (lt-or-le i j)
-      where
-        ne : (i ≡ j → ⊥) → (j ≡ i → ⊥)
-        ne d e = d (sym e)
+    go (no d) = ⊎-elim (λ (m : i < j). absurd (apart i j m v e f)) (λ (m : j ≤ i). absurd (apart j i (omega (arith, d)) u f e)) (lt-or-le i j)
 
 module _ (S p id b n : ℕ) where
+  -- the book shown, what is owed, the invariant and what one call does, at this arena
+  abbrev shown : List Arena → Question → Book
+  shown l q = bookAt S p id b n l q
+
+  abbrev owing : List Arena → Question → List Say
+  owing l q = owedAt S p id b n l q
+
+  abbrev Invariant : List Arena → ℕ → Question → ℕ → Type 0
+  Invariant l k q z = Inv S p id b n l k q z
+
+  abbrev Does : List Arena → Question → ℕ → ℕ → Role → Outcome → Type 0
+  Does l q who z r o = Fits S p id b n l q who z r o
+
   -- ---- what a call that is none of the arena's business leaves: y put the question that is open after it
   record Leaves (B : Book) (ws : List Say) (y : ℕ) (o : Outcome) : Type 0 where
-    inv : Inv S p id b n (o .world .records) (o .world .state .count) (o .world .state .question) y
-    book : bookAt S p id b n (o .world .records) (o .world .state .question) ≡ B
-    owed : owedAt S p id b n (o .world .records) (o .world .state .question) ≡ ws
+    inv : Invariant (o .world .records) (o .world .state .count) (o .world .state .question) y
+    book : shown (o .world .records) (o .world .state .question) ≡ B
+    owed : owing (o .world .records) (o .world .state .question) ≡ ws
 
-  left : (l : List Arena) (q : Question) (who z : ℕ) (o : Outcome) → Leaves (bookAt S p id b n l q) (owedAt S p id b n l q) (cond (isIdle q) who z) o
-      → Fits S p id b n l q who z aside o
-  left l q who z o h = record { inv = h .inv; book = h .book; says = append-nil (owedAt S p id b n l q) ∙ sym (h .owed) }
+  left : (l : List Arena) (q : Question) (who z : ℕ) (o : Outcome) → Leaves (shown l q) (owing l q) (cond (isIdle q) who z) o
+      → Does l q who z aside o
+  left l q who z o h = record { inv = h .inv; book = h .book; says = append-nil (owing l q) ∙ sym (h .owed) }
 
   -- where nothing is owed
-  quiet : (l : List Arena) (q : Question) (who z : ℕ) (o : Outcome) → owedAt S p id b n l q ≡ [] → Leaves (bookAt S p id b n l q) [] (cond (isIdle q) who z) o
-      → Fits S p id b n l q who z aside o
+  quiet : (l : List Arena) (q : Question) (who z : ℕ) (o : Outcome) → owing l q ≡ [] → Leaves (shown l q) [] (cond (isIdle q) who z) o
+      → Does l q who z aside o
   quiet l q who z o e h = left l q who z o (record { inv = h .inv; book = h .book; owed = h .owed ∙ sym e })
 
   -- nothing but the answer
-  same : (l : List Arena) (k : ℕ) (q : Question) (who z : ℕ) (r : Answer) (stamps : List ℕ) (mark : Bool) → Inv S p id b n l k q z
-      → Fits S p id b n l q who z aside (after (reply r (stateOf k mark q)) l stamps)
+  same : (l : List Arena) (k : ℕ) (q : Question) (who z : ℕ) (r : Answer) (stamps : List ℕ) (mark : Bool) → Invariant l k q z
+      → Does l q who z aside (after (reply r (stateOf k mark q)) l stamps)
   same l k q who z r stamps mark v = left l q who z _ (record { inv = record { low = v .low; stays = v .stays; mine = go q (v .mine) }; book = refl; owed = refl })
     where
       go : (q : Question) → Mine p z (viewOf id q) → Mine p (cond (isIdle q) who z) (viewOf id q)
@@ -122,7 +129,7 @@ module _ (S p id b n : ℕ) where
     stays : Stays b n (at l id)
     shows : bookIn calm (at l id) ≡ B
 
-  holds : (l : List Arena) (k : ℕ) (q : Question) (z : ℕ) → viewOf id q ≡ calm → Inv S p id b n l k q z → Holds (bookAt S p id b n l q) l k
+  holds : (l : List Arena) (k : ℕ) (q : Question) (z : ℕ) → viewOf id q ≡ calm → Invariant l k q z → Holds (shown l q) l k
   holds l k q z e v = record { low = v .low; stays = v .stays; shows = ap (λ (x : View). bookIn x (at l id)) (sym e) }
 
   module _ (B : Book) (y : ℕ) where
@@ -294,21 +301,21 @@ module _ (S p id b n : ℕ) where
           by-cond (Leaves B [] y) (sweepDue (at l i) (w .force) (w .now)) _ _
           (λ e. visits l i (disarm (at l i)) 0 (sweepFrom S stamps k mark w f (i + 1)) u
           (λ d. subst (λ (x : ℕ). Ready (disarm (at l x))) (sym d)
-          (record { rows = disarm-rows (at l id) (r .rows); stays = disarm-stays b n (at l id) (r .stays); shows = book-disarmed calm (at l id) ∙ r .shows }))
+          (record { rows = disarm-rows (at l id) (r .rows); stays = disarm-stays b n (at l id) (r .stays); shows = book-disarmed (at l id) ∙ r .shows }))
           (λ d. r) (λ m v x. sweeps f (i + 1) m v x))
           (λ e. sweeps f (i + 1) l u r)
 
   -- ---- what feeds the book: the book's turn and the layer's step side by side
   record Match (who : ℕ) (x : Turn) (o : Outcome) : Type 0 where
-    inv : Inv S p id b n (o .world .records) (o .world .state .count) (o .world .state .question) who
-    book : bookAt S p id b n (o .world .records) (o .world .state .question) ≡ x .book
-    says : x .say ∷ [] ≡ said (o .answer) ++ owedAt S p id b n (o .world .records) (o .world .state .question)
+    inv : Invariant (o .world .records) (o .world .state .count) (o .world .state .question) who
+    book : shown (o .world .records) (o .world .state .question) ≡ x .book
+    says : x .say ∷ [] ≡ said (o .answer) ++ owing (o .world .records) (o .world .state .question)
 
   as-turn : (who : ℕ) (x y : Turn) (o : Outcome) → x ≡ y → Match who y o → Match who x o
   as-turn who x y o e m = subst (λ (w : Turn). Match who w o) (sym e) m
 
   module _ (l : List Arena) (stamps : List ℕ) (k : ℕ) (mark : Bool) (t : SoundTable S l k) (who z : ℕ) where
-    matched : (f : Fed) (o : Outcome) → Match who (enter S lowestRun (bookAt S p id b n l Idle) f) o → Fits S p id b n l Idle who z (feeds f) o
+    matched : (f : Fed) (o : Outcome) → Match who (enter S lowestRun (shown l Idle) f) o → Does l Idle who z (feeds f) o
     matched f o m = record { inv = m .inv; book = m .book; says = m .says }
 
     -- the arena's record after a store
@@ -319,24 +326,24 @@ module _ (S p id b n : ℕ) where
     fits-at : id < k → (s m : ℕ) → s + m ≤ at l id .chunks → s + m ≤ 1024
     fits-at low s m h = omega (arith, h, t .each id low .range .few)
 
-    module _ (v : Inv S p id b n l k Idle z) where
+    module _ (v : Invariant l k Idle z) where
       here : (c : Arena) → at (set l id c) id ≡ c
       here = here-at (v .low)
 
-      turned-down : (why : Refusal) → Match who (turn (refused (number why)) (bookAt S p id b n l Idle)) (after (turnDown why (stateOf k mark Idle)) l stamps)
+      turned-down : (why : Refusal) → Match who (turn (refused (number why)) (shown l Idle)) (after (turnDown why (stateOf k mark Idle)) l stamps)
       turned-down why = record { inv = record { low = v .low; stays = v .stays; mine = tt }; book = refl; says = refl }
 
-      stored : (c : Arena) (q : Question) (view : View) → Stays b n c → viewOf id q ≡ view → Mine p who view → Inv S p id b n (set l id c) k q who
+      stored : (c : Arena) (q : Question) (view : View) → Stays b n c → viewOf id q ≡ view → Mine p who view → Invariant (set l id c) k q who
       stored c q view x e m = record { low = v .low; stays = subst (Stays b n) (sym (here c)) x; mine = subst (Mine p who) (sym e) m }
 
-      granted-run : (m s : ℕ) → s + m ≤ at l id .chunks → Match who (claimed S (bookAt S p id b n l Idle) m (At s)) (granting S l stamps k mark id m s)
+      granted-run : (m s : ℕ) → s + m ≤ at l id .chunks → Match who (claimed S (shown l Idle) m (At s)) (granting S l stamps k mark id m s)
       granted-run m s h = record {
         inv = stored (dirtyRun (takeRun (at l id) s m) s m) Idle calm (dirty-stays b n _ (take-stays b n _ (v .stays) s m) s m) refl tt;
         book = ap (bookIn calm) (here (dirtyRun (takeRun (at l id) s m) s m)) ∙ book-granted (at l id) s m (t .rows id (v .low)) (fits-at (v .low) s m h);
         says = ap (λ (x : Say). x ∷ []) (say-fresh S (at l id) s m);
       }
 
-      asked-run : who ≡ p → (m s : ℕ) → s + m ≤ at l id .chunks → Match who (claimed S (bookAt S p id b n l Idle) m (At s)) (asking S l stamps k mark id m s)
+      asked-run : who ≡ p → (m s : ℕ) → s + m ≤ at l id .chunks → Match who (claimed S (shown l Idle) m (At s)) (asking S l stamps k mark id m s)
       asked-run w m s h =
           let there : at (set l id (takeRun (at l id) s m)) id ≡ takeRun (at l id) s m = here (takeRun (at l id) s m) in
           record {
@@ -347,38 +354,38 @@ module _ (S p id b n : ℕ) where
 
       -- a claim that names the arena finds it exactly if it has the run
       own-search : who ≡ p → (m : ℕ) (commits : Bool) (settings : Settings)
-          → Match who (claimed S (bookAt S p id b n l Idle) m (findRun (at l id) m)) (searchOf S l stamps k mark (pos id) m commits (missReply S k mark (pos id) m commits settings))
+          → Match who (claimed S (shown l Idle) m (findRun (at l id) m)) (searchOf S l stamps k mark (pos id) m commits (missReply S k mark (pos id) m commits settings))
       own-search w m commits settings =
-          search-cases S l stamps k mark (Match who (claimed S (bookAt S p id b n l Idle) m (findRun (at l id) m))) (pos id) m commits _ missed
-          (λ i u f. subst (λ (j : ℕ). Match who (claimed S (bookAt S p id b n l Idle) m (findRun (at l id) m)) (grantFound S l stamps k mark j m commits (findRun (at l j) m)))
+          search-cases S l stamps k mark (Match who (claimed S (shown l Idle) m (findRun (at l id) m))) (pos id) m commits _ missed
+          (λ i u f. subst (λ (j : ℕ). Match who (claimed S (shown l Idle) m (findRun (at l id) m)) (grantFound S l stamps k mark j m commits (findRun (at l j) m)))
           (sym (named i f)) run)
         where
           named : (i : ℕ) → serves (pos id) m l i ≡ true → i ≡ id
           named i f = unfold serves eligible in eqb-true i id (and-both (eqb i id) (isAt (findRun (at l i) m)) f .0)
 
-          run : Match who (claimed S (bookAt S p id b n l Idle) m (findRun (at l id) m)) (grantFound S l stamps k mark id m commits (findRun (at l id) m))
+          run : Match who (claimed S (shown l Idle) m (findRun (at l id) m)) (grantFound S l stamps k mark id m commits (findRun (at l id) m))
           run =
-              grant-cases S l stamps k mark (Match who (claimed S (bookAt S p id b n l Idle) m (findRun (at l id) m))) id m commits
-              (λ e. as-turn who _ _ _ (ap (claimed S (bookAt S p id b n l Idle) m) e) (turned-down NoRun))
-              (λ s e. as-turn who _ _ _ (ap (claimed S (bookAt S p id b n l Idle) m) e) (granted-run m s (found-inside (at l id) m s e)))
-              (λ s e. as-turn who _ _ _ (ap (claimed S (bookAt S p id b n l Idle) m) e) (asked-run w m s (found-inside (at l id) m s e)))
+              grant-cases S l stamps k mark (Match who (claimed S (shown l Idle) m (findRun (at l id) m))) id m commits
+              (λ e. as-turn who _ _ _ (ap (claimed S (shown l Idle) m) e) (turned-down NoRun))
+              (λ s e. as-turn who _ _ _ (ap (claimed S (shown l Idle) m) e) (granted-run m s (found-inside (at l id) m s e)))
+              (λ s e. as-turn who _ _ _ (ap (claimed S (shown l Idle) m) e) (asked-run w m s (found-inside (at l id) m s e)))
 
           missed : ((i : ℕ) → i < k → serves (pos id) m l i ≡ false)
-              → Match who (claimed S (bookAt S p id b n l Idle) m (findRun (at l id) m)) (after (missReply S k mark (pos id) m commits settings) l stamps)
+              → Match who (claimed S (shown l Idle) m (findRun (at l id) m)) (after (missReply S k mark (pos id) m commits settings) l stamps)
           missed g = none (findRun (at l id) m) (sym (served id) ∙ g id (v .low))
             where
               served : (i : ℕ) → serves (pos id) m l id ≡ isAt (findRun (at l id) m)
               served i = unfold serves eligible in ap (λ (x : Bool). x && isAt (findRun (at l id) m)) (eq-eqb id id refl)
 
-              none : (f : Found) → isAt f ≡ false → Match who (claimed S (bookAt S p id b n l Idle) m f) (after (missReply S k mark (pos id) m commits settings) l stamps)
+              none : (f : Found) → isAt f ≡ false → Match who (claimed S (shown l Idle) m f) (after (missReply S k mark (pos id) m commits settings) l stamps)
               none (At s) e = absurd (true≢false e)
               none Nothing e = unfold missReply in turned-down NoRun
 
       own-claim : who ≡ p → (m : ℕ) (commits : Bool) (settings : Settings)
-          → Match who (enter S lowestRun (bookAt S p id b n l Idle) (claims m)) (claimOf S l stamps k mark (pos id) m commits settings)
+          → Match who (enter S lowestRun (shown l Idle) (claims m)) (claimOf S l stamps k mark (pos id) m commits settings)
       unfolding enter findRun
       own-claim w m commits settings =
-          claim-cases S l stamps k mark (Match who (enter S lowestRun (bookAt S p id b n l Idle) (claims m))) (pos id) m commits settings
+          claim-cases S l stamps k mark (Match who (enter S lowestRun (shown l Idle) (claims m))) (pos id) m commits settings
           (λ e. as-turn who _ _ _ (when (eqb m 0) _ _ e) (turned-down Zero))
           (λ e f. absurd (true≢false (sym (allowed (settings .off)) ∙ f)))
           (λ e f. as-turn who _ _ _ (unless (eqb m 0) _ _ e) (own-search w m commits settings))
@@ -389,10 +396,10 @@ module _ (S p id b n : ℕ) where
 
       -- a release in the range is the arena's
       own-release : (x m : ℕ) (told : Commitment) (pending : Bool) (now delay : ℕ) → isInside S (at l id) x ≡ true
-          → Match who (enter S lowestRun (bookAt S p id b n l Idle) (releases x m)) (releaseOf S l stamps k mark x m told pending now delay)
+          → Match who (enter S lowestRun (shown l Idle) (releases x m)) (releaseOf S l stamps k mark x m told pending now delay)
       unfolding enter
       own-release x m told pending now delay c =
-          release-cases S l stamps k mark (Match who (enter S lowestRun (bookAt S p id b n l Idle) (releases x m))) m told pending now delay x
+          release-cases S l stamps k mark (Match who (enter S lowestRun (shown l Idle) (releases x m))) m told pending now delay x
           (λ e. as-turn who _ _ _ (when (eqb m 0) _ _ e) (turned-down Zero))
           (λ e f. absurd (true≢false (sym c ∙ f id (v .low))))
           (λ i e u f. as-turn who _ _ _ (unless (eqb m 0) _ _ e)
@@ -401,8 +408,8 @@ module _ (S p id b n : ℕ) where
           answered : Turn
           answered =
               cond (eqb ((x - at l id .base) % S) 0)
-              (cond (leb ((x - at l id .base) / S + m) (at l id .chunks)) (turn released (unhold (bookAt S p id b n l Idle) ((x - at l id .base) / S) m)) (turn (refused 9) (bookAt S p id b n l Idle)))
-              (turn (refused 7) (bookAt S p id b n l Idle))
+              (cond (leb ((x - at l id .base) / S + m) (at l id .chunks)) (turn released (unhold (shown l Idle) ((x - at l id .base) / S) m)) (turn (refused 9) (shown l Idle)))
+              (turn (refused 7) (shown l Idle))
 
           inside : Match who answered (releaseIn S l stamps k mark id (x - at l id .base) m told pending now delay)
           inside =
@@ -419,40 +426,40 @@ module _ (S p id b n : ℕ) where
     -- ---- answers
 
     -- yes to the arena's own commit question: its program gets what was owed
-    own-yes : (s m : ℕ) → SoundQuestion l k (Committing id s m) → Inv S p id b n l k (Committing id s m) z
-        → Fits S p id b n l (Committing id s m) who z closes (answerCommit S l stamps k mark id s m true)
+    own-yes : (s m : ℕ) → SoundQuestion l k (Committing id s m) → Invariant l k (Committing id s m) z
+        → Does l (Committing id s m) who z closes (answerCommit S l stamps k mark id s m true)
     own-yes s m h v = record {
       inv = record { low = v .low; stays = subst (Stays b n) (sym there) (finish-stays b n (at l id) (v .stays) s m true); mine = tt };
       book = ap (bookIn calm) there ∙ book-committed (at l id) s m (t .rows id (v .low)) (fits-at (v .low) s m (h .1)) true ∙ ap (λ (x : View). bookIn x (at l id)) (sym (view-commit id s m));
-      says = append-nil (owedAt S p id b n l (Committing id s m)) ∙ ap (λ (x : View). owedIn S x (at l id)) (view-commit id s m);
+      says = append-nil (owing l (Committing id s m)) ∙ ap (λ (x : View). owedIn S x (at l id)) (view-commit id s m);
     }
       where
         there : at (set l id (finishGrant (at l id) s m true)) id ≡ finishGrant (at l id) s m true
         there = here-at (v .low) (finishGrant (at l id) s m true)
 
     -- an answer to another arena's
-    other-commit : (i s m : ℕ) (agreed : Bool) → (i ≡ id → ⊥) → Inv S p id b n l k (Committing i s m) z
-        → Fits S p id b n l (Committing i s m) who z aside (answerCommit S l stamps k mark i s m agreed)
+    other-commit : (i s m : ℕ) (agreed : Bool) → (i ≡ id → ⊥) → Invariant l k (Committing i s m) z
+        → Does l (Committing i s m) who z aside (answerCommit S l stamps k mark i s m agreed)
     other-commit i s m agreed d v =
         quiet l (Committing i s m) who z _ (ap (λ (x : View). owedIn S x (at l id)) (view-commit-other id i s m d)) (go agreed)
       where
         e : viewOf id (Committing i s m) ≡ calm
         e = view-commit-other id i s m d
 
-        go : (agreed : Bool) → Leaves (bookAt S p id b n l (Committing i s m)) [] z (answerCommit S l stamps k mark i s m agreed)
+        go : (agreed : Bool) → Leaves (shown l (Committing i s m)) [] z (answerCommit S l stamps k mark i s m agreed)
         go true = rests _ z _ k Idle _ stamps mark refl (elsewhere _ z l k k i _ (omega arith) d (holds l k (Committing i s m) z e v))
         go false = rests _ z _ k Idle _ stamps mark refl (elsewhere _ z l k k i _ (omega arith) d (holds l k (Committing i s m) z e v))
 
     -- the chunk comes back, and the sweep goes on
-    purge-answer : (i j : ℕ) (w : Sweep) (agreed : Bool) → SoundQuestion l k (Purging i j w) → Inv S p id b n l k (Purging i j w) z
-        → Fits S p id b n l (Purging i j w) who z aside (answerPurge S l stamps k mark i j w agreed)
+    purge-answer : (i j : ℕ) (w : Sweep) (agreed : Bool) → SoundQuestion l k (Purging i j w) → Invariant l k (Purging i j w) z
+        → Does l (Purging i j w) who z aside (answerPurge S l stamps k mark i j w agreed)
     purge-answer i j w agreed h v =
         quiet l (Purging i j w) who z _ (none (eqb i id))
         (visits B z stamps k mark (counted w agreed) (v .low) (t .few) small l i (returnChunk (at l i) j agreed (w .decommit)) (j + 1) _ (t .long) own other
         (λ m u r. sweeps B z stamps k mark (counted w agreed) (v .low) (t .few) small _ _ m u r))
       where
         B : Book
-        B = bookAt S p id b n l (Purging i j w)
+        B = shown l (Purging i j w)
 
         small : n ≤ 1024
         small = omega (arith, v .stays .chunks, t .each id (v .low) .range .few)
@@ -472,46 +479,45 @@ module _ (S p id b n : ℕ) where
         other : (i ≡ id → ⊥) → Ready B z (at l id)
         other d = record { rows = t .rows id (v .low); stays = v .stays; shows = ap (λ (x : View). bookIn x (at l id)) (sym (view-purge-other id i j w d)) }
 
-    answers : (q : Question) (kind : Kind) (agreed : Bool) (base : ℕ) → SoundQuestion l k q → Inv S p id b n l k q z → (z ≡ p → declines q (answer kind agreed base) ≡ false)
-        → Fits S p id b n l q who z (cond (ends id q kind) closes aside) (answerOf S l stamps k mark q kind agreed base)
+    answers : (q : Question) (kind : Kind) (agreed : Bool) (base : ℕ) → SoundQuestion l k q → Invariant l k q z → (z ≡ p → declines q (answer kind agreed base) ≡ false)
+        → Does l q who z (cond (ends id q kind) closes aside) (answerOf S l stamps k mark q kind agreed base)
     unfolding answerOf isFor
-    answers Idle kind agreed base h v w = by-cond (Fits S p id b n l Idle who z aside) (isFor Idle kind) _ _ (λ e. same l k Idle who z _ stamps mark v) (λ e. same l k Idle who z _ stamps mark v)
+    answers Idle kind agreed base h v w = by-cond (Does l Idle who z aside) (isFor Idle kind) _ _ (λ e. same l k Idle who z _ stamps mark v) (λ e. same l k Idle who z _ stamps mark v)
     answers (Committing i s m) ForCommit agreed base h v w = go (ℕ-discrete i id) agreed w
       where
-        go : Dec (i ≡ id) → (agreed : Bool) → (z ≡ p → not agreed ≡ false) → Fits S p id b n l (Committing i s m) who z (cond (eqb i id) closes aside) (answerCommit S l stamps k mark i s m agreed)
-        go (no d) agreed w = subst (λ (c : Bool). Fits S p id b n l (Committing i s m) who z (cond c closes aside) (answerCommit S l stamps k mark i s m agreed)) (sym (ne-eqb i id d)) (other-commit i s m agreed d v)
+        go : Dec (i ≡ id) → (agreed : Bool) → (z ≡ p → not agreed ≡ false) → Does l (Committing i s m) who z (cond (eqb i id) closes aside) (answerCommit S l stamps k mark i s m agreed)
+        go (no d) agreed w = subst (λ (c : Bool). Does l (Committing i s m) who z (cond c closes aside) (answerCommit S l stamps k mark i s m agreed)) (sym (ne-eqb i id d)) (other-commit i s m agreed d v)
         go (yes e) false w = absurd (true≢false (w (subst (Mine p z) (ap (λ (x : ℕ). viewOf id (Committing x s m)) e ∙ view-commit id s m) (v .mine))))
         go (yes e) true w =
-            subst (λ (c : Bool). Fits S p id b n l (Committing i s m) who z (cond c closes aside) (answerCommit S l stamps k mark i s m true)) (sym (eq-eqb i id e))
-            (subst (λ (x : ℕ). SoundQuestion l k (Committing x s m) → Inv S p id b n l k (Committing x s m) z → Fits S p id b n l (Committing x s m) who z closes (answerCommit S l stamps k mark x s m true))
+            subst (λ (c : Bool). Does l (Committing i s m) who z (cond c closes aside) (answerCommit S l stamps k mark i s m true)) (sym (eq-eqb i id e))
+            (subst (λ (x : ℕ). SoundQuestion l k (Committing x s m) → Invariant l k (Committing x s m) z → Does l (Committing x s m) who z closes (answerCommit S l stamps k mark x s m true))
             (sym e) (own-yes s m) h v)
     answers (Committing i s m) ForPurge agreed base h v w = same l k (Committing i s m) who z _ stamps mark v
     answers (Committing i s m) ForMemory agreed base h v w = same l k (Committing i s m) who z _ stamps mark v
     answers (Committing i s m) ForGiveBack agreed base h v w = same l k (Committing i s m) who z _ stamps mark v
     answers (Committing i s m) ForNone agreed base h v w = same l k (Committing i s m) who z _ stamps mark v
     answers (Purging i j u) kind agreed base h v w =
-        by-cond (Fits S p id b n l (Purging i j u) who z aside) (isFor (Purging i j u) kind) _ _ (λ e. purge-answer i j u agreed h v) (λ e. same l k (Purging i j u) who z _ stamps mark v)
+        by-cond (Does l (Purging i j u) who z aside) (isFor (Purging i j u) kind) _ _ (λ e. purge-answer i j u agreed h v) (λ e. same l k (Purging i j u) who z _ stamps mark v)
     answers (Reserving chunks bytes commit exclusive waiting) kind agreed base h v w =
-        let q : Question = Reserving chunks bytes commit exclusive waiting in
-        by-cond (Fits S p id b n l (Reserving chunks bytes commit exclusive waiting) who z aside) (isFor (Reserving chunks bytes commit exclusive waiting) kind) _ _
+        by-cond (Does l (Reserving chunks bytes commit exclusive waiting) who z aside) (isFor (Reserving chunks bytes commit exclusive waiting) kind) _ _
         (λ e. quiet l (Reserving chunks bytes commit exclusive waiting) who z _ refl
         (remembers _ z l stamps k mark (holds l k (Reserving chunks bytes commit exclusive waiting) z refl v) chunks bytes commit exclusive waiting agreed base))
         (λ e. same l k (Reserving chunks bytes commit exclusive waiting) who z _ stamps mark v)
     answers (GivingBack cause waiting) kind agreed base h v w =
-        by-cond (Fits S p id b n l (GivingBack cause waiting) who z aside) (isFor (GivingBack cause waiting) kind) _ _
+        by-cond (Does l (GivingBack cause waiting) who z aside) (isFor (GivingBack cause waiting) kind) _ _
         (λ e. quiet l (GivingBack cause waiting) who z _ refl (fails _ z l stamps k mark (holds l k (GivingBack cause waiting) z refl v) _ waiting))
         (λ e. same l k (GivingBack cause waiting) who z _ stamps mark v)
 
     -- ---- while a question is open every call but an answer is turned down, and none of them feeds the book
 
-    gated : (q : Question) (r : Role) (go : Outcome) → Inv S p id b n l k q z → (Inv S p id b n l k Idle z → Fits S p id b n l Idle who z r go) → (isIdle q ≡ false → r ≡ aside)
-        → Fits S p id b n l q who z r (gate q go (after (turnDown QuestionOpen (stateOf k mark q)) l stamps))
+    gated : (q : Question) (r : Role) (go : Outcome) → Invariant l k q z → (Invariant l k Idle z → Does l Idle who z r go) → (isIdle q ≡ false → r ≡ aside)
+        → Does l q who z r (gate q go (after (turnDown QuestionOpen (stateOf k mark q)) l stamps))
     gated q r go v f g = at-gate q v g
       where
-        shut : (q : Question) → Inv S p id b n l k q z → r ≡ aside → Fits S p id b n l q who z r (after (turnDown QuestionOpen (stateOf k mark q)) l stamps)
-        shut q v e = subst (λ (x : Role). Fits S p id b n l q who z x (after (turnDown QuestionOpen (stateOf k mark q)) l stamps)) (sym e) (same l k q who z _ stamps mark v)
+        shut : (q : Question) → Invariant l k q z → r ≡ aside → Does l q who z r (after (turnDown QuestionOpen (stateOf k mark q)) l stamps)
+        shut q v e = subst (λ (x : Role). Does l q who z x (after (turnDown QuestionOpen (stateOf k mark q)) l stamps)) (sym e) (same l k q who z _ stamps mark v)
 
-        at-gate : (q : Question) → Inv S p id b n l k q z → (isIdle q ≡ false → r ≡ aside) → Fits S p id b n l q who z r (gate q go (after (turnDown QuestionOpen (stateOf k mark q)) l stamps))
+        at-gate : (q : Question) → Invariant l k q z → (isIdle q ≡ false → r ≡ aside) → Does l q who z r (gate q go (after (turnDown QuestionOpen (stateOf k mark q)) l stamps))
         at-gate Idle v g = f v
         at-gate (Committing i s m) v g = shut (Committing i s m) v (g refl)
         at-gate (Purging i j w) v g = shut (Purging i j w) v (g refl)
@@ -524,7 +530,7 @@ module _ (S p id b n : ℕ) where
     busy q false f alone idle e = refl
 
     -- the range that the book was told is the record's
-    in-range : (q : Question) (x : ℕ) → Inv S p id b n l k q z → isInside S (at l id) x ≡ inRange S b n x
+    in-range : (q : Question) (x : ℕ) → Invariant l k q z → isInside S (at l id) x ≡ inRange S b n x
     unfolding isInside endOf bytesOf inRange
     in-range q x v = ap₂ (λ (from chunks : ℕ). leb from x && ltb x (from + chunks * S)) (v .stays .base) (v .stays .chunks)
 
@@ -538,7 +544,7 @@ module _ (S p id b n : ℕ) where
     keeps q ns settings (reserve size commit large exclusive) h v alone idle agrees =
         gated q aside _ v
         (λ u. quiet l Idle who z _ refl (reserve-cases S l stamps k mark (Leaves _ [] who) size commit large exclusive (settings .page)
-        (rests _ who l k Idle _ stamps mark refl (holds l k Idle z refl u)) (λ waiting. asks-memory _ who l stamps k mark (holds l k Idle z refl u) size (settings .page) commit large exclusive waiting)))
+        (rests _ who l k Idle _ stamps mark refl (holds l k Idle z refl u)) (asks-memory _ who l stamps k mark (holds l k Idle z refl u) size (settings .page) commit large exclusive Reserve)))
         (λ e. refl)
     keeps q ns settings (manage start size exclusive node mapped reserved) h v alone idle agrees =
         gated q aside _ v
@@ -557,13 +563,13 @@ module _ (S p id b n : ℕ) where
     keeps q ns settings (claim (pos i) m commits) h v alone idle agrees =
         gated q (cond (eqb i id) (feeds (claims m)) aside) _ v (λ u. go (ℕ-discrete i id) u) (busy q (eqb i id) (claims m) (alone (claims m)) (λ w. idle w refl))
       where
-        go : Dec (i ≡ id) → Inv S p id b n l k Idle z → Fits S p id b n l Idle who z (cond (eqb i id) (feeds (claims m)) aside) (claimOf S l stamps k mark (pos i) m commits settings)
+        go : Dec (i ≡ id) → Invariant l k Idle z → Does l Idle who z (cond (eqb i id) (feeds (claims m)) aside) (claimOf S l stamps k mark (pos i) m commits settings)
         go (yes e) u =
-            subst (λ (c : Bool). Fits S p id b n l Idle who z (cond c (feeds (claims m)) aside) (claimOf S l stamps k mark (pos i) m commits settings)) (sym (eq-eqb i id e))
-            (subst (λ (x : ℕ). Fits S p id b n l Idle who z (feeds (claims m)) (claimOf S l stamps k mark (pos x) m commits settings)) (sym e)
+            subst (λ (c : Bool). Does l Idle who z (cond c (feeds (claims m)) aside) (claimOf S l stamps k mark (pos i) m commits settings)) (sym (eq-eqb i id e))
+            (subst (λ (x : ℕ). Does l Idle who z (feeds (claims m)) (claimOf S l stamps k mark (pos x) m commits settings)) (sym e)
             (matched (claims m) _ (own-claim u (alone (claims m) (ap (λ (c : Bool). cond c (feeds (claims m)) aside) (eq-eqb i id e))) m commits settings)))
         go (no d) u =
-            subst (λ (c : Bool). Fits S p id b n l Idle who z (cond c (feeds (claims m)) aside) (claimOf S l stamps k mark (pos i) m commits settings)) (sym (ne-eqb i id d))
+            subst (λ (c : Bool). Does l Idle who z (cond c (feeds (claims m)) aside) (claimOf S l stamps k mark (pos i) m commits settings)) (sym (ne-eqb i id d))
             (quiet l Idle who z _ refl (claims-elsewhere _ who l stamps k mark (holds l k Idle z refl u) (pos i) m commits settings
             (λ j. not-named _ who l stamps k mark (holds l k Idle z refl u) i m j d)))
     keeps q ns settings (claim (negsuc i) m commits) h v alone idle agrees =
@@ -577,8 +583,8 @@ module _ (S p id b n : ℕ) where
         range : isInside S (at l id) x ≡ inRange S b n x
         range = in-range q x v
 
-        go : (c : Bool) → inRange S b n x ≡ c → Inv S p id b n l k Idle z
-            → Fits S p id b n l Idle who z (cond c (feeds (releases x m)) aside) (releaseOf S l stamps k mark x m told pending (nowMs ns) (delayMs (settings .delay)))
+        go : (c : Bool) → inRange S b n x ≡ c → Invariant l k Idle z
+            → Does l Idle who z (cond c (feeds (releases x m)) aside) (releaseOf S l stamps k mark x m told pending (nowMs ns) (delayMs (settings .delay)))
         go true e u = matched (releases x m) _ (own-release u x m told pending _ _ (range ∙ e))
         go false e u = quiet l Idle who z _ refl (releases-elsewhere _ who l stamps k mark (holds l k Idle z refl u) x m told pending _ _ (range ∙ e))
     keeps q ns settings (sweep force) h v alone idle agrees =

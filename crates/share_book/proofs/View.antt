@@ -5,7 +5,6 @@ use mathlib.Core.List.{List, [], _∷_}
 use Prim.Native.Nat.{ℕ, _+_, _*_, _≤_, _<_}
 use native.Mathlib.Omega.{arith}
 use borrow.Author.Tests.{eq-eqb, ne-eqb}
-use lib.Dec.{eqb}
 use lib.IntN.{ℤ}
 use Rattle.words.specs.Bits.{bitAt, within}
 use Rattle.words.specs.Rows.{clearRun}
@@ -16,20 +15,19 @@ use Rattle.runs.specs.Lowest.{all}
 use Rattle.arena.specs.declared.Arena.{Arena}
 use Rattle.arena.specs.declared.Commitment.{Commitment}
 use Rattle.arena.specs.declared.Commitment.the-variants.{Untold, Committed, Uncommitted}
-use Rattle.arena.specs.Registering.{noBits, eachBit, newArena, reservedArena, managedArena, adoptedArena}
+use Rattle.arena.specs.Registering.{noBits, eachBit, newArena, reservedArena, managedArena}
 use Rattle.arena.specs.Claiming.{runFresh, takeRun, giveBackRun, commitRun, dirtyRun, finishGrant}
 use Rattle.arena.specs.Releasing.{tellRun, pendRun, releaseRun}
 use Rattle.arena.specs.Sweeping.{disarm, borrowChunk, unpendChunk, returnChunk, nextWait, rearmAt, rearm}
 use Rattle.arena_laws.specs.Rows.{Rows}
 use Rattle.arena_laws.proofs.RowLaws.{bit-write, no-bits-row, no-bits}
-use Rattle.arena_laws.proofs.Changes.{take-used, dirty-dirty, finish-dirty, release-used, release-dirty, take-rows}
+use Rattle.arena_laws.proofs.Changes.{take-used, dirty-dirty, finish-dirty, release-used, release-dirty}
 use Rattle.layer.specs.declared.Sweep.{Sweep}
-use Rattle.layer.specs.declared.Question.{Question}
 use Rattle.layer.specs.declared.Question.the-variants.{Committing, Purging}
 use Rattle.layer_laws.proofs.Kept.{take-range, release-range}
-use Rattle.share_book.specs.Book.{Book, Say, granted, opened, hold, unhold, claimed}
-use Rattle.share_book.specs.Sequence.{View, calm, committing, purging, viewOf, owedIn}
-use Rattle.share_book.proofs.Shown.{heldIn, touchedIn, bookIn, Stays}
+use Rattle.share_book.specs.Book.{Book, granted, opened, hold, unhold, claimed}
+use Rattle.share_book.specs.Sequence.{calm, committing, purging, viewOf, owedIn}
+use Rattle.share_book.proofs.Shown.{bookIn, Stays}
 
 -- ---- a written bit, in the book's words
 
@@ -103,11 +101,9 @@ owed-taken S a s n = refl
 
 -- ---- sweeps and their answers
 
-pub book-disarmed : (v : View) (a : Arena) → bookIn v (disarm a) ≡ bookIn v a
+pub book-disarmed : (a : Arena) → bookIn calm (disarm a) ≡ bookIn calm a
 unfolding disarm
-book-disarmed calm a = refl
-book-disarmed (committing s n) a = refl
-book-disarmed (purging c) a = refl
+book-disarmed a = refl
 
 pub book-rearmed : (a : Arena) (stamps : List ℕ) (force : Bool) (now delay : ℕ) → bookIn calm (rearm a stamps force now delay) ≡ bookIn calm a
 unfolding rearm

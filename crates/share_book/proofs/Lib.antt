@@ -2,3 +2,4 @@ pub mod Shown
 pub mod View
 pub mod Cases
 pub mod Keeps
+pub mod Outcomes

@@ -3,3 +3,4 @@ pub mod View
 pub mod Cases
 pub mod Keeps
 pub mod Outcomes
+pub mod Demand

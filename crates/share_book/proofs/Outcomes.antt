@@ -143,8 +143,8 @@ module _ (S : ℕ) (l : List Arena) (k : ℕ) where
   abbrev pub Tells : ℕ → (ℕ → Bool) → Answer → World → Type 0
   Tells n named (Refused why) w = _≡_ {A = Bool} (eqb (number why) 1) false
   Tells n named (Asks ask) w = Unit {0}
-  Tells n named (Registered i) w = New i w
-  Tells n named (Claimed x fresh committed) w = Away n named x
+  Tells n named (Registered i) w = SoundTable S l k → New i w
+  Tells n named (Claimed x fresh committed) w = SoundTable S l k → Away n named x
   Tells n named Released w = Unit {0}
   Tells n named (Swept count) w = Unit {0}
   Tells n named (Owns whether) w = Unit {0}
@@ -174,7 +174,7 @@ module _ (S : ℕ) (l : List Arena) (stamps : List ℕ) (k : ℕ) (mark : Bool) 
       go (At i) h = run i (omega (arith, h .1)) (and-both (eligible id i (at l i)) _ (h .2) .0) (findRun (at l i) n) refl
       go Nothing h = miss
 
-module _ (S : ℕ) (some : 0 < S) (l : List Arena) (stamps : List ℕ) (k : ℕ) (mark : Bool) (t : SoundTable S l k) where
+module _ (S : ℕ) (some : 0 < S) (l : List Arena) (stamps : List ℕ) (k : ℕ) (mark : Bool) where
   asks-memory : (n : ℕ) (named : ℕ → Bool) (size page : ℕ) (commit large exclusive : Bool) (waiting : Waiting)
       → TellsOf S l k n named (after (askMemory S k mark size page commit large exclusive waiting) l stamps)
   unfolding askMemory
@@ -204,7 +204,7 @@ module _ (S : ℕ) (some : 0 < S) (l : List Arena) (stamps : List ℕ) (k : ℕ)
       (λ e. by-cond (TellsOf S l k n (names Idle (claim id n commits))) (arenaAllowed (settings .off) id) _ _
       (λ f. search-cases S l stamps k mark (TellsOf S l k n (names Idle (claim id n commits))) id n commits (missReply S k mark id n commits settings)
       (miss-tells n (names Idle (claim id n commits)) id n commits settings) (λ w. refl) (λ ask w. tt)
-      (λ i s fresh committed w h g m j u x z. elsewhere S some l k t i j s n h u (other id i j g x z) m))
+      (λ i s fresh committed w h g m t j u x z. elsewhere S some l k t i j s n h u (other id i j g x z) m))
       (λ f. refl))
     where
       other : (id : ℤ) (i j : ℕ) → eligible id i (at l i) ≡ true → at l j .exclusive ≡ true → names Idle (claim id n commits) j ≡ false → i ≡ j → ⊥
@@ -225,8 +225,8 @@ module _ (S : ℕ) (some : 0 < S) (l : List Arena) (stamps : List ℕ) (k : ℕ)
       few : badCount chunks ≡ false → chunks ≤ 1024
       few f = unfold badCount in ltb-false 1024 chunks (or-false (eqb chunks 0) _ f .1)
 
-      made : badCount chunks ≡ false → k < 32 → New k (worldOf (withRecord l k a) (withStamps stamps k) (stateOf (suc k) mark Idle))
-      made f h = record {
+      made : badCount chunks ≡ false → k < 32 → SoundTable S l k → New k (worldOf (withRecord l k a) (withStamps stamps k) (stateOf (suc k) mark Idle))
+      made f h t = record {
         low = omega arith;
         idle = refl;
         shows = subst (λ (x : Arena). x .exclusive ≡ true → bookIn calm x ≡ opened (x .base) (x .chunks) (not (x .owned))) (sym (at-same l k a (omega (arith, t .long)))) (shows (few f));
@@ -270,7 +270,7 @@ module _ (S : ℕ) (some : 0 < S) (l : List Arena) (stamps : List ℕ) (k : ℕ)
           not-both (at l i .exclusive) (not-true (at l i .exclusive) (q .0)) x
 
       go : (f : Found) → First (λ i. grows S (at l i) address (size / S)) 0 k f → TellsOf S l k m named (adoptAt S l stamps k mark address (size / S) f)
-      go (At i) f = record {
+      go (At i) f = λ t. record {
         low = omega (arith, f .1);
         idle = refl;
         shows = λ x. absurd (grown-shared i (size / S) (f .2) (sym (ap (λ (a : Arena). a .exclusive) (at-same l i (grownArena (at l i) (size / S)) (omega (arith, f .1, t .long, t .few)))) ∙ x));
@@ -311,9 +311,9 @@ module _ (S : ℕ) (stamps : List ℕ) (k : ℕ) (mark : Bool) (w : Sweep) (P : 
 
 -- ---- answers
 
-module _ (S : ℕ) (some : 0 < S) (l : List Arena) (stamps : List ℕ) (k : ℕ) (mark : Bool) (t : SoundTable S l k) where
+module _ (S : ℕ) (some : 0 < S) (l : List Arena) (stamps : List ℕ) (k : ℕ) (mark : Bool) where
   commit-tells : (i s n : ℕ) (granted : Bool) → SoundQuestion l k (Committing i s n) → TellsOf S l k n (namesIn (Committing i s n)) (answerCommit S l stamps k mark i s n granted)
-  commit-tells i s n true h = λ j u x z. elsewhere S some l k t i j s n (h .0) u (eqb-false i j z) (h .1)
+  commit-tells i s n true h = λ t j u x z. elsewhere S some l k t i j s n (h .0) u (eqb-false i j z) (h .1)
   commit-tells i s n false h = refl
 
   fail-tells : (m : ℕ) (named : ℕ → Bool) (why : Refusal) (waiting : Waiting) → _≡_ {A = Bool} (eqb (number why) 1) false → TellsOf S l k m named (after (failReply k mark why waiting) l stamps)
@@ -322,11 +322,8 @@ module _ (S : ℕ) (some : 0 < S) (l : List Arena) (stamps : List ℕ) (k : ℕ)
 
   -- the reserved range is registered, and who waits goes on
   module _ (base chunks : ℕ) (commit exclusive : Bool) (full : k < 32) (x : SoundRange S base chunks) (alone : (i : ℕ) → i < k → meets S (at l i) base (chunks * S) ≡ false) where
-    a : Arena
-    a = reservedArena base chunks commit exclusive
-
-    made : SoundTable S (withRecord l k (reservedArena base chunks commit exclusive)) (suc k)
-    made =
+    made : SoundTable S l k → SoundTable S (withRecord l k (reservedArena base chunks commit exclusive)) (suc k)
+    made t =
         new-table S l k (reservedArena base chunks commit exclusive) t full (reserved-rows base chunks commit exclusive) (reserved-sound S base chunks commit exclusive x)
         (λ i u. let z = reserved-range S base chunks commit exclusive in ap₂ (meets S (at l i)) (z .0) (z .1) ∙ alone i u)
 
@@ -336,7 +333,7 @@ module _ (S : ℕ) (some : 0 < S) (l : List Arena) (stamps : List ℕ) (k : ℕ)
     reserved-shows e = book-reserved base chunks commit exclusive (x .few) ∙ (unfold reservedArena newArena in refl)
 
     resume-tells : (waiting : Waiting) (q : ℕ) → TellsOf S l k (asksIn (Reserving chunks q commit exclusive waiting)) (λ j. false) (resume S l stamps k mark (reservedArena base chunks commit exclusive) waiting)
-    resume-tells Reserve q = record {
+    resume-tells Reserve q = λ t. record {
       low = omega arith;
       idle = refl;
       shows = subst (λ (y : Arena). y .exclusive ≡ true → bookIn calm y ≡ opened (y .base) (y .chunks) (not (y .owned)))
@@ -344,10 +341,10 @@ module _ (S : ℕ) (some : 0 < S) (l : List Arena) (stamps : List ℕ) (k : ℕ)
     }
     resume-tells (Claim n commits) q =
         search-cases S (withRecord l k (reservedArena base chunks commit exclusive)) (withStamps stamps k) (suc k) mark (TellsOf S l k n (λ j. false)) (negsuc 0) n commits _
-        refl (λ w. refl) (λ ask w. tt) (λ i s fresh committed w h g m j u z e y lo hi.
+        refl (λ w. refl) (λ ask w. tt) (λ i s fresh committed w h g m t j u z e y lo hi.
         subst (λ (b : Arena). isInside S b y ≡ false) (kept j u)
-        (elsewhere S some (withRecord l k (reservedArena base chunks commit exclusive)) (suc k) made i j s n h (omega arith)
-        (shared-not S some l stamps k mark t 0 i j (withRecord l k (reservedArena base chunks commit exclusive)) g (ap (λ (b : Arena). b .exclusive) (kept j u) ∙ z)) m y lo hi))
+        (elsewhere S some (withRecord l k (reservedArena base chunks commit exclusive)) (suc k) (made t) i j s n h (omega arith)
+        (shared-not S some l stamps k mark 0 i j (withRecord l k (reservedArena base chunks commit exclusive)) g (ap (λ (b : Arena). b .exclusive) (kept j u) ∙ z)) m y lo hi))
       where
         kept : (j : ℕ) → j < k → at (withRecord l k (reservedArena base chunks commit exclusive)) j ≡ at l j
         kept j u = at-other l k j (reservedArena base chunks commit exclusive) (λ e. omega arith)
@@ -400,12 +397,12 @@ module _ (S : ℕ) (some : 0 < S) (l : List Arena) (stamps : List ℕ) (k : ℕ)
   gate-tells m named (GivingBack cause waiting) o stop x y = y
 
   pub step-tells : (q : Question) (ns : ℕ) (settings : Settings) (c : Call) → SoundQuestion l k q → TellsOf S l k (asksFor q c) (names q c) (stepOn S l stamps k mark q ns settings c)
-  step-tells q ns settings (reserve size commit large exclusive) h = gate-tells 0 _ q _ _ (λ e. reserve-tells S some l stamps k mark t 0 _ size commit large exclusive (settings .page)) refl
-  step-tells q ns settings (manage start size exclusive node mapped reserved) h = gate-tells 0 _ q _ _ (λ e. manage-tells S some l stamps k mark t 0 _ start size exclusive node mapped reserved) refl
-  step-tells q ns settings (adopt address size) h = gate-tells 0 _ q _ _ (λ e. adopt-tells S some l stamps k mark t 0 _ address size) refl
-  step-tells q ns settings (claim (pos i) n commits) h = gate-tells n _ q _ _ (λ e. claim-tells S some l stamps k mark t (pos i) n commits settings) refl
-  step-tells q ns settings (claim (negsuc i) n commits) h = gate-tells n _ q _ _ (λ e. claim-tells S some l stamps k mark t (negsuc i) n commits settings) refl
-  step-tells q ns settings (release address n told pending) h = gate-tells 0 _ q _ _ (λ e. release-tells S some l stamps k mark t 0 _ address n told pending _ _) refl
+  step-tells q ns settings (reserve size commit large exclusive) h = gate-tells 0 _ q _ _ (λ e. reserve-tells S some l stamps k mark 0 _ size commit large exclusive (settings .page)) refl
+  step-tells q ns settings (manage start size exclusive node mapped reserved) h = gate-tells 0 _ q _ _ (λ e. manage-tells S some l stamps k mark 0 _ start size exclusive node mapped reserved) refl
+  step-tells q ns settings (adopt address size) h = gate-tells 0 _ q _ _ (λ e. adopt-tells S some l stamps k mark 0 _ address size) refl
+  step-tells q ns settings (claim (pos i) n commits) h = gate-tells n _ q _ _ (λ e. claim-tells S some l stamps k mark (pos i) n commits settings) refl
+  step-tells q ns settings (claim (negsuc i) n commits) h = gate-tells n _ q _ _ (λ e. claim-tells S some l stamps k mark (negsuc i) n commits settings) refl
+  step-tells q ns settings (release address n told pending) h = gate-tells 0 _ q _ _ (λ e. release-tells S some l stamps k mark 0 _ address n told pending _ _) refl
   step-tells q ns settings (sweep force) h =
       gate-tells 0 _ q _ _ (λ e. sweep-cases S stamps k mark (sweepOf force ns settings) (TellsOf S l k 0 (names q (sweep force))) (λ ask v. tt) (λ n v. tt) k 0 l) refl
   step-tells q ns settings (answer kind accepted base) h = answer-tells q kind accepted base h

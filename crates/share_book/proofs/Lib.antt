@@ -4,3 +4,4 @@ pub mod Cases
 pub mod Keeps
 pub mod Outcomes
 pub mod Demand
+pub mod Consequences

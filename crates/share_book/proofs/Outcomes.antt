@@ -17,12 +17,12 @@ use Rattle.words.proofs.RowLaws.{lt-or-le}
 use Rattle.words.proofs.WordLaws.{not-both}
 use Rattle.runs.specs.declared.Found.{Found}
 use Rattle.runs.specs.declared.Found.the-variants.{At, Nothing}
-use Rattle.runs.specs.Lowest.{least}
+use Rattle.runs.specs.Lowest.{all, least}
 use Rattle.runs.proofs.LowestLaws.{First, first-says}
 use Rattle.runs.proofs.SearchLaws.{and-both}
-use Rattle.options.specs.Options.{arenaAllowed}
+use Rattle.options.specs.Options.{arenaAllowed, pageSizeSound}
 use Rattle.refusals.specs.declared.Refusal.{Refusal}
-use Rattle.refusals.specs.declared.Refusal.the-variants.{NoRun}
+use Rattle.refusals.specs.declared.Refusal.the-variants.{Broken, NoRun}
 use Rattle.refusals.specs.Number.{number}
 use Rattle.arena.specs.declared.Arena.{Arena}
 use Rattle.arena.specs.declared.Commitment.{Commitment}
@@ -31,6 +31,7 @@ use Rattle.arena.specs.Claiming.{findRun, runFresh, runCommitted}
 use Rattle.arena.specs.Releasing.{releaseRun, stampRun}
 use Rattle.arena.specs.Sweeping.{sweepDue, disarm, returnChunk, nextAsked}
 use Rattle.lookup.specs.Place.{bytesOf, endOf, isInside}
+use Rattle.lookup.specs.Soundness.{soundArena}
 use Rattle.lookup.proofs.SoundLaws.{SoundRange, SoundArena, never}
 use Rattle.purge.specs.Stamps.{stampsOf}
 use Rattle.arena_laws.proofs.Changes.{found-inside}
@@ -48,18 +49,18 @@ use Rattle.layer.specs.declared.Answer.{Answer}
 use Rattle.layer.specs.declared.Answer.the-variants.{Refused, Asks, Registered, Claimed, Released, Swept, Owns, Area}
 use Rattle.layer.specs.declared.Reply.{Reply}
 use Rattle.layer.specs.World.{World, Outcome, stateOf, worldOf, after, turnDown, outcome}
-use Rattle.layer.specs.Table.{at, findArena, meets, badRange}
+use Rattle.layer.specs.Table.{at, findArena, meets, badRange, apart, soundTable, soundLent, sound}
 use Rattle.layer.specs.Registering.{tooLarge, askMemory, reserveReply, badCount, registerReply, registers, withRecord, withStamps, register, firstWhole, pastWhole, noWholeChunk, grows, reserveOf, manageOf, adoptAt, adoptOf}
 use Rattle.layer.specs.Claiming.{eligible, serves, asksCommit, grantArena, grantReply, missReply, isNegative, grantFound, searchAt, searchOf, claimOf}
 use Rattle.layer.specs.Releasing.{releases, releaseReply, releaseIn, releaseAt, releaseOf}
 use Rattle.layer.specs.Sweeping.{purgeReply, sweptReply, visitAt, visit, sweepFrom}
 use Rattle.layer.specs.Answering.{isFor, causeRefusal, counted, failReply, answerCommit, answerPurge, resume, answerMemory, answerTo, answerOf}
-use Rattle.layer.specs.Step.{Call, reserve, manage, adopt, claim, release, sweep, answer, owns, area, sweepOf, areaOf, gate, stepOn}
+use Rattle.layer.specs.Step.{Call, reserve, manage, adopt, claim, release, sweep, answer, owns, area, sweepOf, areaOf, gate, stepOn, step}
 use Rattle.layer_laws.proofs.Tools.{or-false, at-same, at-other}
-use Rattle.layer_laws.proofs.Facts.{SoundTable, SoundQuestion}
+use Rattle.layer_laws.proofs.Facts.{SoundTable, SoundQuestion, question-facts}
 use Rattle.layer_laws.proofs.Registered.{GoodRange, good-range, meets-false, new-table, reserved-rows, reserved-sound, reserved-range}
 use Rattle.share_book.specs.Book.{opened}
-use Rattle.share_book.specs.Sequence.{calm, asksIn, asksFor}
+use Rattle.share_book.specs.Sequence.{isBroken, calm, asksIn, asksFor}
 use Rattle.share_book.proofs.Shown.{bookIn}
 use Rattle.share_book.proofs.View.{book-reserved, book-managed}
 
@@ -409,3 +410,39 @@ module _ (S : ℕ) (some : 0 < S) (l : List Arena) (stamps : List ℕ) (k : ℕ)
   step-tells q ns settings (owns address) h = tt
   step-tells q ns settings (area (pos i)) h = by-cond (λ (r : Answer). Tells S l k 0 (names q (area (pos i))) r (worldOf l stamps (stateOf k mark q))) (ltb i k) _ _ (λ e. tt) (λ e. tt)
   step-tells q ns settings (area (negsuc i)) h = tt
+
+-- ---- a call is refused with 1 exactly if row 1 does not let pass what it is lent
+
+not-broken : (S : ℕ) (l : List Arena) (k n : ℕ) (named : ℕ → Bool) (r : Answer) (w : World) → Tells S l k n named r w → isBroken r ≡ false
+not-broken S l k n named (Refused why) w h = h
+not-broken S l k n named (Asks ask) w h = refl
+not-broken S l k n named (Registered i) w h = refl
+not-broken S l k n named (Claimed x fresh committed) w h = refl
+not-broken S l k n named Released w h = refl
+not-broken S l k n named (Swept count) w h = refl
+not-broken S l k n named (Owns whether) w h = refl
+not-broken S l k n named (Area base bytes) w h = refl
+
+sound-question : (S : ℕ) (w : World) (page : ℕ) → sound S w page ≡ true → SoundQuestion (w .records) (w .state .count) (w .state .question)
+unfolding soundLent soundTable
+sound-question S w page e =
+    let a = and-both (eqb (length (w .records)) 32) _ e in
+    let b = and-both (eqb (length (w .stamps)) 32768) _ (a .1) in
+    let c = and-both (pageSizeSound page) _ (b .1) in
+    let d = and-both (leb (w .state .count) 32) _ (c .1) in
+    let f = and-both (all (λ i. soundArena S (at (w .records) i)) 0 (w .state .count)) _ (d .1) in
+    let g = and-both (apart S (w .records) (w .state .count)) _ (f .1) in
+    question-facts S (w .records) (w .state .count) (w .state .question) (g .1)
+
+pub refused-1 : (S : ℕ) → 0 < S → (w : World) (ns : ℕ) (settings : Settings) (c : Call) → isBroken (step S w ns settings c .answer) ≡ not (sound S w (settings .page))
+unfolding step
+refused-1 S some w ns settings c = go (sound S w (settings .page)) refl
+  where
+    o : Outcome
+    o = stepOn S (w .records) (w .stamps) (w .state .count) (w .state .mark) (w .state .question) ns settings c
+
+    go : (x : Bool) → sound S w (settings .page) ≡ x → isBroken (cond x o (after (turnDown Broken (w .state)) (w .records) (w .stamps)) .answer) ≡ not x
+    go true e =
+        not-broken S (w .records) (w .state .count) (asksFor (w .state .question) c) (names (w .state .question) c) (o .answer) (o .world)
+        (step-tells S some (w .records) (w .stamps) (w .state .count) (w .state .mark) (w .state .question) ns settings c (sound-question S w (settings .page) e))
+    go false e = refl

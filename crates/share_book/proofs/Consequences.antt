@@ -30,7 +30,7 @@ use Rattle.share_book.specs.Sequence.{Marked, Trail, outcomeOf, isBroken
 use Rattle.share_book.specs.Demand.{opening, Course, heldFrom, leftUnheld, toldBy, Demand3, GrantedExactly, GrantedLowest, OthersElsewhere, Alike}
 use Rattle.share_book.proofs.Shown.{Mine}
 use Rattle.share_book.proofs.Outcomes.{Tells, namesIn, names, step-tells, refused-1}
-use Rattle.share_book.proofs.Demand.{IsLent, stands, lent-append, sound-after, InvAt, bookOf, Keeping, Moves, one, Ran, run, demand3-by}
+use Rattle.share_book.proofs.Demand.{IsLent, stands, lent-append, sound-after, InvAt, bookOf, Moves, one, Ran, run, demand3}
 
 -- ---- what the program's calls and what it was told leave held is what the book holds
 
@@ -68,7 +68,7 @@ premise-append : (S p id b n : ℕ) (t : Trail) (x y : List Marked) → Premise 
 premise-append S p id b n t [] y h = (tt, h)
 premise-append S p id b n t (m ∷ x) y h = let r = premise-append S p id b n (next S t m) x y (h .1) in ((h .0, r .0), r .1)
 
-module _ (S : ℕ) (some : 0 < S) (keeps : (p id b n : ℕ) → Keeping S p id b n) (p id b n : ℕ) (managed : Bool) (before : List Marked) (m : Marked) (calls : List Marked) (last : Marked) (course : Course S p id b n managed before m (calls ++ last ∷ [])) where
+module _ (S : ℕ) (some : 0 < S) (p id b n : ℕ) (managed : Bool) (before : List Marked) (m : Marked) (calls : List Marked) (last : Marked) (course : Course S p id b n managed before m (calls ++ last ∷ [])) where
   -- the arena is registered; the calls before the last one are made
   abbrev from : Trail
   from = opening S before m
@@ -84,8 +84,8 @@ module _ (S : ℕ) (some : 0 < S) (keeps : (p id b n : ℕ) → Keeping S p id b
     premise = premise-append S p id b n from calls (last ∷ []) (course .premise) .0;
   }
 
-  ran : Ran S p id b n managed (keeps p id b n) from calls
-  ran = run S some p id b n managed (keeps p id b n) before m calls shorter
+  ran : Ran S p id b n managed from calls
+  ran = run S some p id b n managed before m calls shorter
 
   is-lent : IsLent S there last
   is-lent = lent-append S from calls (last ∷ []) (lent-append S start before (m ∷ (calls ++ last ∷ [])) (course .lent) .1 .1) .1 .0
@@ -136,12 +136,12 @@ module _ (S : ℕ) (some : 0 < S) (keeps : (p id b n : ℕ) → Keeping S p id b
         told-is =
             sym (append-nil (told S id b n from calls))
             ∙ ap (λ (x : List Say). told S id b n from calls ++ x) (sym none-owed)
-            ∙ demand3-by S some keeps p id b n managed before m calls shorter
+            ∙ demand3 S some p id b n managed before m calls shorter
 
     -- it is told what the book says
     told-book : toldBy S id there last ≡ claimed S book c (lowestRun (leftUnheld S id b n from calls) n c) .say ∷ []
     told-book =
-        let moves : Moves S p id b n there (outcomeOf S last .answer) (roleOf S id b n there last) (next S there last) = one S p id b n (keeps p id b n) there last is-lent sound-there (ran .along-calls .inv) premises in
+        let moves : Moves S p id b n there (outcomeOf S last .answer) (roleOf S id b n there last) (next S there last) = one S p id b n there last is-lent sound-there (ran .along-calls .inv) premises in
         sym (ap (λ (r : Role). toldOf r (outcomeOf S last .answer) ++ owed S id (next S there last)) fed-is)
         ∙ sym (moves .says)
         ∙ ap₂ (λ (x : List Say) (r : Role). x ++ sayAll S lowestRun (bookOf S p id b n there) (fedOf r)) none-owed fed-is
@@ -211,19 +211,18 @@ module _ (S : ℕ) (some : 0 < S) (keeps : (p id b n : ℕ) → Keeping S p id b
       never (names q (last .call) id) (λ u. other (names-mine q (last .call) (last .who) (there .asker) u (λ f g. premises .alone f (unless (brokenAt S last) aside _ stays ∙ g)) (v .mine))) in
       ap₂ (λ (b n : ℕ). leb b y && ltb y (b + n * S)) (sym (v .stays .base)) (sym (v .stays .chunks)) ∙ tells (sound-there .table) id (v .low) (v .stays .exclusive) unnamed y lo hi
 
--- ---- the statements, by what one call does
+-- ---- the statements
 
-module _ (S : ℕ) (some : 0 < S) (keeps : (p id b n : ℕ) → Keeping S p id b n) where
-  pub granted-exactly-by : GrantedExactly S
-  granted-exactly-by p id b n managed before m calls last course c commits mine is-claim h = exactly S some keeps p id b n managed before m calls last course c commits mine is-claim h
+pub granted-exactly : (S : ℕ) → 0 < S → GrantedExactly S
+granted-exactly S some p id b n managed before m calls last course c commits mine is-claim h = exactly S some p id b n managed before m calls last course c commits mine is-claim h
 
-  pub granted-lowest-by : GrantedLowest S
-  granted-lowest-by p id b n managed before m calls last course c commits mine is-claim h = lowest S some keeps p id b n managed before m calls last course c commits mine is-claim h
+pub granted-lowest : (S : ℕ) → 0 < S → GrantedLowest S
+granted-lowest S some p id b n managed before m calls last course c commits mine is-claim h = lowest S some p id b n managed before m calls last course c commits mine is-claim h
 
-  pub others-elsewhere-by : OthersElsewhere S
-  others-elsewhere-by p id b n managed before m calls last course = others S some keeps p id b n managed before m calls last course
+pub others-elsewhere : (S : ℕ) → 0 < S → OthersElsewhere S
+others-elsewhere S some p id b n managed before m calls last course = others S some p id b n managed before m calls last course
 
-  -- the same book, opened and fed the same
-  pub alike-by : Alike S
-  alike-by b n managed p id before m calls c p′ id′ before′ m′ calls′ c′ e =
-      demand3-by S some keeps p id b n managed before m calls c ∙ ap (sayAll S lowestRun (opened b n managed)) e ∙ sym (demand3-by S some keeps p′ id′ b n managed before′ m′ calls′ c′)
+-- the same book, opened and fed the same
+pub alike : (S : ℕ) → 0 < S → Alike S
+alike S some b n managed p id before m calls c p′ id′ before′ m′ calls′ c′ e =
+    demand3 S some p id b n managed before m calls c ∙ ap (sayAll S lowestRun (opened b n managed)) e ∙ sym (demand3 S some p′ id′ b n managed before′ m′ calls′ c′)

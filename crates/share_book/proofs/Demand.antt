@@ -23,6 +23,7 @@ use Rattle.share_book.specs.Book.{Book, Fed, Say, Choice, opened, enter,
 use Rattle.share_book.specs.Sequence.{Marked, Trail, outcomeOf, isBroken, brokenAt, isIdle, next, after, start, Lent, Role, feeds, aside, role, roleOf, fedOf, toldOf, fed, told, View, calm, viewOf, owedIn, owed, isAnswer, declines, Premises, Premise, Opens, asksFor}
 use Rattle.share_book.specs.Demand.{opening, Course, Demand3}
 use Rattle.share_book.proofs.Shown.{bookIn, Mine, bookAt, Inv, Fits}
+use Rattle.share_book.proofs.Keeps.{keeps}
 use Rattle.share_book.proofs.Outcomes.{New, Tells, names, step-tells}
 
 -- ---- the book over two lists
@@ -101,59 +102,51 @@ module _ (S p id b n : ℕ) where
   abbrev pub bookOf : Trail → Book
   bookOf t = bookAt S p id b n (t .world .records) (t .world .state .question)
 
-  -- what a call on a sound table does to the arena, that is `keeps`
-  abbrev pub Keeping : Type 0
-  Keeping =
-      (l : List Arena) (stamps : List ℕ) (k : ℕ) (mark : Bool) → SoundTable S l k → (who z : ℕ) (q : Question) (ns : ℕ) (settings : Settings) (c : Call) → SoundQuestion l k q
-      → Inv S p id b n l k q z → ((f : Fed) → role S id b n q c ≡ feeds f → who ≡ p) → (who ≡ p → isAnswer c ≡ false → q ≡ Idle) → (z ≡ p → declines q c ≡ false)
-      → Fits S p id b n l q who z (role S id b n q c) (stepOn S l stamps k mark q ns settings c)
-
   -- from t to u by a call that is r to the arena and is answered a
   pub record Moves (t : Trail) (a : Answer) (r : Role) (u : Trail) : Type 0 where
     pub inv : InvAt u
     pub book : bookOf u ≡ enterAll S lowestRun (bookOf t) (fedOf r)
     pub says : owed S id t ++ sayAll S lowestRun (bookOf t) (fedOf r) ≡ toldOf r a ++ owed S id u
 
-  module _ (keeps : Keeping) where
-    pub one : (t : Trail) (m : Marked) → IsLent S t m → SoundWorld S (t .world) → InvAt t → Premises S p id b n t m
-        → Moves t (outcomeOf S m .answer) (roleOf S id b n t m) (next S t m)
-    one t m h s v k =
-        both-cond (Moves t (outcomeOf S m .answer)) (brokenAt S m) _ _ _ _ (λ e. record { inv = v; book = refl; says = append-nil (owed S id t) })
-        (λ e. let f = fits e in record { inv = f .inv; book = f .book; says = f .says })
-      where
-        fits : brokenAt S m ≡ false
-            → Fits S p id b n (t .world .records) (t .world .state .question) (m .who) (t .asker) (role S id b n (t .world .state .question) (m .call)) (outcomeOf S m)
-        fits e =
-            subst (Fits S p id b n (t .world .records) (t .world .state .question) (m .who) (t .asker) (role S id b n (t .world .state .question) (m .call))) (sym (stands S t m h e))
-            (keeps (t .world .records) (t .world .stamps) (t .world .state .count) (t .world .state .mark) (s .table) (m .who) (t .asker) (t .world .state .question) (m .ns) (m .settings) (m .call)
-            (s .question) v (λ f g. k .alone f (unless (brokenAt S m) aside _ e ∙ g)) (k .none-open) (λ g. k .agreed g e))
+  pub one : (t : Trail) (m : Marked) → IsLent S t m → SoundWorld S (t .world) → InvAt t → Premises S p id b n t m
+      → Moves t (outcomeOf S m .answer) (roleOf S id b n t m) (next S t m)
+  one t m h s v k =
+      both-cond (Moves t (outcomeOf S m .answer)) (brokenAt S m) _ _ _ _ (λ e. record { inv = v; book = refl; says = append-nil (owed S id t) })
+      (λ e. let f = fits e in record { inv = f .inv; book = f .book; says = f .says })
+    where
+      fits : brokenAt S m ≡ false
+          → Fits S p id b n (t .world .records) (t .world .state .question) (m .who) (t .asker) (role S id b n (t .world .state .question) (m .call)) (outcomeOf S m)
+      fits e =
+          subst (Fits S p id b n (t .world .records) (t .world .state .question) (m .who) (t .asker) (role S id b n (t .world .state .question) (m .call))) (sym (stands S t m h e))
+          (keeps S p id b n (t .world .records) (t .world .stamps) (t .world .state .count) (t .world .state .mark) (s .table) (m .who) (t .asker) (t .world .state .question) (m .ns) (m .settings) (m .call)
+          (s .question) v (λ f g. k .alone f (unless (brokenAt S m) aside _ e ∙ g)) (k .none-open) (λ g. k .agreed g e))
 
-    pub record Along (t : Trail) (ms : List Marked) : Type 0 where
-      pub inv : InvAt (after S t ms)
-      pub book : bookOf (after S t ms) ≡ enterAll S lowestRun (bookOf t) (fed S id b n t ms)
-      pub says : owed S id t ++ sayAll S lowestRun (bookOf t) (fed S id b n t ms) ≡ told S id b n t ms ++ owed S id (after S t ms)
+  pub record Along (t : Trail) (ms : List Marked) : Type 0 where
+    pub inv : InvAt (after S t ms)
+    pub book : bookOf (after S t ms) ≡ enterAll S lowestRun (bookOf t) (fed S id b n t ms)
+    pub says : owed S id t ++ sayAll S lowestRun (bookOf t) (fed S id b n t ms) ≡ told S id b n t ms ++ owed S id (after S t ms)
 
-    pub along : (some : 0 < S) (t : Trail) (ms : List Marked) → Lent S t ms → SoundWorld S (t .world) → InvAt t → Premise S p id b n t ms → Along t ms
-    unfolding fed told
-    along some t [] h s v k = record { inv = v; book = refl; says = append-nil (owed S id t) }
-    along some t (m ∷ ms) h s v k = go (one t m (h .0) s v (k .0)) (λ u. along some (next S t m) ms (h .1) (sound-next S some t m (h .0) s) u (k .1))
-      where
-        go : Moves t (outcomeOf S m .answer) (roleOf S id b n t m) (next S t m) → (InvAt (next S t m) → Along (next S t m) ms) → Along t (m ∷ ms)
-        go f rest =
-            let r : Along (next S t m) ms = rest (f .inv) in
-            let f₁ : List Fed = fedOf (roleOf S id b n t m) in
-            let f₂ : List Fed = fed S id b n (next S t m) ms in
-            let t₁ : List Say = toldOf (roleOf S id b n t m) (outcomeOf S m .answer) in
-            record {
-              inv = r .inv;
-              book = r .book ∙ ap (λ (x : Book). enterAll S lowestRun x f₂) (f .book) ∙ sym (enter-append S lowestRun (bookOf t) f₁ f₂);
-              says = ap (λ (x : List Say). owed S id t ++ x) (say-append S lowestRun (bookOf t) f₁ f₂)
-                  ∙ sym (append-assoc (owed S id t) (sayAll S lowestRun (bookOf t) f₁) (sayAll S lowestRun (enterAll S lowestRun (bookOf t) f₁) f₂))
-                  ∙ ap₂ (λ (x : List Say) (y : Book). x ++ sayAll S lowestRun y f₂) (f .says) (sym (f .book))
-                  ∙ append-assoc t₁ (owed S id (next S t m)) (sayAll S lowestRun (bookOf (next S t m)) f₂)
-                  ∙ ap (λ (x : List Say). t₁ ++ x) (r .says)
-                  ∙ sym (append-assoc t₁ (told S id b n (next S t m) ms) (owed S id (after S (next S t m) ms)));
-            }
+  pub along : (some : 0 < S) (t : Trail) (ms : List Marked) → Lent S t ms → SoundWorld S (t .world) → InvAt t → Premise S p id b n t ms → Along t ms
+  unfolding fed told
+  along some t [] h s v k = record { inv = v; book = refl; says = append-nil (owed S id t) }
+  along some t (m ∷ ms) h s v k = go (one t m (h .0) s v (k .0)) (λ u. along some (next S t m) ms (h .1) (sound-next S some t m (h .0) s) u (k .1))
+    where
+      go : Moves t (outcomeOf S m .answer) (roleOf S id b n t m) (next S t m) → (InvAt (next S t m) → Along (next S t m) ms) → Along t (m ∷ ms)
+      go f rest =
+          let r : Along (next S t m) ms = rest (f .inv) in
+          let f₁ : List Fed = fedOf (roleOf S id b n t m) in
+          let f₂ : List Fed = fed S id b n (next S t m) ms in
+          let t₁ : List Say = toldOf (roleOf S id b n t m) (outcomeOf S m .answer) in
+          record {
+            inv = r .inv;
+            book = r .book ∙ ap (λ (x : Book). enterAll S lowestRun x f₂) (f .book) ∙ sym (enter-append S lowestRun (bookOf t) f₁ f₂);
+            says = ap (λ (x : List Say). owed S id t ++ x) (say-append S lowestRun (bookOf t) f₁ f₂)
+                ∙ sym (append-assoc (owed S id t) (sayAll S lowestRun (bookOf t) f₁) (sayAll S lowestRun (enterAll S lowestRun (bookOf t) f₁) f₂))
+                ∙ ap₂ (λ (x : List Say) (y : Book). x ++ sayAll S lowestRun y f₂) (f .says) (sym (f .book))
+                ∙ append-assoc t₁ (owed S id (next S t m)) (sayAll S lowestRun (bookOf (next S t m)) f₂)
+                ∙ ap (λ (x : List Say). t₁ ++ x) (r .says)
+                ∙ sym (append-assoc t₁ (told S id b n (next S t m) ms) (owed S id (after S (next S t m) ms)));
+          }
 
   -- ---- the opening: only Registering's rules answer so, and what they made is the book as it is opened
 
@@ -192,23 +185,25 @@ module _ (S p id b n : ℕ) where
 
 -- ---- a course: sound where the arena is registered, opened as the book is, and along the calls
 
-pub record Ran (S p id b n : ℕ) (managed : Bool) (keeps : Keeping S p id b n) (from : Trail) (calls : List Marked) : Type 0 where
+pub record Ran (S p id b n : ℕ) (managed : Bool) (from : Trail) (calls : List Marked) : Type 0 where
   pub lent : Lent S from calls
   pub sound : SoundWorld S (from .world)
   pub open-as : Opening S p id b n managed from
-  pub along-calls : Along S p id b n keeps from calls
+  pub along-calls : Along S p id b n from calls
 
-pub run : (S : ℕ) → 0 < S → (p id b n : ℕ) (managed : Bool) (keeps : Keeping S p id b n) (before : List Marked) (m : Marked) (calls : List Marked)
-    → Course S p id b n managed before m calls → Ran S p id b n managed keeps (opening S before m) calls
-run S some p id b n managed keeps before m calls c =
+pub run : (S : ℕ) → 0 < S → (p id b n : ℕ) (managed : Bool) (before : List Marked) (m : Marked) (calls : List Marked)
+    → Course S p id b n managed before m calls → Ran S p id b n managed (opening S before m) calls
+run S some p id b n managed before m calls c =
     let h : Lent S start before × Lent S (after S start before) (m ∷ calls) = lent-append S start before (m ∷ calls) (c .lent) in
     let s : SoundWorld S (after S start before .world) = sound-after S some start before (h .0) (sound-empty S some) in
     let f : SoundWorld S (opening S before m .world) = sound-next S some (after S start before) m (h .1 .0) s in
     let o : Opening S p id b n managed (opening S before m) = opens S p id b n some managed (after S start before) m (h .1 .0) s (c .opens) in
-    record { lent = h .1 .1; sound = f; open-as = o; along-calls = along S p id b n keeps some (opening S before m) calls (h .1 .1) f (o .inv) (c .premise) }
+    record { lent = h .1 .1; sound = f; open-as = o; along-calls = along S p id b n some (opening S before m) calls (h .1 .1) f (o .inv) (c .premise) }
 
-pub demand3-by : (S : ℕ) → 0 < S → ((p id b n : ℕ) → Keeping S p id b n) → Demand3 S
-demand3-by S some keeps p id b n managed before m calls c =
-    let r = run S some p id b n managed (keeps p id b n) before m calls c in
+-- ---- DEMAND 3
+
+pub demand3 : (S : ℕ) → 0 < S → Demand3 S
+demand3 S some p id b n managed before m calls c =
+    let r = run S some p id b n managed before m calls c in
     sym (r .along-calls .says)
     ∙ ap₂ (λ (x : List Say) (y : Book). x ++ sayAll S lowestRun y (fed S id b n (opening S before m) calls)) (r .open-as .owes) (r .open-as .book)

@@ -1,0 +1,224 @@
+-- What each change of a record does to the share book that it shows, and what it leaves of the record's range. No id and no table. Assumes nothing.
+use mathlib.Core.Path.{_≡_, refl, sym, ap, _∙_}
+use mathlib.Core.Bool.{Bool, true, false, cond, not, _&&_, _||_}
+use mathlib.Core.List.{List, [], _∷_}
+use Prim.Native.Nat.{ℕ, _+_, _*_, _≤_, _<_}
+use native.Mathlib.Omega.{arith}
+use borrow.Author.Tests.{eq-eqb, ne-eqb}
+use lib.IntN.{ℤ}
+use Rattle.words.specs.Bits.{bitAt, within}
+use Rattle.words.specs.Rows.{clearRun}
+use Rattle.words.proofs.RowLaws.{Stands, stands, before, inside, after, within-yes, within-before, within-after}
+use Rattle.runs.specs.declared.Found.{Found}
+use Rattle.runs.specs.declared.Found.the-variants.{At, Nothing}
+use Rattle.runs.specs.Lowest.{all}
+use Rattle.arena.specs.declared.Arena.{Arena}
+use Rattle.arena.specs.declared.Commitment.{Commitment}
+use Rattle.arena.specs.declared.Commitment.the-variants.{Untold, Committed, Uncommitted}
+use Rattle.arena.specs.Registering.{noBits, eachBit, newArena, reservedArena, managedArena}
+use Rattle.arena.specs.Claiming.{runFresh, takeRun, giveBackRun, commitRun, dirtyRun, finishGrant}
+use Rattle.arena.specs.Releasing.{tellRun, pendRun, releaseRun}
+use Rattle.arena.specs.Sweeping.{disarm, borrowChunk, unpendChunk, returnChunk, nextWait, rearmAt, rearm}
+use Rattle.arena_laws.specs.Rows.{Rows}
+use Rattle.arena_laws.proofs.RowLaws.{bit-write, no-bits-row, no-bits}
+use Rattle.arena_laws.proofs.Changes.{take-used, dirty-dirty, finish-dirty, release-used, release-dirty}
+use Rattle.layer.specs.declared.Sweep.{Sweep}
+use Rattle.layer.specs.declared.Question.the-variants.{Committing, Purging}
+use Rattle.layer_laws.proofs.Kept.{take-range, release-range}
+use Rattle.share_book.specs.Book.{Book, granted, opened, hold, unhold, claimed}
+use Rattle.share_book.specs.Sequence.{calm, committing, purging, viewOf, owedIn}
+use Rattle.share_book.proofs.Shown.{bookIn, Stays}
+
+-- ---- a written bit, in the book's words
+
+set-or : (t b : Bool) → cond t true b ≡ t || b
+set-or true b = refl
+set-or false b = refl
+
+clear-and : (t b : Bool) → cond t false b ≡ not t && b
+clear-and true b = refl
+clear-and false b = refl
+
+-- two books that say the same
+pub book-same : (x y : Book) → x .base ≡ y .base → x .chunks ≡ y .chunks → ((j : ℕ) → x .held j ≡ y .held j) → ((j : ℕ) → x .touched j ≡ y .touched j) → x ≡ y
+book-same x y b c h t = λ i. record { base = b i; chunks = c i; held = λ j. h j i; touched = λ j. t j i }
+
+-- ---- what is open about an arena
+
+module _ (id : ℕ) where
+  pub view-commit : (s n : ℕ) → viewOf id (Committing id s n) ≡ committing s n
+  view-commit s n = ap (λ (b : Bool). cond b (committing s n) calm) (eq-eqb id id refl)
+
+  pub view-purge : (j : ℕ) (w : Sweep) → viewOf id (Purging id j w) ≡ purging j
+  view-purge j w = ap (λ (b : Bool). cond b (purging j) calm) (eq-eqb id id refl)
+
+  pub view-commit-other : (i s n : ℕ) → (i ≡ id → ⊥) → viewOf id (Committing i s n) ≡ calm
+  view-commit-other i s n h = ap (λ (b : Bool). cond b (committing s n) calm) (ne-eqb i id h)
+
+  pub view-purge-other : (i j : ℕ) (w : Sweep) → (i ≡ id → ⊥) → viewOf id (Purging i j w) ≡ calm
+  view-purge-other i j w h = ap (λ (b : Bool). cond b (purging j) calm) (ne-eqb i id h)
+
+-- ---- claims and their answers
+
+module _ (a : Arena) (s n : ℕ) (r : Rows a) (h : s + n ≤ 1024) where
+  used-set : (j : ℕ) → bitAt (takeRun a s n .used) j ≡ within s n j || bitAt (a .used) j
+  used-set j = take-used a s n r h j ∙ set-or (within s n j) (bitAt (a .used) j)
+
+  dirty-set : (j : ℕ) → bitAt (dirtyRun a s n .dirty) j ≡ within s n j || bitAt (a .dirty) j
+  dirty-set j = dirty-dirty a s n r h j ∙ set-or (within s n j) (bitAt (a .dirty) j)
+
+  -- a grant that puts no question
+  pub book-granted : bookIn calm (dirtyRun (takeRun a s n) s n) ≡ hold (bookIn calm a) s n
+  unfolding dirtyRun takeRun
+  book-granted = book-same _ _ refl refl used-set dirty-set
+
+  -- one that waits for its yes
+  pub book-taken : bookIn (committing s n) (takeRun a s n) ≡ hold (bookIn calm a) s n
+  unfolding takeRun
+  book-taken = book-same _ _ refl refl used-set (λ j. refl)
+
+  -- the yes
+  pub book-committed : (commit : Bool) → bookIn calm (finishGrant a s n commit) ≡ bookIn (committing s n) a
+  unfolding finishGrant dirtyRun commitRun
+  book-committed true = book-same _ _ refl refl (λ j. refl) (λ j. finish-dirty a s n r h j true ∙ set-or (within s n j) (bitAt (a .dirty) j))
+  book-committed false = book-same _ _ refl refl (λ j. refl) (λ j. finish-dirty a s n r h j false ∙ set-or (within s n j) (bitAt (a .dirty) j))
+
+  -- a release, whatever is told and pending
+  pub book-released : (told : Commitment) (pending : Bool) (now delay : ℕ) → bookIn calm (releaseRun a s n told pending now delay) ≡ unhold (bookIn calm a) s n
+  book-released told pending now delay =
+      book-same _ _ (release-range a s n told pending now delay .0) (release-range a s n told pending now delay .1)
+      (λ j. release-used a s n r h j told pending now delay ∙ clear-and (within s n j) (bitAt (a .used) j))
+      (λ j. ap (λ (ws : List ℕ). bitAt ws j) (release-dirty a s n told pending now delay))
+
+-- what a claim is told: the book's fresh is the record's
+pub say-fresh : (S : ℕ) (a : Arena) (s n : ℕ) → claimed S (bookIn calm a) n (At s) .say ≡ granted (a .base + s * S) (runFresh a s n)
+unfolding runFresh
+say-fresh S a s n = refl
+
+pub owed-taken : (S : ℕ) (a : Arena) (s n : ℕ) → owedIn S (committing s n) (takeRun a s n) ≡ granted (a .base + s * S) (runFresh a s n) ∷ []
+unfolding takeRun runFresh
+owed-taken S a s n = refl
+
+-- ---- sweeps and their answers
+
+pub book-disarmed : (a : Arena) → bookIn calm (disarm a) ≡ bookIn calm a
+unfolding disarm
+book-disarmed a = refl
+
+pub book-rearmed : (a : Arena) (stamps : List ℕ) (force : Bool) (now delay : ℕ) → bookIn calm (rearm a stamps force now delay) ≡ bookIn calm a
+unfolding rearm
+book-rearmed a stamps true now delay = refl
+book-rearmed a stamps false now delay = go (nextWait a stamps now delay)
+  where
+    go : (f : Found) → bookIn calm (rearmAt a now f) ≡ bookIn calm a
+    go (At w) = refl
+    go Nothing = refl
+
+-- a sweep borrows the used bit of a chunk that is not held
+pub book-borrowed : (a : Arena) (c : ℕ) → Rows a → c < 1024 → bitAt (a .used) c ≡ false → bookIn (purging c) (borrowChunk a c) ≡ bookIn calm a
+unfolding borrowChunk
+book-borrowed a c r h e =
+    book-same _ _ (take-range a c 1 .0) (take-range a c 1 .1)
+    (λ j. ap (λ (b : Bool). not (within c 1 j) && b) (used-set a c 1 r (omega arith) j) ∙ go j (stands c 1 j)) (λ j. taken-dirty j)
+  where
+    go : (j : ℕ) → Stands c 1 j → not (within c 1 j) && (within c 1 j || bitAt (a .used) j) ≡ bitAt (a .used) j
+    go j (before p) = ap (λ (t : Bool). not t && (t || bitAt (a .used) j)) (within-before c 1 j p)
+    go j (after p) = ap (λ (t : Bool). not t && (t || bitAt (a .used) j)) (within-after c 1 j p)
+    go j (inside p q) =
+        ap (λ (t : Bool). not t && (t || bitAt (a .used) j)) (within-yes c 1 j p q)
+        ∙ sym (ap (bitAt (a .used)) (let z : j ≡ c = omega arith in z) ∙ e)
+
+    taken-dirty : (j : ℕ) → bitAt (takeRun a c 1 .dirty) j ≡ bitAt (a .dirty) j
+    taken-dirty j = unfold takeRun in refl
+
+-- and gives it back, whatever the answer
+pub book-returned : (a : Arena) (c : ℕ) (agreed decommit : Bool) → Rows a → c < 1024 → bookIn calm (returnChunk a c agreed decommit) ≡ bookIn (purging c) a
+unfolding returnChunk unpendChunk giveBackRun tellRun
+book-returned a c agreed decommit r h = go agreed decommit
+  where
+    cleared : (j : ℕ) → bitAt (clearRun (a .used) c 1) j ≡ not (within c 1 j) && bitAt (a .used) j
+    cleared j = bit-write false (a .used) c 1 (r .used) (omega arith) j ∙ clear-and (within c 1 j) (bitAt (a .used) j)
+
+    go : (agreed decommit : Bool) → bookIn calm (returnChunk a c agreed decommit) ≡ bookIn (purging c) a
+    go true true = book-same _ _ refl refl cleared (λ j. refl)
+    go true false = book-same _ _ refl refl cleared (λ j. refl)
+    go false decommit = book-same _ _ refl refl cleared (λ j. refl)
+
+-- ---- registering
+
+-- a new record shows the book as it is opened: all touched if all are dirty, else none
+pub book-new : (base chunks : ℕ) (exclusive owned : Bool) (node : ℤ) (dirty committed : Bool) → chunks ≤ 1024
+    → bookIn calm (newArena base chunks exclusive owned node dirty committed) ≡ opened base chunks dirty
+unfolding newArena
+book-new base chunks exclusive owned node dirty committed h = book-same _ _ refl refl no-bits (go dirty)
+  where
+    and-both-ways : (t : Bool) → (cond t true false ≡ t && true) × (false ≡ t && false)
+    and-both-ways true = (refl, refl)
+    and-both-ways false = (refl, refl)
+
+    go : (d : Bool) (j : ℕ) → bitAt (eachBit chunks d) j ≡ within 0 chunks j && d
+    go true j =
+        bit-write true noBits 0 chunks no-bits-row (omega arith) j ∙ ap (cond (within 0 chunks j) true) (no-bits j) ∙ and-both-ways (within 0 chunks j) .0
+    go false j = no-bits j ∙ and-both-ways (within 0 chunks j) .1
+
+pub book-reserved : (base chunks : ℕ) (commit exclusive : Bool) → chunks ≤ 1024 → bookIn calm (reservedArena base chunks commit exclusive) ≡ opened base chunks false
+unfolding reservedArena
+book-reserved base chunks commit exclusive h = book-new base chunks exclusive true _ false commit h
+
+pub book-managed : (base chunks : ℕ) (exclusive : Bool) (node : ℤ) → chunks ≤ 1024 → bookIn calm (managedArena base chunks exclusive node) ≡ opened base chunks true
+unfolding managedArena
+book-managed base chunks exclusive node h = book-new base chunks exclusive false node true true h
+
+-- ---- what a change leaves of an arena's range, and that it is exclusive
+
+module _ (b m : ℕ) (a : Arena) (x : Stays b m a) where
+  pub take-stays : (s n : ℕ) → Stays b m (takeRun a s n)
+  unfolding takeRun
+  take-stays s n = record { exclusive = x .exclusive; base = x .base; chunks = x .chunks }
+
+  pub dirty-stays : (s n : ℕ) → Stays b m (dirtyRun a s n)
+  unfolding dirtyRun
+  dirty-stays s n = record { exclusive = x .exclusive; base = x .base; chunks = x .chunks }
+
+  pub finish-stays : (s n : ℕ) (commit : Bool) → Stays b m (finishGrant a s n commit)
+  unfolding finishGrant dirtyRun commitRun
+  finish-stays s n true = record { exclusive = x .exclusive; base = x .base; chunks = x .chunks }
+  finish-stays s n false = record { exclusive = x .exclusive; base = x .base; chunks = x .chunks }
+
+  pub release-stays : (s n : ℕ) (told : Commitment) (pending : Bool) (now delay : ℕ) → Stays b m (releaseRun a s n told pending now delay)
+  release-stays s n told pending now delay = record {
+    exclusive = same told pending ∙ x .exclusive;
+    base = release-range a s n told pending now delay .0 ∙ x .base;
+    chunks = release-range a s n told pending now delay .1 ∙ x .chunks;
+  }
+    where
+      same : (told : Commitment) (pending : Bool) → releaseRun a s n told pending now delay .exclusive ≡ a .exclusive
+      same Untold true = unfold releaseRun pendRun tellRun giveBackRun in refl
+      same Untold false = unfold releaseRun pendRun tellRun giveBackRun in refl
+      same Committed true = unfold releaseRun pendRun tellRun giveBackRun in refl
+      same Committed false = unfold releaseRun pendRun tellRun giveBackRun in refl
+      same Uncommitted true = unfold releaseRun pendRun tellRun giveBackRun in refl
+      same Uncommitted false = unfold releaseRun pendRun tellRun giveBackRun in refl
+
+  pub disarm-stays : Stays b m (disarm a)
+  unfolding disarm
+  disarm-stays = record { exclusive = x .exclusive; base = x .base; chunks = x .chunks }
+
+  pub borrow-stays : (c : ℕ) → Stays b m (borrowChunk a c)
+  unfolding borrowChunk
+  borrow-stays c = take-stays c 1
+
+  pub return-stays : (c : ℕ) (agreed decommit : Bool) → Stays b m (returnChunk a c agreed decommit)
+  unfolding returnChunk unpendChunk giveBackRun tellRun
+  return-stays c true true = record { exclusive = x .exclusive; base = x .base; chunks = x .chunks }
+  return-stays c true false = record { exclusive = x .exclusive; base = x .base; chunks = x .chunks }
+  return-stays c false decommit = record { exclusive = x .exclusive; base = x .base; chunks = x .chunks }
+
+  pub rearm-stays : (stamps : List ℕ) (force : Bool) (now delay : ℕ) → Stays b m (rearm a stamps force now delay)
+  unfolding rearm
+  rearm-stays stamps true now delay = x
+  rearm-stays stamps false now delay = go (nextWait a stamps now delay)
+    where
+      go : (f : Found) → Stays b m (rearmAt a now f)
+      go (At w) = record { exclusive = x .exclusive; base = x .base; chunks = x .chunks }
+      go Nothing = x

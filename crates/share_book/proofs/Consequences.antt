@@ -29,8 +29,8 @@ use Rattle.share_book.specs.Book.{Book, Fed, claims, releases, Say, refu
 use Rattle.share_book.specs.Sequence.{Marked, Trail, outcomeOf, isBroken, brokenAt, next, after, start, Lent, inRange, Role, feeds, aside, role, roleOf, fedOf, toldOf, fed, told, calm, committing, viewOf, owedIn, owed, isAnswer, Premises, Premise, claimant, asksFor}
 use Rattle.share_book.specs.Demand.{opening, Course, heldFrom, leftUnheld, toldBy, GrantedExactly, GrantedLowest, OthersElsewhere, Alike}
 use Rattle.share_book.proofs.Shown.{Mine}
-use Rattle.share_book.proofs.Outcomes.{Tells, names, step-tells, refused-1}
-use Rattle.share_book.proofs.Demand.{IsLent, stands, lent-append, sound-after, bookOf, Moves, one, Ran, run, demand3}
+use Rattle.share_book.proofs.Outcomes.{Tells, names, step-tells}
+use Rattle.share_book.proofs.Demand.{IsLent, stands, never-1, lent-append, sound-after, bookOf, Moves, one, Ran, run, demand3}
 
 -- ---- what the program's calls and what it was told leave held is what the book holds
 
@@ -114,7 +114,7 @@ module _ (S : ℕ) (some : 0 < S) (p id b n : ℕ) (managed : Bool) (before : Li
   module _ (c : ℕ) (commits : Bool) (mine : last .who ≡ p) (is-claim : last .call ≡ claim (pos id) c commits) (h : 1 ≤ c) where
     -- row 1 lets it pass
     stays : brokenAt S last ≡ false
-    stays = refused-1 S (last .lent) (last .ns) (last .settings) (last .call) ∙ ap not (premises .sound-lent mine)
+    stays = never-1 S p id b n there last premises mine
 
     idle : there .world .state .question ≡ Idle
     idle = premises .none-open mine (ap isAnswer is-claim)

@@ -19,7 +19,7 @@ use Rattle.share_book.specs.Sequence.{Marked, Trail, outcomeOf, isBroken
 use Rattle.share_book.specs.Demand.{opening, Course, Demand3}
 use Rattle.share_book.proofs.Shown.{bookIn, Mine, bookAt, Inv, Fits}
 use Rattle.share_book.proofs.Keeps.{keeps}
-use Rattle.share_book.proofs.Outcomes.{New, Tells, names, step-tells}
+use Rattle.share_book.proofs.Outcomes.{New, Tells, names, step-tells, refused-1}
 
 -- ---- the book over two lists
 
@@ -59,6 +59,10 @@ module _ (S : ℕ) (t : Trail) (m : Marked) where
   stands h e =
       passes S (m .lent) (m .ns) (m .settings) (m .call) e
       ∙ ap (λ (w : World). stepOn S (w .records) (w .stamps) (w .state .count) (w .state .mark) (w .state .question) (m .ns) (m .settings) (m .call)) (h e)
+
+-- no call of the program's is refused with 1, so each of its claims and releases there is fed
+pub never-1 : (S p id b n : ℕ) (t : Trail) (m : Marked) → Premises S p id b n t m → m .who ≡ p → brokenAt S m ≡ false
+never-1 S p id b n t m k mine = refused-1 S (m .lent) (m .ns) (m .settings) (m .call) ∙ ap not (k .sound-lent mine)
 
 pub lent-append : (S : ℕ) (t : Trail) (x y : List Marked) → Lent S t (x ++ y) → Lent S t x × Lent S (after S t x) y
 lent-append S t [] y h = (tt, h)

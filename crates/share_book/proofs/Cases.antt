@@ -4,7 +4,7 @@ use mathlib.Core.Bool.{Bool, true, false, cond, not, _&&_, _||_}
 use mathlib.Core.List.{List}
 use Prim.Native.Nat.{ℕ, suc, _+_, _-_, _*_, _/_, _%_, _<_}
 use native.Mathlib.Omega.{arith}
-use borrow.Author.Tests.{leb-false}
+use borrow.Author.Tests.{leb-false, eqb-true}
 use lib.Dec.{eqb, leb}
 use lib.IntN.{ℤ}
 use lib.ListN.{set}
@@ -181,9 +181,9 @@ module _ (S : ℕ) (l : List Arena) (stamps : List ℕ) (k : ℕ) (mark : Bool) 
   pub memory-cases : (chunks bytes : ℕ) (commit exclusive : Bool) (waiting : Waiting) (base : ℕ)
       → P (after (turnDown Range (stateOf k mark (Reserving chunks bytes commit exclusive waiting))) l stamps)
       → ((cause : Unusable) → P (after (giveBackReply k mark base bytes cause waiting) l stamps))
-      → (badCount chunks ≡ false → k < 32 → P (resume S l stamps k mark (reservedArena base chunks commit exclusive) waiting))
+      → (badRange S l k base (chunks * S) ≡ false → badCount chunks ≡ false → base % S ≡ 0 → k < 32 → P (resume S l stamps k mark (reservedArena base chunks commit exclusive) waiting))
       → P (answerMemory S l stamps k mark chunks bytes commit exclusive waiting true base)
   memory-cases chunks bytes commit exclusive waiting base range unusable go =
       by-cond P (badRange S l k base (chunks * S)) _ _ (λ e. range)
       (λ e. by-cond P (badCount chunks) _ _ (λ f. unusable Count)
-      (λ f. by-cond P (eqb (base % S) 0) _ _ (λ g. by-cond P (leb 32 k) _ _ (λ h. unusable Full) (λ h. go f (leb-false 32 k h))) (λ g. unusable Misaligned)))
+      (λ f. by-cond P (eqb (base % S) 0) _ _ (λ g. by-cond P (leb 32 k) _ _ (λ h. unusable Full) (λ h. go e f (eqb-true (base % S) 0 g) (leb-false 32 k h))) (λ g. unusable Misaligned)))

@@ -21,16 +21,16 @@ use Rattle.layer.specs.declared.Question.{Question}
 use Rattle.layer.specs.declared.Question.the-variants.{Idle, Committing, Purging, Reserving, GivingBack}
 use Rattle.layer.specs.declared.Answer.{Answer}
 use Rattle.layer.specs.declared.Answer.the-variants.{Claimed}
-use Rattle.layer.specs.World.{World, Outcome}
+use Rattle.layer.specs.World.{Outcome}
 use Rattle.layer.specs.Table.{at, sound}
 use Rattle.layer.specs.Step.{Call, reserve, manage, adopt, claim, release, sweep, answer, owns, area}
 use Rattle.layer_laws.proofs.Kept.{SoundWorld}
-use Rattle.share_book.specs.Book.{Book, Fed, claims, releases, Say, refused, granted, released, Turn, turn, opened, unheld, unhold, claimed, enter, enterAll, sayAll}
-use Rattle.share_book.specs.Sequence.{Marked, Trail, outcomeOf, isBroken, brokenAt, next, after, start, Lent, inRange, Role, feeds, aside, role, roleOf, fedOf, said, toldOf, fed, told, View, calm, committing, viewOf, owedIn, owed, isAnswer, Premises, Premise, claimant, asksFor}
-use Rattle.share_book.specs.Demand.{opening, Course, heldFrom, leftUnheld, toldBy, Demand3, GrantedExactly, GrantedLowest, OthersElsewhere, Alike}
+use Rattle.share_book.specs.Book.{Book, Fed, claims, releases, Say, refused, granted, Turn, turn, opened, unheld, claimed, enter, enterAll, sayAll}
+use Rattle.share_book.specs.Sequence.{Marked, Trail, outcomeOf, isBroken, brokenAt, next, after, start, Lent, inRange, Role, feeds, aside, role, roleOf, fedOf, toldOf, fed, told, calm, committing, viewOf, owedIn, owed, isAnswer, Premises, Premise, claimant, asksFor}
+use Rattle.share_book.specs.Demand.{opening, Course, heldFrom, leftUnheld, toldBy, GrantedExactly, GrantedLowest, OthersElsewhere, Alike}
 use Rattle.share_book.proofs.Shown.{Mine}
-use Rattle.share_book.proofs.Outcomes.{Tells, namesIn, names, step-tells, refused-1}
-use Rattle.share_book.proofs.Demand.{IsLent, stands, lent-append, sound-after, InvAt, bookOf, Moves, one, Ran, run, demand3}
+use Rattle.share_book.proofs.Outcomes.{Tells, names, step-tells}
+use Rattle.share_book.proofs.Demand.{IsLent, stands, never-1, lent-append, sound-after, bookOf, Moves, one, Ran, run, demand3}
 
 -- ---- what the program's calls and what it was told leave held is what the book holds
 
@@ -114,7 +114,7 @@ module _ (S : ℕ) (some : 0 < S) (p id b n : ℕ) (managed : Bool) (before : Li
   module _ (c : ℕ) (commits : Bool) (mine : last .who ≡ p) (is-claim : last .call ≡ claim (pos id) c commits) (h : 1 ≤ c) where
     -- row 1 lets it pass
     stays : brokenAt S last ≡ false
-    stays = refused-1 S some (last .lent) (last .ns) (last .settings) (last .call) ∙ ap not (premises .sound-lent mine)
+    stays = never-1 S p id b n there last premises mine
 
     idle : there .world .state .question ≡ Idle
     idle = premises .none-open mine (ap isAnswer is-claim)
@@ -206,7 +206,7 @@ module _ (S : ℕ) (some : 0 < S) (p id b n : ℕ) (managed : Bool) (before : Li
       let tells : Tells S l k (asksFor q (last .call)) (names q (last .call)) (Claimed x fresh committed) (outcomeOf S last .world) =
       subst (λ (r : Answer). Tells S l k (asksFor q (last .call)) (names q (last .call)) r (outcomeOf S last .world)) e
       (subst (λ (o : Outcome). Tells S l k (asksFor q (last .call)) (names q (last .call)) (o .answer) (o .world)) (sym (stands S there last is-lent stays))
-      (step-tells S some l (there .world .stamps) k (there .world .state .mark) q (last .ns) (last .settings) (last .call) (sound-there .question))) in
+      (step-tells S l (there .world .stamps) k (there .world .state .mark) q (last .ns) (last .settings) (last .call) (sound-there .question))) in
       let unnamed : names q (last .call) id ≡ false =
       never (names q (last .call) id) (λ u. other (names-mine q (last .call) (last .who) (there .asker) u (λ f g. premises .alone f (unless (brokenAt S last) aside _ stays ∙ g)) (v .mine))) in
       ap₂ (λ (b n : ℕ). leb b y && ltb y (b + n * S)) (sym (v .stays .base)) (sym (v .stays .chunks)) ∙ tells (sound-there .table) id (v .low) (v .stays .exclusive) unnamed y lo hi

@@ -2,29 +2,24 @@
 use mathlib.Core.Path.{_≡_, refl, sym, ap, ap₂, _∙_, subst}
 use mathlib.Core.Bool.{Bool, true, false, cond, not, true≢false}
 use mathlib.Core.List.{List, [], _∷_, _++_, append-assoc, append-nil}
-use Prim.Native.Nat.{ℕ, _+_, _<_, _≤_}
+use Prim.Native.Nat.{ℕ, _<_}
 use native.Mathlib.Omega.{arith}
-use lib.ListN.{length, replicate, length-replicate}
-use Rattle.words.proofs.Tests.{by-cond, when, unless}
+use lib.ListN.{length-replicate}
+use Rattle.words.proofs.Tests.{by-cond, unless}
 use Rattle.runs.specs.Lowest.{lowestRun}
-use Rattle.arena.specs.declared.Arena.{Arena}
 use Rattle.layer.specs.declared.Settings.{Settings}
-use Rattle.layer.specs.declared.Question.{Question}
-use Rattle.layer.specs.declared.Question.the-variants.{Idle}
 use Rattle.layer.specs.declared.Answer.{Answer}
-use Rattle.layer.specs.declared.Answer.the-variants.{Registered}
 use Rattle.layer.specs.World.{World, Outcome, empty}
 use Rattle.layer.specs.Table.{at, sound}
 use Rattle.layer.specs.Step.{Call, stepOn, step}
-use Rattle.layer_laws.proofs.Facts.{SoundTable, SoundQuestion}
 use Rattle.layer_laws.proofs.Kept.{SoundWorld}
 use Rattle.layer_laws.proofs.Stepped.{step-on-kept}
 use Rattle.share_book.specs.Book.{Book, Fed, Say, Choice, opened, enter, enterAll, sayAll}
-use Rattle.share_book.specs.Sequence.{Marked, Trail, outcomeOf, isBroken, brokenAt, isIdle, next, after, start, Lent, Role, feeds, aside, role, roleOf, fedOf, toldOf, fed, told, View, calm, viewOf, owedIn, owed, isAnswer, declines, Premises, Premise, Opens, asksFor}
+use Rattle.share_book.specs.Sequence.{Marked, Trail, outcomeOf, isBroken, brokenAt, isIdle, next, after, start, Lent, Role, aside, role, roleOf, fedOf, toldOf, fed, told, View, calm, viewOf, owedIn, owed, Premises, Premise, Opens, asksFor}
 use Rattle.share_book.specs.Demand.{opening, Course, Demand3}
 use Rattle.share_book.proofs.Shown.{bookIn, Mine, bookAt, Inv, Fits}
 use Rattle.share_book.proofs.Keeps.{keeps}
-use Rattle.share_book.proofs.Outcomes.{New, Tells, names, step-tells}
+use Rattle.share_book.proofs.Outcomes.{New, Tells, names, step-tells, refused-1}
 
 -- ---- the book over two lists
 
@@ -60,13 +55,14 @@ module _ (S : ℕ) (t : Trail) (m : Marked) where
   abbrev pub onTrail : Outcome
   onTrail = stepOn S (t .world .records) (t .world .stamps) (t .world .state .count) (t .world .state .mark) (t .world .state .question) (m .ns) (m .settings) (m .call)
 
-  abbrev pub stood : Trail
-  stood = record { world = outcomeOf S m .world; asker = cond (isIdle (t .world .state .question)) (m .who) (t .asker) }
-
   pub stands : IsLent → brokenAt S m ≡ false → outcomeOf S m ≡ onTrail
   stands h e =
       passes S (m .lent) (m .ns) (m .settings) (m .call) e
       ∙ ap (λ (w : World). stepOn S (w .records) (w .stamps) (w .state .count) (w .state .mark) (w .state .question) (m .ns) (m .settings) (m .call)) (h e)
+
+-- no call of the program's is refused with 1, so each of its claims and releases there is fed
+pub never-1 : (S p id b n : ℕ) (t : Trail) (m : Marked) → Premises S p id b n t m → m .who ≡ p → brokenAt S m ≡ false
+never-1 S p id b n t m k mine = refused-1 S (m .lent) (m .ns) (m .settings) (m .call) ∙ ap not (k .sound-lent mine)
 
 pub lent-append : (S : ℕ) (t : Trail) (x y : List Marked) → Lent S t (x ++ y) → Lent S t x × Lent S (after S t x) y
 lent-append S t [] y h = (tt, h)
@@ -166,7 +162,7 @@ module _ (S p id b n : ℕ) where
       let tells : Tells S (t .world .records) (t .world .state .count) (asksFor (t .world .state .question) (m .call)) (names (t .world .state .question) (m .call)) (outcomeOf S m .answer) w =
       subst (λ (x : Outcome). Tells S (t .world .records) (t .world .state .count) (asksFor (t .world .state .question) (m .call)) (names (t .world .state .question) (m .call)) (x .answer) (x .world))
       (sym (stands S t m h stays))
-      (step-tells S some (t .world .records) (t .world .stamps) (t .world .state .count) (t .world .state .mark) (t .world .state .question) (m .ns) (m .settings) (m .call) (s .question)) in
+      (step-tells S (t .world .records) (t .world .stamps) (t .world .state .count) (t .world .state .mark) (t .world .state .question) (m .ns) (m .settings) (m .call) (s .question)) in
       let new : New id w =
       subst (λ (x : Answer). Tells S (t .world .records) (t .world .state .count) (asksFor (t .world .state .question) (m .call)) (names (t .world .state .question) (m .call)) x w) (o .registered) tells (s .table) in
       let view : viewOf id (w .state .question) ≡ calm = ap (viewOf id) (new .idle) in

@@ -233,7 +233,7 @@ module _ (S p id b n : ℕ) where
     remembers l stamps k mark h chunks bytes commit exclusive waiting false base = fails l stamps k mark h _ waiting
     remembers l stamps k mark h chunks bytes commit exclusive waiting true base =
         memory-cases S l stamps k mark (Leaves B [] y) chunks bytes commit exclusive waiting base (rests l k _ _ stamps mark refl h) (λ cause. rests l k _ _ stamps mark refl h)
-        (λ e f. resumes l stamps k mark h _ waiting)
+        (λ d e f u. resumes l stamps k mark h _ waiting)
 
     -- ---- sweeps: many stores, and at most one question
 

@@ -1,6 +1,6 @@
 -- The sequence meets the premises of demand 3, and its program is told what its share book says: computed. Assumes nothing.
 use mathlib.Core.Path.{_≡_, refl}
-use mathlib.Core.Bool.{Bool, true, false, true≢false}
+use mathlib.Core.Bool.{true, false, true≢false}
 use Prim.Native.Nat.{ℕ}
 use native.Mathlib.Omega.{arith}
 use Rattle.words.specs.Bits.{bit, bitAt, within}

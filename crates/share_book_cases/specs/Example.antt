@@ -1,10 +1,10 @@
 -- A sequence of calls from the empty layer. Program 9 reserves an exclusive arena of 3 chunks; then program 7 claims and releases there, while 9 manages
 -- a shared arena, claims in it, sweeps and brings a broken table. Each call is lent a table that is written out. Assumes nothing.
 use mathlib.Core.Path.{_≡_}
-use mathlib.Core.Bool.{Bool, true, false}
+use mathlib.Core.Bool.{true, false}
 use mathlib.Core.List.{List, [], _∷_, _++_}
 use Prim.Native.Nat.{ℕ, _+_, _*_}
-use lib.IntN.{ℤ, pos, negsuc}
+use lib.IntN.{pos, negsuc}
 use lib.ListN.{replicate}
 use Rattle.arena.specs.declared.Arena.{Arena}
 use Rattle.arena.specs.declared.Commitment.the-variants.{Untold}

@@ -1,11 +1,11 @@
 -- What the calls write is what the layer's steps write. S is the size of a chunk. Assumes nothing.
-use mathlib.Core.Path.{_≡_, refl, sym, ap, _∙_, subst}
-use mathlib.Core.Bool.{Bool, true, false, _&&_}
-use mathlib.Core.List.{List, [], _∷_}
-use Prim.Native.Nat.{ℕ, zero, suc, _+_, _/_, _<_, _≤_, _^_}
+use mathlib.Core.Path.{_≡_, sym, ap, _∙_, subst}
+use mathlib.Core.Bool.{Bool, true}
+use mathlib.Core.List.{List}
+use Prim.Native.Nat.{ℕ, _+_, _/_, _<_, _≤_, _^_}
 use native.Mathlib.Omega.{arith}
-use borrow.Author.Tests.{ltb-true, eqb-true}
-use lib.Dec.{eqb, ltb}
+use borrow.Author.Tests.{eqb-true}
+use lib.Dec.{eqb}
 use lib.IntN.{ℤ}
 use lib.ListN.{length, set}
 use Rattle.runs.specs.declared.Found.{Found}
@@ -15,7 +15,6 @@ use Rattle.arena.specs.declared.Arena.{Arena}
 use Rattle.arena.specs.Registering.{managedArena}
 use Rattle.layer.specs.declared.Settings.{Settings}
 use Rattle.layer.specs.declared.State.{State}
-use Rattle.layer.specs.declared.Reply.{Reply}
 use Rattle.layer.specs.World.{worldOf, after}
 use Rattle.layer.specs.Table.{at, soundLent}
 use Rattle.layer.specs.Registering.{firstWhole}
@@ -23,35 +22,12 @@ use Rattle.layer.specs.Step.{manage, adopt, step}
 use Rattle.judge.specs.Scan.{hit, scanOf}
 use Rattle.registers.specs.Core.{managePasses, manageBytes, manageAnswer, manageId, adoptPasses, adoptCount, adoptAnswer, adoptId}
 use Rattle.registers.specs.Parts.{adoptArena, adoptStamped, recordsWith, stampsWith}
-use Rattle.words.proofs.Tests.{when, unless}
 use Rattle.registers.proofs.DecisionLaws.{either, manages-not, adopts-not}
 use Rattle.registers.proofs.RegisterLaws.{manageMet, manage-met, manage-step, scan-facts, growing-fits, adopt-step}
-use Rattle.os_memory.specs.declared.Writing.{Writing}
-use Rattle.os_memory.specs.Places.{foundPlace, recordPlace, passes, manageHit, ManageWrites, adoptHit, growing, grown, AdoptWrites}
-
--- ---- what is written
-
--- past the end of a list nothing is set
-past : (l : List Arena) (i : ℕ) (a : Arena) → length l ≤ i → set l i a ≡ l
-past [] i a h = refl
-past (x ∷ l) zero a h = absurd (omega (arith, h))
-past (x ∷ l) (suc i) a h = ap (λ (r : List Arena). x ∷ r) (past l i a (omega (arith, h)))
-
-record-placed : (l : List Arena) (id : ℕ) (b a : Arena) → length l < 2 ^ 64 → (id < 32 → b ≡ a) → set l (recordPlace id) b ≡ recordsWith l id a
-unfolding recordsWith
-record-placed l id b a fits e =
-    either (ltb id 32)
-    (λ h. ap (λ (n : ℕ). set l n b) (when _ _ _ h) ∙ ap (set l id) (e (ltb-true id 32 h)) ∙ sym (when _ _ _ h))
-    (λ h. ap (λ (n : ℕ). set l n b) (unless _ _ _ h) ∙ past l 18446744073709551615 b (omega (arith, fits)) ∙ sym (unless _ _ _ h))
-
--- what is left of the records and stamps
-wrote : (l : List Arena) (stamps : List ℕ) (w : Writing) (r : Reply) (id at-id : ℕ) (a : Arena) → length l < 2 ^ 64 → w .reply ≡ r → w .id ≡ id → (id < 32 → w .arena ≡ a) → w .stamped ≡ at-id
-    → after (w .reply) (set l (recordPlace (w .id)) (w .arena)) (stampsWith stamps (w .stamped)) ≡ after r (recordsWith l id a) (stampsWith stamps at-id)
-wrote l stamps w r id at-id a fits e0 e1 e2 e3 =
-    ap (λ (x : Reply). after x (set l (recordPlace (w .id)) (w .arena)) (stampsWith stamps (w .stamped))) e0
-    ∙ ap (λ (n : ℕ). after r (set l (recordPlace n) (w .arena)) (stampsWith stamps (w .stamped))) e1
-    ∙ ap (λ (x : List Arena). after r x (stampsWith stamps (w .stamped))) (record-placed l id (w .arena) a fits e2)
-    ∙ ap (λ (n : ℕ). after r (recordsWith l id a) (stampsWith stamps n)) e3
+use Rattle.writing.specs.declared.Writing.{Writing}
+use Rattle.writing.specs.Places.{recordPlace}
+use Rattle.writing.proofs.WriteLaws.{wrote}
+use Rattle.os_memory.specs.Places.{foundPlace, passes, manageHit, ManageWrites, adoptHit, growing, grown, AdoptWrites}
 
 stamped-below : (f : Found) (id : ℕ) → adoptStamped f id < 32 → id < 32
 stamped-below (At i) id h = absurd (omega (arith, h))

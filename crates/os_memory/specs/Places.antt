@@ -1,9 +1,8 @@
 -- What the calls that register write, and where. S is the size of a chunk; n stamps are lent. Assumes nothing.
 use mathlib.Core.Path.{_≡_}
-use mathlib.Core.Bool.{Bool, cond}
+use mathlib.Core.Bool.{Bool}
 use mathlib.Core.List.{List}
 use Prim.Native.Nat.{ℕ, _/_, _<_}
-use lib.Dec.{ltb}
 use lib.IntN.{ℤ}
 use Rattle.runs.specs.declared.Found.{Found}
 use Rattle.runs.specs.declared.Found.the-variants.{At, Nothing}
@@ -17,16 +16,12 @@ use Rattle.judge.specs.Scan.{scanOf}
 use Rattle.registers.specs.declared.Registering.{Registering}
 use Rattle.registers.specs.Core.{manageCount, manageBytes, manageAnswer, manageId, adoptCount, adoptAnswer, adoptId}
 use Rattle.registers.specs.Parts.{manageBase, manageLength, adoptArena, adoptStamped}
-use Rattle.os_memory.specs.declared.Writing.{Writing}
+use Rattle.writing.specs.declared.Writing.{Writing}
 
 -- the place of the record that a scan found; 32 for none
 abbrev pub foundPlace : Found → ℕ
 foundPlace (At i) = i
 foundPlace Nothing = 32
-
--- where a record is written: at its id, and where the id is 32 past every slice, so nowhere
-abbrev pub recordPlace : ℕ → ℕ
-recordPlace id = cond (ltb id 32) id 18446744073709551615
 
 abbrev pub writingOf : Registering → ℕ → Writing
 writingOf d stamped = record { id = d .id; arena = d .arena; stamped = stamped; reply = d .reply }

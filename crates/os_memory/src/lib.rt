@@ -1,13 +1,12 @@
 // The calls that register memory, over the lent table: reserve, manage, adopt. What they decide stands in
-// `registers`; here the table is read, and the record and the stamps are written.
+// `registers`, and how a record and its stamps are written in `writing`; here the table is read.
 ghost use mathlib.Core.Path.{_≡_};
 ghost use Prim.Native.Nat.{_/_, _<_, _≤_};
-ghost use lib.ListN.{length, set};
 ghost use Rattle.judge.specs.declared.Query.the-variants.{Meets, Grows};
 ghost use Rattle.layer.specs.World.{worldOf, after};
 ghost use Rattle.layer.specs.Step.{reserve, manage, adopt, step};
-ghost use Rattle.registers.specs.Parts.{manageBase, manageLength, adoptStamped, stampsWith};
-ghost use Rattle.os_memory.specs.Places.{foundPlace, recordPlace, writingOf, ManageWrites, AdoptWrites};
+ghost use Rattle.registers.specs.Parts.{manageBase, manageLength, adoptStamped};
+ghost use Rattle.os_memory.specs.Places.{foundPlace, writingOf, ManageWrites, AdoptWrites};
 use arena::Arena;
 use judge::Query;
 use layer::Reply;
@@ -15,12 +14,10 @@ use layer::Settings;
 use layer::State;
 use registers::Registering;
 use runs::Found;
+use writing::Writing;
 
 // The bytes of a chunk.
 const CHUNK: u64 = 33554432;
-
-// Past the end of every slice.
-const NOWHERE: usize = 18446744073709551615;
 
 // ---- reserve
 
@@ -53,14 +50,6 @@ pub fn reserve_os_memory_ex(
 
 // ---- what a registering writes
 
-// The record and its id, 32 for none; the id whose stamps are made zero, 32 for none; and the reply.
-pub struct Writing {
-    pub id: usize,
-    pub arena: Arena,
-    pub stamped: usize,
-    pub reply: Reply,
-}
-
 // What is registered, with the id whose stamps are written.
 fn as_written(d: Registering, stamped: usize) -> Writing
     ensures { λ r. ⌜ r ≡ writingOf d stamped ⌝ }
@@ -87,57 +76,6 @@ fn adopted(growing: Found, d: Registering) -> Writing
     ensures { λ r. ⌜ r ≡ writingOf d (adoptStamped growing (d .id)) ⌝ }
 {
     as_written(d, registers::adopt_stamped(growing, d.id))
-}
-
-// Where the record is written.
-fn record_place(w: Writing) -> usize
-    ensures { λ r. ⌜ r ≡ recordPlace (w .id) ⌝ }
-{
-    if w.id < 32 {
-        return w.id;
-    }
-    NOWHERE
-}
-
-fn record_of(w: Writing) -> Arena
-    ensures { λ r. ⌜ r ≡ w .arena ⌝ }
-{
-    w.arena
-}
-
-fn stamped_of(w: Writing) -> usize
-    ensures { λ r. ⌜ r ≡ w .stamped ⌝ }
-{
-    w.stamped
-}
-
-fn reply_of(w: Writing) -> Reply
-    ensures { λ r. ⌜ r ≡ w .reply ⌝ }
-{
-    w.reply
-}
-
-// The stamps of a new arena are made zero.
-fn zero_stamps(stamps: &mut [u32], id: usize)
-    requires { ⌜ (id < 32 → length (now stamps) ≡ 32768) ⌝ }
-    ensures { λ _. ⌜ now (stamps .exit) ≡ stampsWith (now (stamps .entry)) id ⌝ }
-{
-    if id < 32 {
-        purge::stamp_run_of(stamps, id, 0, 1024, 0);
-    }
-}
-
-// The record and the stamps are written.
-fn write(records: &mut [Arena], stamps: &mut [u32], w: Writing) -> Reply
-    requires { ⌜ (w .stamped < 32 → length (now stamps) ≡ 32768) ⌝ }
-    ensures { λ r. ⌜ (r ≡ w .reply) × (now (records .exit) ≡ set (now (records .entry)) (recordPlace (w .id)) (w .arena)) × (now (stamps .exit) ≡ stampsWith (now (stamps .entry)) (w .stamped)) ⌝ }
-{
-    let place = record_place(w);
-    let a = record_of(w);
-    let id = stamped_of(w);
-    table::store_if(records, place, a);
-    zero_stamps(stamps, id);
-    reply_of(w)
 }
 
 // ---- manage
@@ -218,7 +156,7 @@ pub fn manage_os_memory_ex(
         mapped,
         reserved,
     );
-    write(records, stamps, w)
+    writing::write(records, stamps, w)
 }
 
 // ---- adopt
@@ -288,5 +226,5 @@ pub fn adopt_os_block(
     ensures { λ r. ⌜ after r (now (records .exit)) (now (stamps .exit)) ≡ step 33554432 (worldOf (now (records .entry)) (now (stamps .entry)) state) ns settings (adopt address size) ⌝ }
 {
     let w = adopt_writing(records, stamps.len(), state, settings.page, address, size);
-    write(records, stamps, w)
+    writing::write(records, stamps, w)
 }

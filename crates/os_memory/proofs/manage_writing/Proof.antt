@@ -46,9 +46,9 @@ use Rattle.judge.proofs.Query as Q
 use Rattle.judge.proofs.Query.Laws as Q′
 use Rattle.registers.proofs.Registering as D
 use Rattle.registers.proofs.Registering.Laws as D′
-use Rattle.os_memory.specs.declared.Writing.{Writing}
-use Rattle.os_memory.proofs.Writing as X
-use Rattle.os_memory.proofs.Writing.Laws as X′
+use Rattle.writing.specs.declared.Writing.{Writing}
+use Rattle.writing.proofs.Writing as X
+use Rattle.writing.proofs.Writing.Laws as X′
 use Rattle.table.proofs.Walk.{Loan, Known, shared, sliceOf}
 use Rattle.table.proofs.Locals.{enters, used}
 use Rattle.table.proofs.Calls.{in-seq}

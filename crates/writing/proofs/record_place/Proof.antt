@@ -1,9 +1,9 @@
--- `os_memory::record_place` meets its contract. Assumes nothing.
+-- `writing::record_place` meets its contract. Assumes nothing.
 use mathlib.Core.Path.{sym}
 use borrow.Author.Tests.{lt-ltb, le-ltb}
 use Rattle.words.proofs.Tests.{when, unless}
-use Rattle.os_memory.proofs.record_place.Statement.{statement}
-use Rattle.os_memory.proofs.record_place.Tie as tie
+use Rattle.writing.proofs.record_place.Statement.{statement}
+use Rattle.writing.proofs.record_place.Tie as tie
 
 returns : tie.Need-returns
 returns c = sym (when _ _ _ (lt-ltb _ 32 (c .if1 .taken)))

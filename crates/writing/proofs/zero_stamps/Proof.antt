@@ -1,4 +1,4 @@
--- `os_memory::zero_stamps` meets its contract. Assumes nothing.
+-- `writing::zero_stamps` meets its contract. Assumes nothing.
 use mathlib.Core.Path.{_≡_, sym, ap, _∙_}
 use Prim.Native.Nat.{ℕ, _+_, _*_}
 use native.Mathlib.Omega.{arith}
@@ -8,8 +8,8 @@ use Rattle.arena.specs.Releasing.{stampRun}
 use Rattle.registers.specs.Parts.{stampsWith}
 use Rattle.words.proofs.Tests.{unless}
 use Rattle.registers.proofs.RegisterLaws.{stamps-below}
-use Rattle.os_memory.proofs.zero_stamps.Statement.{statement}
-use Rattle.os_memory.proofs.zero_stamps.Tie as tie
+use Rattle.writing.proofs.zero_stamps.Statement.{statement}
+use Rattle.writing.proofs.zero_stamps.Tie as tie
 
 stamp-run-of-requires : tie.Need-stamp-run-of-requires
 stamp-run-of-requires c κs =

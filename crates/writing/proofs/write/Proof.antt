@@ -1,4 +1,4 @@
--- `os_memory::write` meets its contract: a walk of its MIR, by hand. Of its callees it knows only that each meets its contract.
+-- `writing::write` meets its contract: a walk of its MIR, by hand. Of its callees it knows only that each meets its contract.
 -- Assumes nothing.
 use mathlib.Core.Path.{_≡_, refl}
 use Prim.Native.Nat.{ℕ, _<_}
@@ -34,47 +34,47 @@ use Rattle.arena.proofs.Arena.Laws as T′
 use Rattle.layer.specs.declared.Reply.{Reply}
 use Rattle.layer.proofs.Reply as Y
 use Rattle.layer.proofs.Reply.Laws as Y′
-use Rattle.os_memory.specs.declared.Writing.{Writing}
-use Rattle.os_memory.proofs.Writing as X
-use Rattle.os_memory.proofs.Writing.Laws as X′
+use Rattle.writing.specs.declared.Writing.{Writing}
+use Rattle.writing.proofs.Writing as X
+use Rattle.writing.proofs.Writing.Laws as X′
 use Rattle.table.proofs.Walk.{Loan, Known, lent, sliceOf}
 use Rattle.table.proofs.Locals.{enters, used}
 use Rattle.table.proofs.Calls.{in-seq, swaps}
 use Rattle.table.proofs.Frame.{Done2, finish2, mut2-meets}
 use Rattle.table.proofs.Steps.{StoreIf, store-if-step}
-use Rattle.os_memory.proofs.PlaceSteps.{RecordPlace, RecordOf, StampedOf, ReplyOf, ZeroStamps, record-place-step, record-of-step, stamped-of-step, reply-of-step, zero-stamps-step}
+use Rattle.writing.proofs.WriteSteps.{RecordPlace, RecordOf, StampedOf, ReplyOf, ZeroStamps, record-place-step, record-of-step, stamped-of-step, reply-of-step, zero-stamps-step}
 use Rattle.registers.specs.Parts.{stampsWith}
-use Rattle.os_memory.specs.Places.{recordPlace}
-use Rattle.os_memory.proofs.record_place.Symbol as record-place-def
-use Rattle.os_memory.proofs.record_place.Symbol.{name as #os-memory·record-place}
-use Rattle.os_memory.proofs.record_place.Met as record-place-thm
-use Rattle.os_memory.proofs.record_of.Symbol as record-of-def
-use Rattle.os_memory.proofs.record_of.Symbol.{name as #os-memory·record-of}
-use Rattle.os_memory.proofs.record_of.Met as record-of-thm
-use Rattle.os_memory.proofs.stamped_of.Symbol as stamped-of-def
-use Rattle.os_memory.proofs.stamped_of.Symbol.{name as #os-memory·stamped-of}
-use Rattle.os_memory.proofs.stamped_of.Met as stamped-of-thm
+use Rattle.writing.specs.Places.{recordPlace}
+use Rattle.writing.proofs.record_place.Symbol as record-place-def
+use Rattle.writing.proofs.record_place.Symbol.{name as #writing·record-place}
+use Rattle.writing.proofs.record_place.Met as record-place-thm
+use Rattle.writing.proofs.record_of.Symbol as record-of-def
+use Rattle.writing.proofs.record_of.Symbol.{name as #writing·record-of}
+use Rattle.writing.proofs.record_of.Met as record-of-thm
+use Rattle.writing.proofs.stamped_of.Symbol as stamped-of-def
+use Rattle.writing.proofs.stamped_of.Symbol.{name as #writing·stamped-of}
+use Rattle.writing.proofs.stamped_of.Met as stamped-of-thm
 use Rattle.table.proofs.store_if.Symbol as store-def
 use Rattle.table.proofs.store_if.Symbol.{name as #table·store-if}
 use Rattle.table.proofs.store_if.Met as store-thm
-use Rattle.os_memory.proofs.zero_stamps.Symbol as zero-stamps-def
-use Rattle.os_memory.proofs.zero_stamps.Symbol.{name as #os-memory·zero-stamps}
-use Rattle.os_memory.proofs.zero_stamps.Met as zero-stamps-thm
-use Rattle.os_memory.proofs.reply_of.Symbol as reply-of-def
-use Rattle.os_memory.proofs.reply_of.Symbol.{name as #os-memory·reply-of}
-use Rattle.os_memory.proofs.reply_of.Met as reply-of-thm
-use Rattle.os_memory.proofs.write.Key.{name as #os-memory·write}
-use Rattle.os_memory.proofs.write as write′
-use Rattle.os_memory.proofs.write.Statement as stated
-use Rattle.os_memory.proofs.write.Code as code
+use Rattle.writing.proofs.zero_stamps.Symbol as zero-stamps-def
+use Rattle.writing.proofs.zero_stamps.Symbol.{name as #writing·zero-stamps}
+use Rattle.writing.proofs.zero_stamps.Met as zero-stamps-thm
+use Rattle.writing.proofs.reply_of.Symbol as reply-of-def
+use Rattle.writing.proofs.reply_of.Symbol.{name as #writing·reply-of}
+use Rattle.writing.proofs.reply_of.Met as reply-of-thm
+use Rattle.writing.proofs.write.Key.{name as #writing·write}
+use Rattle.writing.proofs.write as write′
+use Rattle.writing.proofs.write.Statement as stated
+use Rattle.writing.proofs.write.Code as code
 
 module _ {M : Type 1} (𝓤 : URA M) (H : Heap 𝓤) (A : Atoms 𝓤) (W : Given 𝓤 H A) (mem : Memory → SProp 𝓤) (run : Routine → Fun 𝓤) (𝓣 : Tables 𝓤 H)
-    (known-record-place : Triple 𝓤 (𝓣 .C #os-memory·record-place) (RecordPlace 𝓤 H A mem run))
-    (known-record-of : Triple 𝓤 (𝓣 .C #os-memory·record-of) (RecordOf 𝓤 H A mem run))
-    (known-stamped-of : Triple 𝓤 (𝓣 .C #os-memory·stamped-of) (StampedOf 𝓤 H A mem run))
+    (known-record-place : Triple 𝓤 (𝓣 .C #writing·record-place) (RecordPlace 𝓤 H A mem run))
+    (known-record-of : Triple 𝓤 (𝓣 .C #writing·record-of) (RecordOf 𝓤 H A mem run))
+    (known-stamped-of : Triple 𝓤 (𝓣 .C #writing·stamped-of) (StampedOf 𝓤 H A mem run))
     (known-store : Triple 𝓤 (𝓣 .C #table·store-if) (StoreIf 𝓤 H A mem run))
-    (known-zero-stamps : Triple 𝓤 (𝓣 .C #os-memory·zero-stamps) (ZeroStamps 𝓤 H A mem run))
-    (known-reply-of : Triple 𝓤 (𝓣 .C #os-memory·reply-of) (ReplyOf 𝓤 H A mem run)) where
+    (known-zero-stamps : Triple 𝓤 (𝓣 .C #writing·zero-stamps) (ZeroStamps 𝓤 H A mem run))
+    (known-reply-of : Triple 𝓤 (𝓣 .C #writing·reply-of) (ReplyOf 𝓤 H A mem run)) where
   module _ (κ κ′ : Lft) (q q′ : Share) (γ γ′ : GName) (b o b′ o′ : ℕ) (ys : List Arena) (us : List ℕ) (w : Writing) where
     abbrev L : Loan
     L = record { κ = κ; q = q; γ = γ; b = b; o = o; n = length ys }
@@ -125,11 +125,11 @@ pub write-spec : {M : Type 1} → stated.statement M
 unfolding code.routine tablesOf
 write-spec 𝓤 H 𝓜 𝓖 𝓡 =
     entered 𝓤 H (tripleOf 𝓤 H (𝓖 .A) write′.signature (write′.spec 𝓤 H (𝓖 .A) (𝓜 .mem) (𝓡 .run)))
-    (tables 𝓤 H 𝓜 𝓡 code.env .C) (tables 𝓤 H 𝓜 𝓡 code.env .Λ) #os-memory·write code.function (code.unfolded 𝓤 H 𝓜 𝓡)
+    (tables 𝓤 H 𝓜 𝓡 code.env .C) (tables 𝓤 H 𝓜 𝓡 code.env .Λ) #writing·write code.function (code.unfolded 𝓤 H 𝓜 𝓡)
     (write-meets 𝓤 H (𝓖 .A) (givenOf 𝓤 H 𝓜 𝓖) (𝓜 .mem) (𝓡 .run) (tablesOf 𝓤 H 𝓜 (tables 𝓤 H 𝓜 𝓡 code.env))
-    (cited 𝓤 H (RecordPlace 𝓤 H (𝓖 .A) (𝓜 .mem) (𝓡 .run)) 𝓜 𝓡 code.env #os-memory·record-place record-place-def.routine code.calls-os-memory·record-place (record-place-thm.met 𝓤 H 𝓜 𝓖 𝓡))
-    (cited 𝓤 H (RecordOf 𝓤 H (𝓖 .A) (𝓜 .mem) (𝓡 .run)) 𝓜 𝓡 code.env #os-memory·record-of record-of-def.routine code.calls-os-memory·record-of (record-of-thm.met 𝓤 H 𝓜 𝓖 𝓡))
-    (cited 𝓤 H (StampedOf 𝓤 H (𝓖 .A) (𝓜 .mem) (𝓡 .run)) 𝓜 𝓡 code.env #os-memory·stamped-of stamped-of-def.routine code.calls-os-memory·stamped-of (stamped-of-thm.met 𝓤 H 𝓜 𝓖 𝓡))
+    (cited 𝓤 H (RecordPlace 𝓤 H (𝓖 .A) (𝓜 .mem) (𝓡 .run)) 𝓜 𝓡 code.env #writing·record-place record-place-def.routine code.calls-writing·record-place (record-place-thm.met 𝓤 H 𝓜 𝓖 𝓡))
+    (cited 𝓤 H (RecordOf 𝓤 H (𝓖 .A) (𝓜 .mem) (𝓡 .run)) 𝓜 𝓡 code.env #writing·record-of record-of-def.routine code.calls-writing·record-of (record-of-thm.met 𝓤 H 𝓜 𝓖 𝓡))
+    (cited 𝓤 H (StampedOf 𝓤 H (𝓖 .A) (𝓜 .mem) (𝓡 .run)) 𝓜 𝓡 code.env #writing·stamped-of stamped-of-def.routine code.calls-writing·stamped-of (stamped-of-thm.met 𝓤 H 𝓜 𝓖 𝓡))
     (cited 𝓤 H (StoreIf 𝓤 H (𝓖 .A) (𝓜 .mem) (𝓡 .run)) 𝓜 𝓡 code.env #table·store-if store-def.routine code.calls-table·store-if (store-thm.met 𝓤 H 𝓜 𝓖 𝓡))
-    (cited 𝓤 H (ZeroStamps 𝓤 H (𝓖 .A) (𝓜 .mem) (𝓡 .run)) 𝓜 𝓡 code.env #os-memory·zero-stamps zero-stamps-def.routine code.calls-os-memory·zero-stamps (zero-stamps-thm.met 𝓤 H 𝓜 𝓖 𝓡))
-    (cited 𝓤 H (ReplyOf 𝓤 H (𝓖 .A) (𝓜 .mem) (𝓡 .run)) 𝓜 𝓡 code.env #os-memory·reply-of reply-of-def.routine code.calls-os-memory·reply-of (reply-of-thm.met 𝓤 H 𝓜 𝓖 𝓡)))
+    (cited 𝓤 H (ZeroStamps 𝓤 H (𝓖 .A) (𝓜 .mem) (𝓡 .run)) 𝓜 𝓡 code.env #writing·zero-stamps zero-stamps-def.routine code.calls-writing·zero-stamps (zero-stamps-thm.met 𝓤 H 𝓜 𝓖 𝓡))
+    (cited 𝓤 H (ReplyOf 𝓤 H (𝓖 .A) (𝓜 .mem) (𝓡 .run)) 𝓜 𝓡 code.env #writing·reply-of reply-of-def.routine code.calls-writing·reply-of (reply-of-thm.met 𝓤 H 𝓜 𝓖 𝓡)))

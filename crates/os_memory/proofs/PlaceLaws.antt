@@ -20,10 +20,14 @@ use Rattle.layer.specs.Table.{at, soundLent}
 use Rattle.layer.specs.Registering.{firstWhole}
 use Rattle.layer.specs.Step.{manage, adopt, step}
 use Rattle.judge.specs.Scan.{hit, scanOf}
-use Rattle.registers.specs.Core.{managePasses, manageBytes, manageAnswer, manageId, adoptPasses, adoptCount, adoptAnswer, adoptId}
-use Rattle.registers.specs.Parts.{adoptArena, adoptStamped, recordsWith, stampsWith}
-use Rattle.registers.proofs.DecisionLaws.{either, manages-not, adopts-not}
-use Rattle.registers.proofs.RegisterLaws.{manageMet, manage-met, manage-step, scan-facts, growing-fits, adopt-step}
+use Rattle.managing.specs.Core.{managePasses, manageBytes, manageAnswer, manageId}
+use Rattle.adopting.specs.Core.{adoptPasses, adoptCount, adoptAnswer, adoptId, adoptArena, adoptStamped}
+use Rattle.registers.specs.Core.{recordsWith, stampsWith}
+use Rattle.registers.proofs.DecisionLaws.{either}
+use Rattle.managing.proofs.ManageLaws.{manages-not}
+use Rattle.adopting.proofs.AdoptLaws.{adopts-not}
+use Rattle.register_laws.proofs.ManageStep.{manageMet, manage-met, manage-step}
+use Rattle.register_laws.proofs.AdoptStep.{scan-facts, growing-fits, adopt-step}
 use Rattle.writing.specs.declared.Writing.{Writing}
 use Rattle.writing.specs.Places.{recordPlace}
 use Rattle.writing.proofs.WriteLaws.{wrote}

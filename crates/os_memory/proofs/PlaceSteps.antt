@@ -49,19 +49,20 @@ use Rattle.runs.specs.declared.Found.the-variants.{At}
 use Rattle.judge.specs.declared.Query.the-variants.{Meets as Meeting, Grows}
 use Rattle.arena.specs.Registering.{managedArena}
 use Rattle.layer.specs.Registering.{firstWhole}
-use Rattle.registers.specs.Core.{reserveAnswer, manageCount, manageBytes, manageAnswer, manageId, adoptCount, adoptAnswer, adoptId}
-use Rattle.registers.specs.Parts.{manageBase, manageLength, adoptArena, adoptStamped}
+use Rattle.reserving.specs.Core.{reserveAnswer}
+use Rattle.managing.specs.Core.{manageCount, manageBytes, manageAnswer, manageId, manageBase, manageLength}
+use Rattle.adopting.specs.Core.{adoptCount, adoptAnswer, adoptId, adoptArena, adoptStamped}
 use Rattle.os_memory.specs.Places.{foundPlace, writingOf, ManageWrites, AdoptWrites}
-use Rattle.registers.proofs.reserve_core as reserve-core′
-use Rattle.registers.proofs.reserve_core.Symbol.{name as #registers·reserve-core}
-use Rattle.registers.proofs.manage_count as manage-count′
-use Rattle.registers.proofs.manage_count.Symbol.{name as #registers·manage-count}
-use Rattle.registers.proofs.manage_core as manage-core′
-use Rattle.registers.proofs.manage_core.Symbol.{name as #registers·manage-core}
-use Rattle.registers.proofs.adopt_count as adopt-count′
-use Rattle.registers.proofs.adopt_count.Symbol.{name as #registers·adopt-count}
-use Rattle.registers.proofs.adopt_core as adopt-core′
-use Rattle.registers.proofs.adopt_core.Symbol.{name as #registers·adopt-core}
+use Rattle.reserving.proofs.reserve_core as reserve-core′
+use Rattle.reserving.proofs.reserve_core.Symbol.{name as #reserving·reserve-core}
+use Rattle.managing.proofs.manage_count as manage-count′
+use Rattle.managing.proofs.manage_count.Symbol.{name as #managing·manage-count}
+use Rattle.managing.proofs.manage_core as manage-core′
+use Rattle.managing.proofs.manage_core.Symbol.{name as #managing·manage-core}
+use Rattle.adopting.proofs.adopt_count as adopt-count′
+use Rattle.adopting.proofs.adopt_count.Symbol.{name as #adopting·adopt-count}
+use Rattle.adopting.proofs.adopt_core as adopt-core′
+use Rattle.adopting.proofs.adopt_core.Symbol.{name as #adopting·adopt-core}
 use Rattle.os_memory.proofs.managed as managed′
 use Rattle.os_memory.proofs.managed.Symbol.{name as #os-memory·managed}
 use Rattle.os_memory.proofs.adopted as adopted′
@@ -123,7 +124,7 @@ module _ {M : Type 1} (𝓤 : URA M) (H : Heap 𝓤) (A : Atoms 𝓤) (mem : Mem
   FoundPlace = tripleOf 𝓤 H A found-place′.signature (found-place′.spec 𝓤 H A mem run)
 
 module _ {M : Type 1} {𝓤 : URA M} {H : Heap 𝓤} {A : Atoms 𝓤} {K : Type 0} {W : Given 𝓤 H A} {Γ : List (Item 𝓤)} {C : Calls 𝓤 H} {E : Env 𝓤 H} {xs : List Operand} {G : Goal 𝓤 H} {after : Val → Goal 𝓤 H} {i : Item 𝓤} where
-  pub reserve-core-step : K → Site K W Γ C E #registers·reserve-core xs G after → (mem : Memory → SProp 𝓤) (run : Routine → Fun 𝓤) → Triple 𝓤 (C #registers·reserve-core) (ReserveCore 𝓤 H A mem run)
+  pub reserve-core-step : K → Site K W Γ C E #reserving·reserve-core xs G after → (mem : Memory → SProp 𝓤) (run : Routine → Fun 𝓤) → Triple 𝓤 (C #reserving·reserve-core) (ReserveCore 𝓤 H A mem run)
       → (ok : Bool) → (s : State) (vs : Val) → Is Z.the-row s (vs ∷ []) → (size : ℕ) → size < 2 ^ 64 → (commit : Bool) → (large : Bool) → (exclusive : Bool) → (page : ℕ) → page < 2 ^ 64 → (S : ℕ) → S < 2 ^ 64 → 0 < S → S ≤ 4294967296
       → ((h : Item 𝓤) → Opds K W (h ∷ Γ) E xs (vbool ok ∷ vs ∷ vint w64 size ∷ vbool commit ∷ vbool large ∷ vbool exclusive ∷ vint w64 page ∷ vint w64 S ∷ []))
       → ((v : Val) → Is Y.the-row (reserveAnswer S ok s size commit large exclusive page) (v ∷ []) → Seq K W (i ∷ Γ) (after v))
@@ -133,7 +134,7 @@ module _ {M : Type 1} {𝓤 : URA M} {H : Heap 𝓤} {A : Atoms 𝓤} {K : Type 
       (owns-make 𝓤 H A (bool ∷ Z.the-row ∷ u64 ∷ bool ∷ bool ∷ bool ∷ u64 ∷ u64 ∷ []) (Ises (bool ∷ Z.the-row ∷ u64 ∷ bool ∷ bool ∷ bool ∷ u64 ∷ u64 ∷ [])) (bool-makes 𝓤 H A W, (LL.makes Z.the-type Z′.the-plain 𝓤 H A, (uint-makes 𝓤 H A W w64, (bool-makes 𝓤 H A W, (bool-makes 𝓤 H A W, (bool-makes 𝓤 H A W, (uint-makes 𝓤 H A W w64, (uint-makes 𝓤 H A W w64, tt)))))))) (ok, (s, (size, (commit, (large, (exclusive, (page, (S, tt)))))))) (vbool ok ∷ [], (vs ∷ [], (vint w64 size ∷ [], (vbool commit ∷ [], (vbool large ∷ [], (vbool exclusive ∷ [], (vint w64 page ∷ [], (vint w64 S ∷ [], tt)))))))) (refl, (gs, ((refl, fsize), (refl, (refl, (refl, ((refl, fpage), ((refl, fS), tt))))))))) tt (factI 𝓤 _ (emp 𝓤) (pos, most))
       (λ r. r ≡ reserveAnswer S ok s size commit large exclusive page) (λ r ws. id⊢ 𝓤 _) ops (λ v r is e. k v (subst (λ (o : Reply). Is Y.the-row o (v ∷ [])) e is))
 
-  pub manage-count-step : K → Site K W Γ C E #registers·manage-count xs G after → (mem : Memory → SProp 𝓤) (run : Routine → Fun 𝓤) → Triple 𝓤 (C #registers·manage-count) (ManageCount 𝓤 H A mem run)
+  pub manage-count-step : K → Site K W Γ C E #managing·manage-count xs G after → (mem : Memory → SProp 𝓤) (run : Routine → Fun 𝓤) → Triple 𝓤 (C #managing·manage-count) (ManageCount 𝓤 H A mem run)
       → (ok : Bool) → (s : State) (vs : Val) → Is Z.the-row s (vs ∷ []) → (start : ℕ) → start < 2 ^ 64 → (size : ℕ) → size < 2 ^ 64 → (mapped : Bool) → (reserved : Bool) → (S : ℕ) → S < 2 ^ 64 → 0 < S → S ≤ 4294967296
       → ((h : Item 𝓤) → Opds K W (h ∷ Γ) E xs (vbool ok ∷ vs ∷ vint w64 start ∷ vint w64 size ∷ vbool mapped ∷ vbool reserved ∷ vint w64 S ∷ []))
       → (manageCount S ok s start size mapped reserved < 2 ^ 64 → Seq K W (i ∷ Γ) (after (vint w64 (manageCount S ok s start size mapped reserved))))
@@ -143,7 +144,7 @@ module _ {M : Type 1} {𝓤 : URA M} {H : Heap 𝓤} {A : Atoms 𝓤} {K : Type 
       (owns-make 𝓤 H A (bool ∷ Z.the-row ∷ u64 ∷ u64 ∷ bool ∷ bool ∷ u64 ∷ []) (Ises (bool ∷ Z.the-row ∷ u64 ∷ u64 ∷ bool ∷ bool ∷ u64 ∷ [])) (bool-makes 𝓤 H A W, (LL.makes Z.the-type Z′.the-plain 𝓤 H A, (uint-makes 𝓤 H A W w64, (uint-makes 𝓤 H A W w64, (bool-makes 𝓤 H A W, (bool-makes 𝓤 H A W, (uint-makes 𝓤 H A W w64, tt))))))) (ok, (s, (start, (size, (mapped, (reserved, (S, tt))))))) (vbool ok ∷ [], (vs ∷ [], (vint w64 start ∷ [], (vint w64 size ∷ [], (vbool mapped ∷ [], (vbool reserved ∷ [], (vint w64 S ∷ [], tt))))))) (refl, (gs, ((refl, fstart), ((refl, fsize), (refl, (refl, ((refl, fS), tt)))))))) tt (factI 𝓤 _ (emp 𝓤) (pos, most))
       (λ r. r ≡ manageCount S ok s start size mapped reserved) (λ r ws. id⊢ 𝓤 _) ops (λ v r is e. subst (λ (u : Val). Seq K W (i ∷ Γ) (after u)) (sym (ap only (is .0) ∙ ap (vint w64) e)) (k (subst (λ (m : ℕ). m < 2 ^ 64) e (is .1))))
 
-  pub manage-core-step : K → Site K W Γ C E #registers·manage-core xs G after → (mem : Memory → SProp 𝓤) (run : Routine → Fun 𝓤) → Triple 𝓤 (C #registers·manage-core) (ManageCore 𝓤 H A mem run)
+  pub manage-core-step : K → Site K W Γ C E #managing·manage-core xs G after → (mem : Memory → SProp 𝓤) (run : Routine → Fun 𝓤) → Triple 𝓤 (C #managing·manage-core) (ManageCore 𝓤 H A mem run)
       → (ok : Bool) → (s : State) (vs : Val) → Is Z.the-row s (vs ∷ []) → (start : ℕ) → start < 2 ^ 64 → (size : ℕ) → size < 2 ^ 64 → (exclusive : Bool) → (node : ℤ) → Is i32 node (vint w32 (ofZ w32 node) ∷ []) → (mapped : Bool) → (reserved : Bool) → (f : Found) (vf : Val) → Is F.the-row f (vf ∷ []) → (S : ℕ) → S < 2 ^ 64 → 0 < S → S ≤ 4294967296
       → ((h : Item 𝓤) → Opds K W (h ∷ Γ) E xs (vbool ok ∷ vs ∷ vint w64 start ∷ vint w64 size ∷ vbool exclusive ∷ vint w32 (ofZ w32 node) ∷ vbool mapped ∷ vbool reserved ∷ vf ∷ vint w64 S ∷ []))
       → ((v : Val) (d : Registering) → Is D.the-row d (v ∷ []) → ((d .reply ≡ manageAnswer S ok s start size mapped reserved f) × (d .id ≡ manageId S ok s start size mapped reserved f) × (manageId S ok s start size mapped reserved f < 32 → d .arena ≡ managedArena (firstWhole S start) (manageBytes S start size / S) exclusive node)) → Seq K W (i ∷ Γ) (after v))
@@ -153,7 +154,7 @@ module _ {M : Type 1} {𝓤 : URA M} {H : Heap 𝓤} {A : Atoms 𝓤} {K : Type 
       (owns-make 𝓤 H A (bool ∷ Z.the-row ∷ u64 ∷ u64 ∷ bool ∷ i32 ∷ bool ∷ bool ∷ F.the-row ∷ u64 ∷ []) (Ises (bool ∷ Z.the-row ∷ u64 ∷ u64 ∷ bool ∷ i32 ∷ bool ∷ bool ∷ F.the-row ∷ u64 ∷ [])) (bool-makes 𝓤 H A W, (LL.makes Z.the-type Z′.the-plain 𝓤 H A, (uint-makes 𝓤 H A W w64, (uint-makes 𝓤 H A W w64, (bool-makes 𝓤 H A W, (sint-makes 𝓤 H A W w32, (bool-makes 𝓤 H A W, (bool-makes 𝓤 H A W, (EL.makes F.the-type F′.the-plain 𝓤 H A, (uint-makes 𝓤 H A W w64, tt)))))))))) (ok, (s, (start, (size, (exclusive, (node, (mapped, (reserved, (f, (S, tt)))))))))) (vbool ok ∷ [], (vs ∷ [], (vint w64 start ∷ [], (vint w64 size ∷ [], (vbool exclusive ∷ [], (vint w32 (ofZ w32 node) ∷ [], (vbool mapped ∷ [], (vbool reserved ∷ [], (vf ∷ [], (vint w64 S ∷ [], tt)))))))))) (refl, (gs, ((refl, fstart), ((refl, fsize), (refl, (gnode, (refl, (refl, (gf, ((refl, fS), tt))))))))))) tt (factI 𝓤 _ (emp 𝓤) (pos, most))
       (λ d. ((d .reply ≡ manageAnswer S ok s start size mapped reserved f) × (d .id ≡ manageId S ok s start size mapped reserved f) × (manageId S ok s start size mapped reserved f < 32 → d .arena ≡ managedArena (firstWhole S start) (manageBytes S start size / S) exclusive node))) (λ r ws. id⊢ 𝓤 _) ops k
 
-  pub adopt-count-step : K → Site K W Γ C E #registers·adopt-count xs G after → (mem : Memory → SProp 𝓤) (run : Routine → Fun 𝓤) → Triple 𝓤 (C #registers·adopt-count) (AdoptCount 𝓤 H A mem run)
+  pub adopt-count-step : K → Site K W Γ C E #adopting·adopt-count xs G after → (mem : Memory → SProp 𝓤) (run : Routine → Fun 𝓤) → Triple 𝓤 (C #adopting·adopt-count) (AdoptCount 𝓤 H A mem run)
       → (ok : Bool) → (s : State) (vs : Val) → Is Z.the-row s (vs ∷ []) → (address : ℕ) → address < 2 ^ 64 → (size : ℕ) → size < 2 ^ 64 → (S : ℕ) → S < 2 ^ 64 → 0 < S → S ≤ 4294967296
       → ((h : Item 𝓤) → Opds K W (h ∷ Γ) E xs (vbool ok ∷ vs ∷ vint w64 address ∷ vint w64 size ∷ vint w64 S ∷ []))
       → (adoptCount S ok s address size < 2 ^ 64 → Seq K W (i ∷ Γ) (after (vint w64 (adoptCount S ok s address size))))
@@ -163,7 +164,7 @@ module _ {M : Type 1} {𝓤 : URA M} {H : Heap 𝓤} {A : Atoms 𝓤} {K : Type 
       (owns-make 𝓤 H A (bool ∷ Z.the-row ∷ u64 ∷ u64 ∷ u64 ∷ []) (Ises (bool ∷ Z.the-row ∷ u64 ∷ u64 ∷ u64 ∷ [])) (bool-makes 𝓤 H A W, (LL.makes Z.the-type Z′.the-plain 𝓤 H A, (uint-makes 𝓤 H A W w64, (uint-makes 𝓤 H A W w64, (uint-makes 𝓤 H A W w64, tt))))) (ok, (s, (address, (size, (S, tt))))) (vbool ok ∷ [], (vs ∷ [], (vint w64 address ∷ [], (vint w64 size ∷ [], (vint w64 S ∷ [], tt))))) (refl, (gs, ((refl, faddress), ((refl, fsize), ((refl, fS), tt)))))) tt (factI 𝓤 _ (emp 𝓤) (pos, most))
       (λ r. r ≡ adoptCount S ok s address size) (λ r ws. id⊢ 𝓤 _) ops (λ v r is e. subst (λ (u : Val). Seq K W (i ∷ Γ) (after u)) (sym (ap only (is .0) ∙ ap (vint w64) e)) (k (subst (λ (m : ℕ). m < 2 ^ 64) e (is .1))))
 
-  pub adopt-core-step : K → Site K W Γ C E #registers·adopt-core xs G after → (mem : Memory → SProp 𝓤) (run : Routine → Fun 𝓤) → Triple 𝓤 (C #registers·adopt-core) (AdoptCore 𝓤 H A mem run)
+  pub adopt-core-step : K → Site K W Γ C E #adopting·adopt-core xs G after → (mem : Memory → SProp 𝓤) (run : Routine → Fun 𝓤) → Triple 𝓤 (C #adopting·adopt-core) (AdoptCore 𝓤 H A mem run)
       → (ok : Bool) → (s : State) (vs : Val) → Is Z.the-row s (vs ∷ []) → (address : ℕ) → address < 2 ^ 64 → (size : ℕ) → size < 2 ^ 64 → (f : Found) (vf : Val) → Is F.the-row f (vf ∷ []) → (g : Found) (vg : Val) → Is F.the-row g (vg ∷ []) → (a : Arena) (va : Val) → Is T.the-row a (va ∷ []) → (S : ℕ) → S < 2 ^ 64 → 0 < S → S ≤ 4294967296 → ((j : ℕ) → g ≡ At j → a .chunks + size / S ≤ 1024)
       → ((h : Item 𝓤) → Opds K W (h ∷ Γ) E xs (vbool ok ∷ vs ∷ vint w64 address ∷ vint w64 size ∷ vf ∷ vg ∷ va ∷ vint w64 S ∷ []))
       → ((v : Val) (d : Registering) → Is D.the-row d (v ∷ []) → ((d .reply ≡ adoptAnswer S ok s address size f g) × (d .id ≡ adoptId S ok s address size f g) × (adoptId S ok s address size f g < 32 → d .arena ≡ adoptArena S a address size g)) → Seq K W (i ∷ Γ) (after v))

@@ -14,8 +14,8 @@ use Rattle.layer.specs.Registering.{firstWhole}
 use Rattle.judge.specs.declared.Query.the-variants.{Meets, Grows}
 use Rattle.judge.specs.Scan.{scanOf}
 use Rattle.registers.specs.declared.Registering.{Registering}
-use Rattle.registers.specs.Core.{manageCount, manageBytes, manageAnswer, manageId, adoptCount, adoptAnswer, adoptId}
-use Rattle.registers.specs.Parts.{manageBase, manageLength, adoptArena, adoptStamped}
+use Rattle.managing.specs.Core.{manageCount, manageBytes, manageAnswer, manageId, manageBase, manageLength}
+use Rattle.adopting.specs.Core.{adoptCount, adoptAnswer, adoptId, adoptArena, adoptStamped}
 use Rattle.writing.specs.declared.Writing.{Writing}
 
 -- the place of the record that a scan found; 32 for none

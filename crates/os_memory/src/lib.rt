@@ -5,7 +5,8 @@ ghost use Prim.Native.Nat.{_/_, _<_, _≤_};
 ghost use Rattle.judge.specs.declared.Query.the-variants.{Meets, Grows};
 ghost use Rattle.layer.specs.World.{worldOf, after};
 ghost use Rattle.layer.specs.Step.{reserve, manage, adopt, step};
-ghost use Rattle.registers.specs.Parts.{manageBase, manageLength, adoptStamped};
+ghost use Rattle.managing.specs.Core.{manageBase, manageLength};
+ghost use Rattle.adopting.specs.Core.{adoptStamped};
 ghost use Rattle.os_memory.specs.Places.{foundPlace, writingOf, ManageWrites, AdoptWrites};
 use arena::Arena;
 use judge::Query;
@@ -36,7 +37,7 @@ pub fn reserve_os_memory_ex(
     ensures { λ r. ⌜ after r (now (records .exit)) (now (stamps .exit)) ≡ step 33554432 (worldOf (now (records .entry)) (now (stamps .entry)) state) ns settings (reserve size commit «allow_large» exclusive) ⌝ }
 {
     let ok = table::row_one(records, stamps.len(), state, settings.page, CHUNK);
-    registers::reserve_core(
+    reserving::reserve_core(
         ok,
         state,
         size,
@@ -75,7 +76,7 @@ fn managed(d: Registering) -> Writing
 fn adopted(growing: Found, d: Registering) -> Writing
     ensures { λ r. ⌜ r ≡ writingOf d (adoptStamped growing (d .id)) ⌝ }
 {
-    as_written(d, registers::adopt_stamped(growing, d.id))
+    as_written(d, adopting::adopt_stamped(growing, d.id))
 }
 
 // ---- manage
@@ -85,8 +86,8 @@ fn manage_query(start: u64, size: u64, chunk_size: u64) -> Query
     requires { ⌜ (0 < «chunk_size») × («chunk_size» ≤ 4294967296) ⌝ }
     ensures { λ r. ⌜ r ≡ Meets (manageBase «chunk_size» start size) (manageLength «chunk_size» start size) ⌝ }
 {
-    let base = registers::manage_base(start, size, chunk_size);
-    let bytes = registers::manage_bytes(start, size, chunk_size);
+    let base = managing::manage_base(start, size, chunk_size);
+    let bytes = managing::manage_bytes(start, size, chunk_size);
     Query::Meets { base, bytes }
 }
 
@@ -106,10 +107,10 @@ fn manage_writing(
     ensures { λ r. ⌜ ManageWrites 33554432 (now (records .entry)) stamps state page start size exclusive node mapped reserved r ⌝ }
 {
     let ok = table::row_one(records, stamps, state, page, CHUNK);
-    let k = registers::manage_count(ok, state, start, size, mapped, reserved, CHUNK);
+    let k = managing::manage_count(ok, state, start, size, mapped, reserved, CHUNK);
     let q = manage_query(start, size, CHUNK);
     let met = table::scan(records, k, CHUNK, q);
-    let d = registers::manage_core(
+    let d = managing::manage_core(
         ok,
         state,
         start,
@@ -202,14 +203,14 @@ fn adopt_writing(
     ensures { λ r. ⌜ AdoptWrites 33554432 (now (records .entry)) stamps state page address size r ⌝ }
 {
     let ok = table::row_one(records, stamps, state, page, CHUNK);
-    let k = registers::adopt_count(ok, state, address, size, CHUNK);
+    let k = adopting::adopt_count(ok, state, address, size, CHUNK);
     let q = block_query(address, size);
     let met = table::scan(records, k, CHUNK, q);
     let g = growth_query(address, size, CHUNK);
     let growing = table::scan(records, k, CHUNK, g);
     let j = found_place(growing);
     let a = table::load_or(records, j);
-    let d = registers::adopt_core(ok, state, address, size, met, growing, a, CHUNK);
+    let d = adopting::adopt_core(ok, state, address, size, met, growing, a, CHUNK);
     adopted(growing, d)
 }
 

@@ -2,7 +2,7 @@
 ghost use mathlib.Core.Path.{_≡_};
 ghost use Prim.Native.Nat.{_<_};
 ghost use lib.ListN.{length, set};
-ghost use Rattle.registers.specs.Parts.{stampsWith};
+ghost use Rattle.registers.specs.Core.{stampsWith};
 ghost use Rattle.writing.specs.Places.{recordPlace};
 use arena::Arena;
 use layer::Reply;

@@ -51,7 +51,7 @@ use Rattle.os_memory.proofs.PlaceSteps.{AdoptWriting, adopt-writing-ste
 use Rattle.writing.proofs.WriteSteps.{Write, write-step}
 use Rattle.layer.specs.World.{worldOf, after}
 use Rattle.layer.specs.Step.{adopt, step}
-use Rattle.registers.specs.Parts.{stampsWith}
+use Rattle.registers.specs.Core.{stampsWith}
 use Rattle.writing.specs.Places.{recordPlace}
 use Rattle.os_memory.proofs.adopt_writing.Symbol as adopt-writing-def
 use Rattle.os_memory.proofs.adopt_writing.Symbol.{name as #os-memory·adopt-writing}

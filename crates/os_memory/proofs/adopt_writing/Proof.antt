@@ -61,15 +61,14 @@ use Rattle.layer.specs.Table.{at}
 use Rattle.judge.specs.Scan.{scanOf}
 use native.Mathlib.Omega.{arith}
 use Rattle.judge.specs.declared.Query.the-variants.{Meets as Meeting, Grows}
-use Rattle.registers.specs.Core.{adoptCount}
-use Rattle.registers.specs.Parts.{adoptStamped}
+use Rattle.adopting.specs.Core.{adoptCount, adoptStamped}
 use Rattle.os_memory.specs.Places.{foundPlace, writingOf, AdoptWrites}
 use Rattle.table.proofs.row_one.Symbol as row-def
 use Rattle.table.proofs.row_one.Symbol.{name as #table·row-one}
 use Rattle.table.proofs.row_one.Met as row-thm
-use Rattle.registers.proofs.adopt_count.Symbol as adopt-count-def
-use Rattle.registers.proofs.adopt_count.Symbol.{name as #registers·adopt-count}
-use Rattle.registers.proofs.adopt_count.Met as adopt-count-thm
+use Rattle.adopting.proofs.adopt_count.Symbol as adopt-count-def
+use Rattle.adopting.proofs.adopt_count.Symbol.{name as #adopting·adopt-count}
+use Rattle.adopting.proofs.adopt_count.Met as adopt-count-thm
 use Rattle.os_memory.proofs.block_query.Symbol as block-query-def
 use Rattle.os_memory.proofs.block_query.Symbol.{name as #os-memory·block-query}
 use Rattle.os_memory.proofs.block_query.Met as block-query-thm
@@ -85,9 +84,9 @@ use Rattle.os_memory.proofs.found_place.Met as found-place-thm
 use Rattle.table.proofs.load_or.Symbol as load-def
 use Rattle.table.proofs.load_or.Symbol.{name as #table·load-or}
 use Rattle.table.proofs.load_or.Met as load-thm
-use Rattle.registers.proofs.adopt_core.Symbol as adopt-core-def
-use Rattle.registers.proofs.adopt_core.Symbol.{name as #registers·adopt-core}
-use Rattle.registers.proofs.adopt_core.Met as adopt-core-thm
+use Rattle.adopting.proofs.adopt_core.Symbol as adopt-core-def
+use Rattle.adopting.proofs.adopt_core.Symbol.{name as #adopting·adopt-core}
+use Rattle.adopting.proofs.adopt_core.Met as adopt-core-thm
 use Rattle.os_memory.proofs.adopted.Symbol as adopted-def
 use Rattle.os_memory.proofs.adopted.Symbol.{name as #os-memory·adopted}
 use Rattle.os_memory.proofs.adopted.Met as adopted-thm
@@ -98,13 +97,13 @@ use Rattle.os_memory.proofs.adopt_writing.Code as code
 
 module _ {M : Type 1} (𝓤 : URA M) (H : Heap 𝓤) (A : Atoms 𝓤) (W : Given 𝓤 H A) (mem : Memory → SProp 𝓤) (run : Routine → Fun 𝓤) (𝓣 : Tables 𝓤 H)
     (known-row : Triple 𝓤 (𝓣 .C #table·row-one) (Row 𝓤 H A mem run))
-    (known-adopt-count : Triple 𝓤 (𝓣 .C #registers·adopt-count) (AdoptCount 𝓤 H A mem run))
+    (known-adopt-count : Triple 𝓤 (𝓣 .C #adopting·adopt-count) (AdoptCount 𝓤 H A mem run))
     (known-block-query : Triple 𝓤 (𝓣 .C #os-memory·block-query) (BlockQuery 𝓤 H A mem run))
     (known-scan : Triple 𝓤 (𝓣 .C #table·scan) (Scan 𝓤 H A mem run))
     (known-growth-query : Triple 𝓤 (𝓣 .C #os-memory·growth-query) (GrowthQuery 𝓤 H A mem run))
     (known-found-place : Triple 𝓤 (𝓣 .C #os-memory·found-place) (FoundPlace 𝓤 H A mem run))
     (known-load : Triple 𝓤 (𝓣 .C #table·load-or) (LoadOr 𝓤 H A mem run))
-    (known-adopt-core : Triple 𝓤 (𝓣 .C #registers·adopt-core) (AdoptCore 𝓤 H A mem run))
+    (known-adopt-core : Triple 𝓤 (𝓣 .C #adopting·adopt-core) (AdoptCore 𝓤 H A mem run))
     (known-adopted : Triple 𝓤 (𝓣 .C #os-memory·adopted) (Adopted 𝓤 H A mem run)) where
   module _ (κ : Lft) (q : Share) (γ : GName) (b o : ℕ) (ys : List Arena) (stamps : ℕ) (state : State) (page : ℕ) (address : ℕ) (size : ℕ) where
     abbrev L : Loan
@@ -180,11 +179,11 @@ adopt-writing-spec 𝓤 H 𝓜 𝓖 𝓡 =
     (tables 𝓤 H 𝓜 𝓡 code.env .C) (tables 𝓤 H 𝓜 𝓡 code.env .Λ) #os-memory·adopt-writing code.function (code.unfolded 𝓤 H 𝓜 𝓡)
     (adopt-writing-meets 𝓤 H (𝓖 .A) (givenOf 𝓤 H 𝓜 𝓖) (𝓜 .mem) (𝓡 .run) (tablesOf 𝓤 H 𝓜 (tables 𝓤 H 𝓜 𝓡 code.env))
     (cited 𝓤 H (Row 𝓤 H (𝓖 .A) (𝓜 .mem) (𝓡 .run)) 𝓜 𝓡 code.env #table·row-one row-def.routine code.calls-table·row-one (row-thm.met 𝓤 H 𝓜 𝓖 𝓡))
-    (cited 𝓤 H (AdoptCount 𝓤 H (𝓖 .A) (𝓜 .mem) (𝓡 .run)) 𝓜 𝓡 code.env #registers·adopt-count adopt-count-def.routine code.calls-registers·adopt-count (adopt-count-thm.met 𝓤 H 𝓜 𝓖 𝓡))
+    (cited 𝓤 H (AdoptCount 𝓤 H (𝓖 .A) (𝓜 .mem) (𝓡 .run)) 𝓜 𝓡 code.env #adopting·adopt-count adopt-count-def.routine code.calls-adopting·adopt-count (adopt-count-thm.met 𝓤 H 𝓜 𝓖 𝓡))
     (cited 𝓤 H (BlockQuery 𝓤 H (𝓖 .A) (𝓜 .mem) (𝓡 .run)) 𝓜 𝓡 code.env #os-memory·block-query block-query-def.routine code.calls-os-memory·block-query (block-query-thm.met 𝓤 H 𝓜 𝓖 𝓡))
     (cited 𝓤 H (Scan 𝓤 H (𝓖 .A) (𝓜 .mem) (𝓡 .run)) 𝓜 𝓡 code.env #table·scan scan-def.routine code.calls-table·scan (scan-thm.met 𝓤 H 𝓜 𝓖 𝓡))
     (cited 𝓤 H (GrowthQuery 𝓤 H (𝓖 .A) (𝓜 .mem) (𝓡 .run)) 𝓜 𝓡 code.env #os-memory·growth-query growth-query-def.routine code.calls-os-memory·growth-query (growth-query-thm.met 𝓤 H 𝓜 𝓖 𝓡))
     (cited 𝓤 H (FoundPlace 𝓤 H (𝓖 .A) (𝓜 .mem) (𝓡 .run)) 𝓜 𝓡 code.env #os-memory·found-place found-place-def.routine code.calls-os-memory·found-place (found-place-thm.met 𝓤 H 𝓜 𝓖 𝓡))
     (cited 𝓤 H (LoadOr 𝓤 H (𝓖 .A) (𝓜 .mem) (𝓡 .run)) 𝓜 𝓡 code.env #table·load-or load-def.routine code.calls-table·load-or (load-thm.met 𝓤 H 𝓜 𝓖 𝓡))
-    (cited 𝓤 H (AdoptCore 𝓤 H (𝓖 .A) (𝓜 .mem) (𝓡 .run)) 𝓜 𝓡 code.env #registers·adopt-core adopt-core-def.routine code.calls-registers·adopt-core (adopt-core-thm.met 𝓤 H 𝓜 𝓖 𝓡))
+    (cited 𝓤 H (AdoptCore 𝓤 H (𝓖 .A) (𝓜 .mem) (𝓡 .run)) 𝓜 𝓡 code.env #adopting·adopt-core adopt-core-def.routine code.calls-adopting·adopt-core (adopt-core-thm.met 𝓤 H 𝓜 𝓖 𝓡))
     (cited 𝓤 H (Adopted 𝓤 H (𝓖 .A) (𝓜 .mem) (𝓡 .run)) 𝓜 𝓡 code.env #os-memory·adopted adopted-def.routine code.calls-os-memory·adopted (adopted-thm.met 𝓤 H 𝓜 𝓖 𝓡)))

@@ -54,7 +54,7 @@ use Rattle.os_memory.proofs.PlaceSteps.{ManageWriting, manage-writing-s
 use Rattle.writing.proofs.WriteSteps.{Write, write-step}
 use Rattle.layer.specs.World.{worldOf, after}
 use Rattle.layer.specs.Step.{manage, step}
-use Rattle.registers.specs.Parts.{stampsWith}
+use Rattle.registers.specs.Core.{stampsWith}
 use Rattle.writing.specs.Places.{recordPlace}
 use Rattle.os_memory.proofs.manage_writing.Symbol as manage-writing-def
 use Rattle.os_memory.proofs.manage_writing.Symbol.{name as #os-memory·manage-writing}

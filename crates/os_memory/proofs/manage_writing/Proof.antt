@@ -60,24 +60,23 @@ use Rattle.os_memory.proofs.PlaceSteps.{ManageCount, ManageCore, Manage
 use Rattle.judge.specs.Scan.{scanOf}
 use native.Mathlib.Omega.{arith}
 use Rattle.judge.specs.declared.Query.the-variants.{Meets as Meeting}
-use Rattle.registers.specs.Core.{manageCount}
-use Rattle.registers.specs.Parts.{manageBase, manageLength}
+use Rattle.managing.specs.Core.{manageCount, manageBase, manageLength}
 use Rattle.os_memory.specs.Places.{writingOf, ManageWrites}
 use Rattle.table.proofs.row_one.Symbol as row-def
 use Rattle.table.proofs.row_one.Symbol.{name as #table·row-one}
 use Rattle.table.proofs.row_one.Met as row-thm
-use Rattle.registers.proofs.manage_count.Symbol as manage-count-def
-use Rattle.registers.proofs.manage_count.Symbol.{name as #registers·manage-count}
-use Rattle.registers.proofs.manage_count.Met as manage-count-thm
+use Rattle.managing.proofs.manage_count.Symbol as manage-count-def
+use Rattle.managing.proofs.manage_count.Symbol.{name as #managing·manage-count}
+use Rattle.managing.proofs.manage_count.Met as manage-count-thm
 use Rattle.os_memory.proofs.manage_query.Symbol as manage-query-def
 use Rattle.os_memory.proofs.manage_query.Symbol.{name as #os-memory·manage-query}
 use Rattle.os_memory.proofs.manage_query.Met as manage-query-thm
 use Rattle.table.proofs.scan.Symbol as scan-def
 use Rattle.table.proofs.scan.Symbol.{name as #table·scan}
 use Rattle.table.proofs.scan.Met as scan-thm
-use Rattle.registers.proofs.manage_core.Symbol as manage-core-def
-use Rattle.registers.proofs.manage_core.Symbol.{name as #registers·manage-core}
-use Rattle.registers.proofs.manage_core.Met as manage-core-thm
+use Rattle.managing.proofs.manage_core.Symbol as manage-core-def
+use Rattle.managing.proofs.manage_core.Symbol.{name as #managing·manage-core}
+use Rattle.managing.proofs.manage_core.Met as manage-core-thm
 use Rattle.os_memory.proofs.managed.Symbol as managed-def
 use Rattle.os_memory.proofs.managed.Symbol.{name as #os-memory·managed}
 use Rattle.os_memory.proofs.managed.Met as managed-thm
@@ -88,10 +87,10 @@ use Rattle.os_memory.proofs.manage_writing.Code as code
 
 module _ {M : Type 1} (𝓤 : URA M) (H : Heap 𝓤) (A : Atoms 𝓤) (W : Given 𝓤 H A) (mem : Memory → SProp 𝓤) (run : Routine → Fun 𝓤) (𝓣 : Tables 𝓤 H)
     (known-row : Triple 𝓤 (𝓣 .C #table·row-one) (Row 𝓤 H A mem run))
-    (known-manage-count : Triple 𝓤 (𝓣 .C #registers·manage-count) (ManageCount 𝓤 H A mem run))
+    (known-manage-count : Triple 𝓤 (𝓣 .C #managing·manage-count) (ManageCount 𝓤 H A mem run))
     (known-manage-query : Triple 𝓤 (𝓣 .C #os-memory·manage-query) (ManageQuery 𝓤 H A mem run))
     (known-scan : Triple 𝓤 (𝓣 .C #table·scan) (Scan 𝓤 H A mem run))
-    (known-manage-core : Triple 𝓤 (𝓣 .C #registers·manage-core) (ManageCore 𝓤 H A mem run))
+    (known-manage-core : Triple 𝓤 (𝓣 .C #managing·manage-core) (ManageCore 𝓤 H A mem run))
     (known-managed : Triple 𝓤 (𝓣 .C #os-memory·managed) (Managed 𝓤 H A mem run)) where
   module _ (κ : Lft) (q : Share) (γ : GName) (b o : ℕ) (ys : List Arena) (stamps : ℕ) (state : State) (page : ℕ) (start : ℕ) (size : ℕ) (exclusive : Bool) (node : ℤ) (mapped : Bool) (reserved : Bool) where
     abbrev L : Loan
@@ -153,8 +152,8 @@ manage-writing-spec 𝓤 H 𝓜 𝓖 𝓡 =
     (tables 𝓤 H 𝓜 𝓡 code.env .C) (tables 𝓤 H 𝓜 𝓡 code.env .Λ) #os-memory·manage-writing code.function (code.unfolded 𝓤 H 𝓜 𝓡)
     (manage-writing-meets 𝓤 H (𝓖 .A) (givenOf 𝓤 H 𝓜 𝓖) (𝓜 .mem) (𝓡 .run) (tablesOf 𝓤 H 𝓜 (tables 𝓤 H 𝓜 𝓡 code.env))
     (cited 𝓤 H (Row 𝓤 H (𝓖 .A) (𝓜 .mem) (𝓡 .run)) 𝓜 𝓡 code.env #table·row-one row-def.routine code.calls-table·row-one (row-thm.met 𝓤 H 𝓜 𝓖 𝓡))
-    (cited 𝓤 H (ManageCount 𝓤 H (𝓖 .A) (𝓜 .mem) (𝓡 .run)) 𝓜 𝓡 code.env #registers·manage-count manage-count-def.routine code.calls-registers·manage-count (manage-count-thm.met 𝓤 H 𝓜 𝓖 𝓡))
+    (cited 𝓤 H (ManageCount 𝓤 H (𝓖 .A) (𝓜 .mem) (𝓡 .run)) 𝓜 𝓡 code.env #managing·manage-count manage-count-def.routine code.calls-managing·manage-count (manage-count-thm.met 𝓤 H 𝓜 𝓖 𝓡))
     (cited 𝓤 H (ManageQuery 𝓤 H (𝓖 .A) (𝓜 .mem) (𝓡 .run)) 𝓜 𝓡 code.env #os-memory·manage-query manage-query-def.routine code.calls-os-memory·manage-query (manage-query-thm.met 𝓤 H 𝓜 𝓖 𝓡))
     (cited 𝓤 H (Scan 𝓤 H (𝓖 .A) (𝓜 .mem) (𝓡 .run)) 𝓜 𝓡 code.env #table·scan scan-def.routine code.calls-table·scan (scan-thm.met 𝓤 H 𝓜 𝓖 𝓡))
-    (cited 𝓤 H (ManageCore 𝓤 H (𝓖 .A) (𝓜 .mem) (𝓡 .run)) 𝓜 𝓡 code.env #registers·manage-core manage-core-def.routine code.calls-registers·manage-core (manage-core-thm.met 𝓤 H 𝓜 𝓖 𝓡))
+    (cited 𝓤 H (ManageCore 𝓤 H (𝓖 .A) (𝓜 .mem) (𝓡 .run)) 𝓜 𝓡 code.env #managing·manage-core manage-core-def.routine code.calls-managing·manage-core (manage-core-thm.met 𝓤 H 𝓜 𝓖 𝓡))
     (cited 𝓤 H (Managed 𝓤 H (𝓖 .A) (𝓜 .mem) (𝓡 .run)) 𝓜 𝓡 code.env #os-memory·managed managed-def.routine code.calls-os-memory·managed (managed-thm.met 𝓤 H 𝓜 𝓖 𝓡)))

@@ -48,19 +48,19 @@ use Rattle.table.proofs.Calls.{in-seq}
 use Rattle.table.proofs.Frame.{Done2, finish2, mut2-meets}
 use Rattle.table.proofs.Steps.{Row, row-step}
 use Rattle.os_memory.proofs.Big.{big-lit}
-use Rattle.registers.proofs.RegisterLaws.{reserve-step as reserve-law}
+use Rattle.register_laws.proofs.ReserveStep.{reserve-step as reserve-law}
 use Rattle.layer.specs.Table.{soundLent}
 use Rattle.os_memory.proofs.PlaceSteps.{ReserveCore, reserve-core-step}
 use Rattle.layer.specs.World.{worldOf, after}
 use Rattle.layer.specs.Step.{reserve, step}
 use native.Mathlib.Omega.{arith}
-use Rattle.registers.specs.Core.{reserveAnswer}
+use Rattle.reserving.specs.Core.{reserveAnswer}
 use Rattle.table.proofs.row_one.Symbol as row-def
 use Rattle.table.proofs.row_one.Symbol.{name as #table·row-one}
 use Rattle.table.proofs.row_one.Met as row-thm
-use Rattle.registers.proofs.reserve_core.Symbol as reserve-core-def
-use Rattle.registers.proofs.reserve_core.Symbol.{name as #registers·reserve-core}
-use Rattle.registers.proofs.reserve_core.Met as reserve-core-thm
+use Rattle.reserving.proofs.reserve_core.Symbol as reserve-core-def
+use Rattle.reserving.proofs.reserve_core.Symbol.{name as #reserving·reserve-core}
+use Rattle.reserving.proofs.reserve_core.Met as reserve-core-thm
 use Rattle.os_memory.proofs.reserve_os_memory_ex.Key.{name as #os-memory·reserve-os-memory-ex}
 use Rattle.os_memory.proofs.reserve_os_memory_ex as reserve-os-memory-ex′
 use Rattle.os_memory.proofs.reserve_os_memory_ex.Statement as stated
@@ -68,7 +68,7 @@ use Rattle.os_memory.proofs.reserve_os_memory_ex.Code as code
 
 module _ {M : Type 1} (𝓤 : URA M) (H : Heap 𝓤) (A : Atoms 𝓤) (W : Given 𝓤 H A) (mem : Memory → SProp 𝓤) (run : Routine → Fun 𝓤) (𝓣 : Tables 𝓤 H)
     (known-row : Triple 𝓤 (𝓣 .C #table·row-one) (Row 𝓤 H A mem run))
-    (known-reserve-core : Triple 𝓤 (𝓣 .C #registers·reserve-core) (ReserveCore 𝓤 H A mem run)) where
+    (known-reserve-core : Triple 𝓤 (𝓣 .C #reserving·reserve-core) (ReserveCore 𝓤 H A mem run)) where
   module _ (κ κ′ : Lft) (q q′ : Share) (γ γ′ : GName) (b o b′ o′ : ℕ) (ys : List Arena) (us : List ℕ) (state : State) (ns : ℕ) (settings : Settings) (size : ℕ) (commit : Bool) (large : Bool) (exclusive : Bool) where
     abbrev L : Loan
     L = record { κ = κ; q = q; γ = γ; b = b; o = o; n = length ys }
@@ -126,4 +126,4 @@ reserve-os-memory-ex-spec 𝓤 H 𝓜 𝓖 𝓡 =
     (tables 𝓤 H 𝓜 𝓡 code.env .C) (tables 𝓤 H 𝓜 𝓡 code.env .Λ) #os-memory·reserve-os-memory-ex code.function (code.unfolded 𝓤 H 𝓜 𝓡)
     (reserve-os-memory-ex-meets 𝓤 H (𝓖 .A) (givenOf 𝓤 H 𝓜 𝓖) (𝓜 .mem) (𝓡 .run) (tablesOf 𝓤 H 𝓜 (tables 𝓤 H 𝓜 𝓡 code.env))
     (cited 𝓤 H (Row 𝓤 H (𝓖 .A) (𝓜 .mem) (𝓡 .run)) 𝓜 𝓡 code.env #table·row-one row-def.routine code.calls-table·row-one (row-thm.met 𝓤 H 𝓜 𝓖 𝓡))
-    (cited 𝓤 H (ReserveCore 𝓤 H (𝓖 .A) (𝓜 .mem) (𝓡 .run)) 𝓜 𝓡 code.env #registers·reserve-core reserve-core-def.routine code.calls-registers·reserve-core (reserve-core-thm.met 𝓤 H 𝓜 𝓖 𝓡)))
+    (cited 𝓤 H (ReserveCore 𝓤 H (𝓖 .A) (𝓜 .mem) (𝓡 .run)) 𝓜 𝓡 code.env #reserving·reserve-core reserve-core-def.routine code.calls-reserving·reserve-core (reserve-core-thm.met 𝓤 H 𝓜 𝓖 𝓡)))

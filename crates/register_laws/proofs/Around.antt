@@ -5,16 +5,19 @@ use mathlib.Core.Bool.{Bool, true, false, cond, not, _&&_}
 use mathlib.Core.List.{List}
 use Prim.Native.Nat.{ℕ, _<_}
 use native.Mathlib.Omega.{arith}
-use borrow.Author.Tests.{leb-false, not-true}
-use lib.Dec.{leb}
+use borrow.Author.Tests.{eqb-true, leb-false, not-true}
+use lib.Dec.{eqb, leb}
+use lib.ListN.{length}
 use Rattle.refusals.specs.declared.Refusal.the-variants.{Broken, QuestionOpen}
 use Rattle.words.proofs.Tests.{when, unless}
 use Rattle.runs.proofs.SearchLaws.{and-both}
 use Rattle.arena.specs.declared.Arena.{Arena}
 use Rattle.layer.specs.declared.Reply.{Reply}
+use Rattle.layer.specs.declared.State.{State}
 use Rattle.layer.specs.declared.Question.{Question}
 use Rattle.layer.specs.declared.Question.the-variants.{Idle, Committing, Purging, Reserving, GivingBack}
-use Rattle.layer.specs.World.{Outcome, stateOf, after, turnDown}
+use Rattle.layer.specs.World.{Outcome, stateOf, after, replyOf, Leaves, turnDown}
+use Rattle.layer.specs.Table.{soundLent}
 use Rattle.layer.specs.Registering.{badCount, registerReply, registers, register}
 use Rattle.layer.specs.Step.{gate}
 use Rattle.registers.specs.Core.{isIdle, gated, recordsWith, stampsWith}
@@ -65,3 +68,12 @@ module _ (l : List Arena) (stamps : List ℕ) (k : ℕ) (mark : Bool) where
       ap₂ (after (turnDown QuestionOpen (stateOf k mark (Reserving chunks bytes commit exclusive waiting)))) (sym (n refl .0)) (sym (n refl .1))
   around-writes true (GivingBack cause waiting) go own r t h n = ap₂ (after (turnDown QuestionOpen (stateOf k mark (GivingBack cause waiting)))) (sym (n refl .0)) (sym (n refl .1))
   around-writes false q go own r t h n = ap₂ (after (turnDown Broken (stateOf k mark q))) (sym (n refl .0)) (sym (n refl .1))
+
+-- an outcome that is put together from a reply and what is left of the lent memory, taken apart again
+pub as-left : (r : Reply) (l : List Arena) (stamps : List ℕ) (o : Outcome) → after r l stamps ≡ o → Leaves o r l stamps
+as-left r l stamps o e = (ap replyOf e, ap (λ (x : Outcome). x .world .records) e, ap (λ (x : Outcome). x .world .stamps) e)
+
+-- row 1 lets 32,768 stamps pass
+pub lent-stamps : (S : ℕ) (l : List Arena) (n : ℕ) (state : State) (page : ℕ) → soundLent S l n state page ≡ true → n ≡ 32768
+unfolding soundLent
+lent-stamps S l n state page e = eqb-true n 32768 (and-both (eqb n 32768) _ (and-both (eqb (length l) 32) _ e .1) .0)

@@ -6,6 +6,7 @@ use lib.Dec.{eqb, leb, ltb}
 use lib.ListN.{set}
 use Rattle.refusals.specs.declared.Refusal.the-variants.{Broken, QuestionOpen}
 use Rattle.runs.specs.declared.Found.{Found}
+use Rattle.runs.specs.declared.Found.the-variants.{At, Nothing}
 use Rattle.arena.specs.declared.Arena.{Arena}
 use Rattle.arena.specs.Releasing.{stampRun}
 use Rattle.layer.specs.declared.State.{State}
@@ -25,6 +26,11 @@ isIdle (GivingBack cause waiting) = false
 -- rows 1 and 2, then the call's own
 abbrev pub gated : Bool → State → Reply → Reply
 gated ok state own = cond ok (cond (isIdle (state .question)) own (turnDown QuestionOpen state)) (turnDown Broken state)
+
+-- the id that is stored to: 32, past the table, where a scan found none
+abbrev pub storedAt : Found → ℕ
+storedAt (At i) = i
+storedAt Nothing = 32
 
 -- row 6, the scan for overlaps having found `met`
 unfoldable pub rangeBad : ℕ → ℕ → Found → Bool

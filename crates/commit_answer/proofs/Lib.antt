@@ -1,2 +1,2 @@
-mod CommitLaws
+pub mod CommitLaws
 mod Steps

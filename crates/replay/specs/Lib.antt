@@ -1,3 +1,6 @@
+pub mod Answers
+pub mod Counting
 pub mod Hash
 pub mod Hex
+pub mod Lines
 pub mod Signed

@@ -1,7 +1,9 @@
 // A line of 53 bytes: the kind, one hexadecimal digit; a, b and the answer r, 16 digits each; a space
 // between two of them and a line end behind the last.
+ghost use mathlib.Core.Path.{_≡_};
 ghost use Prim.Native.Nat.{_+_, _≤_};
 ghost use lib.ListN.{length};
+ghost use Rattle.replay.specs.Lines.{parted, narrow, known, lineOf, fieldsAt, lineAt};
 use crate::hex;
 use crate::hex::Number;
 
@@ -20,20 +22,50 @@ pub enum Parsed {
 // Whether the four bytes that are no digits stand where they should.
 fn is_parted(text: &[u8], at: usize) -> bool
     requires { ⌜ at + 53 ≤ length (now text) ⌝ }
+    ensures { λ r. ⌜ r ≡ parted (now (text .entry)) at ⌝ }
 {
-    text[at + 1] == b' ' && text[at + 18] == b' ' && text[at + 35] == b' ' && text[at + 52] == b'\n'
+    if text[at + 1] != b' ' {
+        return false;
+    }
+    if text[at + 18] != b' ' {
+        return false;
+    }
+    if text[at + 35] != b' ' {
+        return false;
+    }
+    text[at + 52] == b'\n'
+}
+
+// Whether both arguments have 32 bits.
+fn is_narrow(a: u64, b: u64) -> bool
+    ensures { λ r. ⌜ r ≡ narrow a b ⌝ }
+{
+    if a >= 4294967296 {
+        return false;
+    }
+    b < 4294967296
 }
 
 // Whether the arguments are some that the kind's function can take: those of 3 and 4 have 32 bits.
-fn is_known(l: Line) -> bool {
-    if l.kind == 3 || l.kind == 4 {
-        return l.a < 4294967296 && l.b < 4294967296;
+fn is_known(kind: u64, a: u64, b: u64) -> bool
+    ensures { λ r. ⌜ r ≡ known kind a b ⌝ }
+{
+    if kind == 3 {
+        return is_narrow(a, b);
     }
-    l.kind >= 1 && l.kind <= 10
+    if kind == 4 {
+        return is_narrow(a, b);
+    }
+    if kind == 0 {
+        return false;
+    }
+    kind <= 10
 }
 
 // A line of the numbers that were read, if they are all there.
-fn line_of(kind: Number, a: Number, b: Number, r: Number) -> Parsed {
+fn line_of(kind: Number, a: Number, b: Number, r: Number) -> Parsed
+    ensures { λ out. ⌜ out ≡ lineOf kind a b r ⌝ }
+{
     let Number::Is(k) = kind else {
         return Parsed::Malformed;
     };
@@ -46,28 +78,36 @@ fn line_of(kind: Number, a: Number, b: Number, r: Number) -> Parsed {
     let Number::Is(z) = r else {
         return Parsed::Malformed;
     };
-    let l = Line {
-        kind: k,
-        a: x,
-        b: y,
-        r: z,
-    };
-    if is_known(l) {
-        return Parsed::Whole(l);
+    if is_known(k, x, y) {
+        return Parsed::Whole(Line {
+            kind: k,
+            a: x,
+            b: y,
+            r: z,
+        });
     }
     Parsed::Malformed
 }
 
-// The line that starts at `at`.
-pub fn parse(text: &[u8], at: usize) -> Parsed
+// The fields of the line that starts at `at`.
+fn fields(text: &[u8], at: usize) -> Parsed
     requires { ⌜ at + 53 ≤ length (now text) ⌝ }
+    ensures { λ r. ⌜ r ≡ fieldsAt (now (text .entry)) at ⌝ }
 {
-    if !is_parted(text, at) {
-        return Parsed::Malformed;
-    }
     let kind = hex::digit(text[at]);
     let a = hex::field(text, at + 2);
     let b = hex::field(text, at + 19);
     let r = hex::field(text, at + 36);
     line_of(kind, a, b, r)
+}
+
+// The line that starts at `at`.
+pub fn parse(text: &[u8], at: usize) -> Parsed
+    requires { ⌜ at + 53 ≤ length (now text) ⌝ }
+    ensures { λ r. ⌜ r ≡ lineAt (now (text .entry)) at ⌝ }
+{
+    if is_parted(text, at) {
+        return fields(text, at);
+    }
+    Parsed::Malformed
 }

@@ -1,79 +1,77 @@
-// What is counted, and how it is printed.
-use libc::STDOUT_FILENO;
+// What is counted.
+ghost use mathlib.Core.Path.{_≡_};
+ghost use mathlib.Core.Bool.{not};
+ghost use Rattle.replay.specs.Counting.{none, oneMore, afterAnswer, afterMalformed, afterEnd};
 
 // The lines so far, the answers replayed, how many of them differ and the line of the first that does
 // (0: none), the malformed lines, and whether the input has ended.
 pub struct Tally {
-    lines: u64,
-    answers: u64,
-    differences: u64,
-    first: u64,
-    malformed: u64,
-    at_end: bool,
+    pub lines: u64,
+    pub answers: u64,
+    pub differences: u64,
+    pub first: u64,
+    pub malformed: u64,
+    pub over: bool,
 }
 
-pub fn none_yet() -> Tally {
+pub fn none_yet() -> Tally
+    ensures { λ r. ⌜ r ≡ none ⌝ }
+{
     Tally {
         lines: 0,
         answers: 0,
         differences: 0,
         first: 0,
         malformed: 0,
-        at_end: false,
+        over: false,
     }
 }
 
 // One more; the largest number stays as it is.
-fn one_more(n: u64) -> u64 {
+fn one_more(n: u64) -> u64
+    ensures { λ r. ⌜ r ≡ oneMore n ⌝ }
+{
     if n < u64::MAX { n + 1 } else { n }
 }
 
 // A line that was replayed.
-pub fn answered(t: Tally, same: bool) -> Tally {
+pub fn answered(t: Tally, same: bool) -> Tally
+    ensures { λ r. ⌜ r ≡ afterAnswer t same ⌝ }
+{
     let mut u = t;
     u.lines = one_more(t.lines);
     u.answers = one_more(t.answers);
-    if !same {
-        u.differences = one_more(t.differences);
-        if t.first == 0 {
-            u.first = u.lines;
-        }
+    if same {
+        return u;
+    }
+    u.differences = one_more(t.differences);
+    if t.first == 0 {
+        u.first = u.lines;
     }
     u
 }
 
 // A line that was not.
-pub fn malformed(t: Tally) -> Tally {
+pub fn malformed(t: Tally) -> Tally
+    ensures { λ r. ⌜ r ≡ afterMalformed t ⌝ }
+{
     let mut u = t;
     u.lines = one_more(t.lines);
     u.malformed = one_more(t.malformed);
     u
 }
 
-pub fn ended(t: Tally) -> Tally {
+// The input has ended.
+pub fn ended(t: Tally) -> Tally
+    ensures { λ r. ⌜ r ≡ afterEnd t ⌝ }
+{
     let mut u = t;
-    u.at_end = true;
+    u.over = true;
     u
 }
 
-pub fn goes_on(t: Tally) -> bool {
-    !t.at_end
-}
-
-fn say(text: &[u8]) {
-    io::write_all(STDOUT_FILENO, text);
-}
-
-pub fn print(t: Tally) {
-    io::print_decimal(STDOUT_FILENO, t.answers);
-    say(b" answers replayed, ");
-    io::print_decimal(STDOUT_FILENO, t.differences);
-    say(b" differences, ");
-    io::print_decimal(STDOUT_FILENO, t.malformed);
-    say(b" malformed lines\n");
-    if t.first > 0 {
-        say(b"first difference at line ");
-        io::print_decimal(STDOUT_FILENO, t.first);
-        say(b"\n");
-    }
+pub fn goes_on(t: Tally) -> bool
+    ensures { λ r. ⌜ r ≡ not (t .over) ⌝ }
+{
+    !t.over
 }

@@ -49,24 +49,18 @@ pub const FUNCTIONS: [Function; 6] = [
             _ => (rng.number(), rng.number()),
         },
     },
-    Function {
-        kind: 3,
-        name: "arm",
-        takes: Takes::TwoNarrow,
-        rust: |deadline, due| oracle::arm(deadline as u32, due as u32).into(),
-        ours: |deadline, due| sirqobal::arm(deadline as u32, due as u32).into(),
-        small: small_times,
-        draw: two_times,
-    },
-    Function {
-        kind: 4,
-        name: "is_due",
-        takes: Takes::TwoNarrow,
-        rust: |due, now| oracle::is_due(due as u32, now as u32).into(),
-        ours: |due, now| sirqobal::is_due(due as u32, now as u32).into(),
-        small: small_times,
-        draw: two_times,
-    },
+    on_times(
+        3,
+        "arm",
+        |deadline, due| oracle::arm(deadline as u32, due as u32).into(),
+        |deadline, due| sirqobal::arm(deadline as u32, due as u32).into(),
+    ),
+    on_times(
+        4,
+        "is_due",
+        |due, now| oracle::is_due(due as u32, now as u32).into(),
+        |due, now| sirqobal::is_due(due as u32, now as u32).into(),
+    ),
     Function {
         kind: 5,
         name: "now_ms",
@@ -103,6 +97,24 @@ pub const FUNCTIONS: [Function; 6] = [
         },
     },
 ];
+
+/// A function on two points of the 32-bit clock.
+const fn on_times(
+    kind: u8,
+    name: &'static str,
+    rust: fn(u64, u64) -> u64,
+    ours: fn(u64, u64) -> u64,
+) -> Function {
+    Function {
+        kind,
+        name,
+        takes: Takes::TwoNarrow,
+        rust,
+        ours,
+        small: small_times,
+        draw: two_times,
+    }
+}
 
 /// The clock's milliseconds wrap after so many nanoseconds.
 const WRAP_NS: u64 = 1_000_000 << 32;

@@ -1,0 +1,18 @@
+-- Which of the two a line asks: numbers alone, or the slice pool. Assumes nothing.
+use mathlib.Core.Path.{_≡_, sym}
+use mathlib.Core.Bool.{Bool, true, false, cond}
+use mathlib.Core.List.{List}
+use Prim.Native.Nat.{ℕ}
+use lib.Dec.{eqb, leb}
+use Rattle.replay.specs.declared.line.Line.{Line}
+use Rattle.replay.specs.Answers.{ofNumbers, ofPool, leftPool, agreesOn, leaves}
+
+pub on-numbers : (l : Line) (w : List ℕ) → leb (l .kind) 6 ≡ true
+    → (eqb (ofNumbers (l .kind) (l .a) (l .b)) (l .r) ≡ agreesOn l w) × (w ≡ leaves l w)
+unfolding agreesOn leaves
+on-numbers l w e = (rw e, rw e)
+
+pub on-pool : (l : Line) (w : List ℕ) → leb (l .kind) 6 ≡ false
+    → (eqb (ofPool (l .kind) (l .a) (l .b) w) (l .r) ≡ agreesOn l w) × (leftPool (l .kind) (l .a) (l .b) w ≡ leaves l w)
+unfolding agreesOn leaves
+on-pool l w e = (rw e, rw e)

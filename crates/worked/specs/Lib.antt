@@ -1,0 +1,3 @@
+pub mod Numbers
+pub mod Picture
+pub mod Tally

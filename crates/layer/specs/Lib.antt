@@ -6,3 +6,6 @@ pub mod Releasing
 pub mod Sweeping
 pub mod Answering
 pub mod Step
+pub mod Book
+pub mod Sequence
+pub mod Demand

@@ -22,8 +22,8 @@ use Rattle.layer.specs.World.{Outcome, stateOf, after, replyOf}
 use Rattle.layer.specs.Table.{at, soundLent}
 use Rattle.layer.specs.Sweeping.{sweptReply, sweepFrom}
 use Rattle.layer.specs.Answering.{isFor, counted}
-use Rattle.layer_laws.proofs.Tools.{by-set}
-use Rattle.layer_laws.proofs.Kept.{borrow-range, rearm-range}
+use Rattle.layer.proofs.Tools.{by-set}
+use Rattle.layer.proofs.Kept.{borrow-range, rearm-range}
 use Rattle.sweeps.specs.declared.Stay.{Stay}
 use Rattle.sweeps.specs.Core.{stayArena, stayReply, isAsked}
 use Rattle.answers.specs.Core.{purgingId, purgingChunk, purgingSweep}

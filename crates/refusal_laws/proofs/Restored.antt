@@ -40,9 +40,9 @@ use Rattle.layer.specs.Registering.{tooLarge, askMemory, badCount, withRecord, 
 use Rattle.layer.specs.Claiming.{serves, asksCommit, grantArena, grantReply, missReply, isNegative, grantFound, searchAt, searchOf}
 use Rattle.layer.specs.Answering.{isFor, resume, answerOf}
 use Rattle.layer.specs.Step.{claim, answer, step}
-use Rattle.layer_laws.proofs.Tools.{or-false, at-same, by-set}
-use Rattle.layer_laws.proofs.Registered.{reserved-rows}
-use Rattle.layer_laws.proofs.Stepped.{Words, sound-facts, step-sound}
+use Rattle.layer.proofs.Tools.{or-false, at-same, by-set}
+use Rattle.layer.proofs.Registered.{reserved-rows}
+use Rattle.layer.proofs.Stepped.{Words, sound-facts, step-sound}
 use Rattle.refusal_laws.specs.Left.{Reserved}
 use Rattle.refusal_laws.specs.Order.{broken, questionOpen, claimChecks}
 use Rattle.refusal_laws.proofs.Answers.{refused-no-commit, registered-no-commit, claimed-no-commit, memory-no-commit, give-back-no-commit}

@@ -22,8 +22,8 @@ use Rattle.layer.specs.Releasing.{releases, releaseReply, releaseOf}
 use Rattle.layer.specs.Sweeping.{purgeReply, sweptReply, visit, sweepFrom}
 use Rattle.layer.specs.Answering.{isFor, answerOf}
 use Rattle.layer.specs.Step.{step}
-use Rattle.share_book.specs.Book.{Fed, enter}
-use Rattle.share_book.specs.Sequence.{feeds, aside, inRange, fed, told}
+use Rattle.layer.specs.Book.{Fed, enter}
+use Rattle.layer.specs.Sequence.{feeds, aside, inRange, fed, told}
 use Rattle.share_book_cases.specs.Example.{Example}
 
 other : {A : Type 0} → _≡_ {A = ℕ} 9 7 → A

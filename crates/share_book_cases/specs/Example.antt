@@ -16,9 +16,9 @@ use Rattle.layer.specs.declared.Kind.the-variants.{ForCommit, ForPurge, ForMemo
 use Rattle.layer.specs.World.{World, blank, stateOf, worldOf, empty}
 use Rattle.layer.specs.Step.{Call, reserve, manage, claim, release, sweep, answer}
 use Rattle.runs.specs.Lowest.{lowestRun}
-use Rattle.share_book.specs.Book.{Fed, claims, releases, Say, refused, granted, released, opened, sayAll}
-use Rattle.share_book.specs.Sequence.{Marked, after, fed, told, owed}
-use Rattle.share_book.specs.Demand.{opening, Course}
+use Rattle.layer.specs.Book.{Fed, claims, releases, Say, refused, granted, released, opened, sayAll}
+use Rattle.layer.specs.Sequence.{Marked, after, fed, told, owed}
+use Rattle.layer.specs.Demand.{opening, Course}
 
 -- a chunk: 33,554,432 bytes
 abbrev pub S : ℕ

@@ -8,7 +8,7 @@ use native.Mathlib.Decide.{ℕ-discrete}
 use lib.ListN.{length, set}
 use Rattle.arena.specs.declared.Arena.{Arena}
 use Rattle.layer.specs.Table.{at}
-use Rattle.layer_laws.proofs.Tools.{at-same, at-other}
+use Rattle.layer.proofs.Tools.{at-same, at-other}
 use Rattle.sweep_laws.specs.Run.{count, pendingIn, pendingBits}
 
 -- ---- places

@@ -28,8 +28,8 @@ use Rattle.layer.specs.declared.Answer.the-variants.{Asks, Swept}
 use Rattle.layer.specs.World.{Outcome, stateOf, worldOf, outcome, calm}
 use Rattle.layer.specs.Table.{at}
 use Rattle.layer.specs.Sweeping.{purgeReply, sweptReply, visitAt, visit, sweepFrom}
-use Rattle.layer_laws.proofs.Tools.{at-same}
-use Rattle.layer_laws.proofs.Kept.{disarm-range, borrow-range, return-range, rearm-range}
+use Rattle.layer.proofs.Tools.{at-same}
+use Rattle.layer.proofs.Kept.{disarm-range, borrow-range, return-range, rearm-range}
 use Rattle.sweep_laws.specs.Run.{count, pendingIn, pendingBits}
 use Rattle.sweep_laws.proofs.Counts.{count-less, bits-put}
 

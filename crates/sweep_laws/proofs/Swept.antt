@@ -27,8 +27,8 @@ use Rattle.layer.specs.Table.{at, isAt, findArena, sound}
 use Rattle.layer.specs.Sweeping.{sweepFrom}
 use Rattle.layer.specs.Answering.{isFor, counted, answerPurge, answerOf}
 use Rattle.layer.specs.Step.{Call, reserve, manage, adopt, claim, release, sweep, answer, owns, area, areaOf, sweepOf, stepOn, step}
-use Rattle.layer_laws.proofs.Kept.{SoundWorld}
-use Rattle.layer_laws.proofs.Stepped.{Words, sound-facts, step-on-kept}
+use Rattle.layer.proofs.Kept.{SoundWorld}
+use Rattle.layer.proofs.Stepped.{Words, sound-facts, step-on-kept}
 use Rattle.sweep_laws.specs.Run.{pendingIn, pendingBits, asksPurge, isRefused, isYes, saysYes, isPurging, Made, Run, isOpen, more, goOn, withCount, runSweep}
 use Rattle.sweep_laws.proofs.Counts.{count-some, bits-some}
 use Rattle.sweep_laws.proofs.Goes.{Goes, asks, ends, visit-goes, sweep-goes, return-less}

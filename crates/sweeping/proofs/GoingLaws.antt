@@ -20,8 +20,8 @@ use Rattle.layer.specs.World.{Outcome, after}
 use Rattle.layer.specs.Table.{at}
 use Rattle.layer.specs.Sweeping.{sweptReply, sweepFrom}
 use Rattle.words.proofs.Tests.{by-cond}
-use Rattle.layer_laws.proofs.Tools.{by-set}
-use Rattle.layer_laws.proofs.Kept.{disarm-range, borrow-range, rearm-range}
+use Rattle.layer.proofs.Tools.{by-set}
+use Rattle.layer.proofs.Kept.{disarm-range, borrow-range, rearm-range}
 use Rattle.words.proofs.Tests.{when, unless}
 use Rattle.sweeps.specs.Core.{nextOf, stayArena, stayReply, isAsked, arrives, arriveFound, arriveArena, arriveReply}
 use Rattle.sweeps.proofs.SweepLaws.{onward, sweep-arrives}

@@ -7,19 +7,19 @@ use native.Mathlib.Omega.{arith}
 use lib.ListN.{length-replicate}
 use Rattle.words.proofs.Tests.{by-cond, unless}
 use Rattle.runs.specs.Lowest.{lowestRun}
 use Rattle.layer.specs.declared.Settings.{Settings}
 use Rattle.layer.specs.declared.Answer.{Answer}
 use Rattle.layer.specs.World.{World, Outcome, empty}
 use Rattle.layer.specs.Table.{at, sound}
 use Rattle.layer.specs.Step.{Call, stepOn, step}
-use Rattle.layer_laws.proofs.Kept.{SoundWorld}
-use Rattle.layer_laws.proofs.Stepped.{step-on-kept}
-use Rattle.share_book.specs.Book.{Book, Fed, Say, Choice, opened, enter, enterAll, sayAll}
-use Rattle.share_book.specs.Sequence.{Marked, Trail, outcomeOf, isBroken, brokenAt, isIdle, next, after, start, Lent, Role, aside, role, roleOf, fedOf, toldOf, fed, told, View, calm, viewOf, owedIn, owed, Premises, Premise, Opens, asksFor}
-use Rattle.share_book.specs.Demand.{opening, Course, Demand3}
-use Rattle.share_book.proofs.Shown.{bookIn, Mine, bookAt, Inv, Fits}
-use Rattle.share_book.proofs.Keeps.{keeps}
-use Rattle.share_book.proofs.Outcomes.{New, Tells, names, step-tells, refused-1}
+use Rattle.layer.proofs.Kept.{SoundWorld}
+use Rattle.layer.proofs.Stepped.{step-on-kept}
+use Rattle.layer.specs.Book.{Book, Fed, Say, Choice, opened, enter, enterAll, sayAll}
+use Rattle.layer.specs.Sequence.{Marked, Trail, outcomeOf, isBroken, brokenAt, isIdle, next, after, start, Lent, Role, aside, role, roleOf, fedOf, toldOf, fed, told, View, calm, viewOf, owedIn, owed, Premises, Premise, Opens, asksFor}
+use Rattle.layer.specs.Demand.{opening, Course, Demand3}
+use Rattle.layer.proofs.Shown.{bookIn, Mine, bookAt, Inv, Fits}
+use Rattle.layer.proofs.Keeps.{keeps}
+use Rattle.layer.proofs.Outcomes.{New, Tells, names, step-tells, refused-1}
 
 -- ---- the book over two lists
 

@@ -17,20 +17,20 @@ use Rattle.runs.specs.Lowest.{Starts, Lowest, all, lowestRun}
 use Rattle.runs.proofs.LowestLaws.{lowest-says}
 use Rattle.lookup.specs.Place.{bytesOf, endOf, isInside}
 use Rattle.lookup.proofs.SoundLaws.{never}
 use Rattle.layer.specs.declared.Question.{Question}
 use Rattle.layer.specs.declared.Question.the-variants.{Idle, Committing, Purging, Reserving, GivingBack}
 use Rattle.layer.specs.declared.Answer.{Answer}
 use Rattle.layer.specs.declared.Answer.the-variants.{Claimed}
 use Rattle.layer.specs.World.{Outcome}
 use Rattle.layer.specs.Table.{at, sound}
 use Rattle.layer.specs.Step.{Call, reserve, manage, adopt, claim, release, sweep, answer, owns, area}
-use Rattle.layer_laws.proofs.Kept.{SoundWorld}
-use Rattle.share_book.specs.Book.{Book, Fed, claims, releases, Say, refused, granted, Turn, turn, opened, unheld, claimed, enter, enterAll, sayAll}
-use Rattle.share_book.specs.Sequence.{Marked, Trail, outcomeOf, isBroken, brokenAt, next, after, start, Lent, inRange, Role, feeds, aside, role, roleOf, fedOf, toldOf, fed, told, calm, committing, viewOf, owedIn, owed, isAnswer, Premises, Premise, claimant, asksFor}
-use Rattle.share_book.specs.Demand.{opening, Course, heldFrom, leftUnheld, toldBy, GrantedExactly, GrantedLowest, OthersElsewhere, Alike}
-use Rattle.share_book.proofs.Shown.{Mine}
-use Rattle.share_book.proofs.Outcomes.{Tells, names, step-tells}
-use Rattle.share_book.proofs.Demand.{IsLent, stands, never-1, lent-append, sound-after, bookOf, Moves, one, Ran, run, demand3}
+use Rattle.layer.proofs.Kept.{SoundWorld}
+use Rattle.layer.specs.Book.{Book, Fed, claims, releases, Say, refused, granted, Turn, turn, opened, unheld, claimed, enter, enterAll, sayAll}
+use Rattle.layer.specs.Sequence.{Marked, Trail, outcomeOf, isBroken, brokenAt, next, after, start, Lent, inRange, Role, feeds, aside, role, roleOf, fedOf, toldOf, fed, told, calm, committing, viewOf, owedIn, owed, isAnswer, Premises, Premise, claimant, asksFor}
+use Rattle.layer.specs.Demand.{opening, Course, heldFrom, leftUnheld, toldBy, GrantedExactly, GrantedLowest, OthersElsewhere, Alike}
+use Rattle.layer.proofs.Shown.{Mine}
+use Rattle.layer.proofs.Outcomes.{Tells, names, step-tells}
+use Rattle.layer.proofs.Demand.{IsLent, stands, never-1, lent-append, sound-after, bookOf, Moves, one, Ran, run, demand3}
 
 -- ---- what the program's calls and what it was told leave held is what the book holds
 

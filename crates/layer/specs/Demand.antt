@@ -8,10 +8,10 @@ use lib.IntN.{pos}
 use Rattle.words.specs.Bits.{within}
 use Rattle.runs.specs.declared.Found.the-variants.{At}
 use Rattle.runs.specs.Lowest.{Starts, Lowest, lowestRun}
 use Rattle.layer.specs.declared.Answer.the-variants.{Claimed}
 use Rattle.layer.specs.Step.{claim}
-use Rattle.share_book.specs.Book.{Fed, claims, releases, Say, refused, granted, released, opened, sayAll}
-use Rattle.share_book.specs.Sequence.{Marked, Trail, outcomeOf, next, after, start, Lent, inRange, said, fed, told, owed, Premise, Opens, claimant, asksFor}
+use Rattle.layer.specs.Book.{Fed, claims, releases, Say, refused, granted, released, opened, sayAll}
+use Rattle.layer.specs.Sequence.{Marked, Trail, outcomeOf, next, after, start, Lent, inRange, said, fed, told, owed, Premise, Opens, claimant, asksFor}
 
 -- where the calls stand once m has registered the arena
 abbrev pub opening : ℕ → List Marked → Marked → Trail

@@ -10,18 +10,18 @@ use Rattle.refusals.specs.declared.Refusal.the-variants.{Broken}
 use Rattle.refusals.specs.Number.{number}
 use Rattle.arena.specs.declared.Arena.{Arena}
 use Rattle.arena.specs.Claiming.{runFresh}
 use Rattle.layer.specs.declared.Settings.{Settings}
 use Rattle.layer.specs.declared.Question.{Question}
 use Rattle.layer.specs.declared.Question.the-variants.{Idle, Committing, Purging, Reserving, GivingBack}
 use Rattle.layer.specs.declared.Waiting.the-variants.{Reserve, Claim}
 use Rattle.layer.specs.declared.Kind.{Kind}
 use Rattle.layer.specs.declared.Kind.the-variants.{ForCommit, ForPurge, ForMemory, ForGiveBack, ForNone}
 use Rattle.layer.specs.declared.Answer.{Answer}
 use Rattle.layer.specs.declared.Answer.the-variants.{Refused, Asks, Registered, Claimed, Released, Swept, Owns, Area}
 use Rattle.layer.specs.World.{World, Outcome, empty}
 use Rattle.layer.specs.Table.{at, sound}
 use Rattle.layer.specs.Step.{Call, reserve, manage, adopt, claim, release, sweep, answer, owns, area, step}
-use Rattle.share_book.specs.Book.{Fed, claims, releases, Say, refused, granted, released}
+use Rattle.layer.specs.Book.{Fed, claims, releases, Say, refused, granted, released}
 
 -- ---- the sequence
 

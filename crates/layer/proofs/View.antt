@@ -22,12 +22,12 @@ use Rattle.arena.specs.Sweeping.{disarm, borrowChunk, unpendChunk, returnChunk,
 use Rattle.arena_laws.specs.Rows.{Rows}
 use Rattle.arena_laws.proofs.RowLaws.{bit-write, no-bits-row, no-bits}
 use Rattle.arena_laws.proofs.Changes.{take-used, dirty-dirty, finish-dirty, release-used, release-dirty}
 use Rattle.layer.specs.declared.Sweep.{Sweep}
 use Rattle.layer.specs.declared.Question.the-variants.{Committing, Purging}
-use Rattle.layer_laws.proofs.Kept.{take-range, release-range}
-use Rattle.share_book.specs.Book.{Book, granted, opened, hold, unhold, claimed}
-use Rattle.share_book.specs.Sequence.{calm, committing, purging, viewOf, owedIn}
-use Rattle.share_book.proofs.Shown.{bookIn, Stays}
+use Rattle.layer.proofs.Kept.{take-range, release-range}
+use Rattle.layer.specs.Book.{Book, granted, opened, hold, unhold, claimed}
+use Rattle.layer.specs.Sequence.{calm, committing, purging, viewOf, owedIn}
+use Rattle.layer.proofs.Shown.{bookIn, Stays}
 
 -- ---- a written bit, in the book's words
 

@@ -27,14 +27,14 @@ use Rattle.lookup.proofs.SoundLaws.{SoundRange, SoundArena}
 use Rattle.arena_laws.specs.Rows.{Rows}
 use Rattle.arena_laws.proofs.Changes.{new-rows, grown-rows}
 use Rattle.arena_laws.proofs.Soundness.{new-sound, grown-sound}
 use Rattle.layer.specs.declared.State.{State}
 use Rattle.layer.specs.declared.Reply.{Reply}
 use Rattle.layer.specs.World.{World, Outcome, stateOf, worldOf, calm}
 use Rattle.layer.specs.Table.{at, isAt, meets, overlaps, badRange}
 use Rattle.layer.specs.Registering.{chunksFor, tooLarge, askMemory, reserveReply, badCount, registerReply, registers, withRecord, withStamps, register, firstWhole, pastWhole, noWholeChunk, grows, reserveOf, manageOf, adoptAt, adoptOf}
-use Rattle.layer_laws.proofs.Tools.{or-false, at-same, at-other, by-set}
-use Rattle.layer_laws.proofs.Facts.{SoundTable, SoundQuestion, overlaps-none}
-use Rattle.layer_laws.proofs.Kept.{SoundWorld, Kept, calm-kept, stamp-length}
+use Rattle.layer.proofs.Tools.{or-false, at-same, at-other, by-set}
+use Rattle.layer.proofs.Facts.{SoundTable, SoundQuestion, overlaps-none}
+use Rattle.layer.proofs.Kept.{SoundWorld, Kept, calm-kept, stamp-length}
 
 -- ---- what row 6 lets pass
 

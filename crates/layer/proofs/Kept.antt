@@ -29,19 +29,19 @@ use Rattle.arena_laws.specs.Rows.{Rows}
 use Rattle.arena_laws.proofs.RowLaws.{bit-in}
 use Rattle.arena_laws.proofs.Changes.{found-inside, take-rows, give-back-rows, commit-rows, dirty-rows, finish-rows, release-rows, disarm-rows, borrow-rows, return-rows, rearm-rows}
 use Rattle.arena_laws.proofs.Soundness.{take-sound, give-back-sound, dirty-sound, finish-sound, release-sound, disarm-sound, borrow-sound, return-sound, rearm-sound}
 use Rattle.layer.specs.declared.Settings.{Settings}
 use Rattle.layer.specs.declared.Sweep.{Sweep}
 use Rattle.layer.specs.declared.State.{State}
 use Rattle.layer.specs.declared.Question.{Question}
 use Rattle.layer.specs.declared.Question.the-variants.{Idle, Committing, Purging, Reserving, GivingBack}
 use Rattle.layer.specs.declared.Reply.{Reply}
 use Rattle.layer.specs.World.{World, Outcome, stateOf, worldOf, calm}
 use Rattle.layer.specs.Table.{at, isAt, findArena}
 use Rattle.layer.specs.Claiming.{serves, asksCommit, grantArena, grantReply, searchAt, searchOf, grantFound}
 use Rattle.layer.specs.Releasing.{releases, releaseReply, releaseIn, releaseAt, releaseOf}
 use Rattle.layer.specs.Sweeping.{purgeReply, sweptReply, visitAt, visit, sweepFrom}
-use Rattle.layer_laws.proofs.Tools.{at-same, by-set}
-use Rattle.layer_laws.proofs.Facts.{SoundTable, SoundQuestion, put-sound}
+use Rattle.layer.proofs.Tools.{at-same, by-set}
+use Rattle.layer.proofs.Facts.{SoundTable, SoundQuestion, put-sound}
 
 -- ---- a sound world
 

@@ -23,29 +23,29 @@ use Rattle.lookup.proofs.SoundLaws.{SoundRange, SoundArena, arena-facts, arena-
 use Rattle.arena_laws.specs.Rows.{Rows}
 use Rattle.arena_laws.proofs.Changes.{finish-rows, give-back-rows, return-rows}
 use Rattle.arena_laws.proofs.Soundness.{finish-sound, give-back-sound, return-sound}
 use Rattle.layer.specs.declared.Settings.{Settings}
 use Rattle.layer.specs.declared.Sweep.{Sweep}
 use Rattle.layer.specs.declared.State.{State}
 use Rattle.layer.specs.declared.Question.{Question}
 use Rattle.layer.specs.declared.Question.the-variants.{Idle, Committing, Purging, Reserving, GivingBack}
 use Rattle.layer.specs.declared.Waiting.{Waiting}
 use Rattle.layer.specs.declared.Waiting.the-variants.{Reserve, Claim}
 use Rattle.layer.specs.declared.Kind.{Kind}
 use Rattle.refusals.specs.declared.Refusal.{Refusal}
 use Rattle.refusals.specs.declared.Refusal.the-variants.{NoRun}
 use Rattle.layer.specs.declared.Reply.{Reply}
 use Rattle.layer.specs.World.{World, Outcome, stateOf, worldOf, calm, turnDown}
 use Rattle.layer.specs.Table.{at, meets, badRange, apart, askedId, soundQuestion, soundTable, soundLent, sound}
 use Rattle.layer.specs.Registering.{tooLarge, badCount, askMemory, withRecord, withStamps}
 use Rattle.layer.specs.Claiming.{missReply, isNegative, claimOf}
 use Rattle.options.specs.Options.{arenaAllowed}
 use Rattle.layer.specs.Answering.{isFor, counted, failReply, answerCommit, answerPurge, resume, answerMemory, answerTo, answerOf}
 use Rattle.layer.specs.Sweeping.{sweepFrom}
 use Rattle.layer.specs.Step.{Call, reserve, manage, adopt, claim, release, sweep, answer, owns, area, sweepOf, gate, stepOn, step}
-use Rattle.layer_laws.proofs.Tools.{or-false}
-use Rattle.layer_laws.proofs.Facts.{SoundTable, SoundQuestion, apart-facts, apart-test, question-facts, question-test, put-sound}
-use Rattle.layer_laws.proofs.Kept.{SoundWorld, Kept, calm-kept, search-kept, release-kept, visit-kept, sweep-kept, finish-range, give-back-range, return-range}
-use Rattle.layer_laws.proofs.Registered.{GoodRange, good-range, new-table, new-stamps, reserved-rows, reserved-sound, reserved-range, reserve-kept, manage-kept, adopt-kept}
+use Rattle.layer.proofs.Tools.{or-false}
+use Rattle.layer.proofs.Facts.{SoundTable, SoundQuestion, apart-facts, apart-test, question-facts, question-test, put-sound}
+use Rattle.layer.proofs.Kept.{SoundWorld, Kept, calm-kept, search-kept, release-kept, visit-kept, sweep-kept, finish-range, give-back-range, return-range}
+use Rattle.layer.proofs.Registered.{GoodRange, good-range, new-table, new-stamps, reserved-rows, reserved-sound, reserved-range, reserve-kept, manage-kept, adopt-kept}
 
 module _ (S : ℕ) (pos : 0 < S) (l : List Arena) (stamps : List ℕ) (k : ℕ) (mark : Bool) (t : SoundTable S l k) (ls : length stamps ≡ 32768) where
   -- ---- claims

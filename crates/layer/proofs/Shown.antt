@@ -7,11 +7,11 @@ use Prim.Native.Nat.{ℕ, _<_}
 use Rattle.words.specs.Bits.{bitAt, within}
 use Rattle.runs.specs.Lowest.{lowestRun}
 use Rattle.arena.specs.declared.Arena.{Arena}
 use Rattle.layer.specs.declared.Question.{Question}
 use Rattle.layer.specs.World.{Outcome}
 use Rattle.layer.specs.Table.{at}
-use Rattle.share_book.specs.Book.{Book, Say, enterAll, sayAll}
-use Rattle.share_book.specs.Sequence.{isIdle, Role, fedOf, toldOf, View, calm, committing, purging, viewOf, owedIn}
+use Rattle.layer.specs.Book.{Book, Say, enterAll, sayAll}
+use Rattle.layer.specs.Sequence.{isIdle, Role, fedOf, toldOf, View, calm, committing, purging, viewOf, owedIn}
 
 -- a borrowed used bit is not held
 abbrev pub heldIn : View → Arena → ℕ → Bool

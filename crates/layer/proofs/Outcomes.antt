@@ -30,34 +30,34 @@ use Rattle.lookup.proofs.SoundLaws.{never}
 use Rattle.lookup.proofs.PlaceLaws.{inside-test}
 use Rattle.purge.specs.Stamps.{stampsOf}
 use Rattle.arena_laws.proofs.Changes.{found-inside}
 use Rattle.layer.specs.declared.Settings.{Settings}
 use Rattle.layer.specs.declared.Sweep.{Sweep}
 use Rattle.layer.specs.declared.Question.{Question}
 use Rattle.layer.specs.declared.Question.the-variants.{Idle, Committing, Purging, Reserving, GivingBack}
 use Rattle.layer.specs.declared.Waiting.{Waiting}
 use Rattle.layer.specs.declared.Waiting.the-variants.{Reserve, Claim}
 use Rattle.layer.specs.declared.Unusable.{Unusable}
 use Rattle.layer.specs.declared.Unusable.the-variants.{Count, Misaligned, Full}
 use Rattle.layer.specs.declared.Kind.{Kind}
 use Rattle.layer.specs.declared.Ask.{Ask}
 use Rattle.layer.specs.declared.Answer.{Answer}
 use Rattle.layer.specs.declared.Answer.the-variants.{Refused, Asks, Registered, Claimed, Released, Swept, Owns, Area}
 use Rattle.layer.specs.World.{World, Outcome, stateOf, worldOf, after, turnDown, outcome}
 use Rattle.layer.specs.Table.{at, isAt, meets, badRange, apart, soundTable, soundLent, sound}
 use Rattle.layer.specs.Registering.{askMemory, badCount, withRecord, withStamps, register, grows}
 use Rattle.layer.specs.Claiming.{eligible, serves, claimOf}
 use Rattle.layer.specs.Sweeping.{purgeReply, sweptReply, visitAt, visit, sweepFrom}
 use Rattle.layer.specs.Answering.{isFor, causeRefusal, counted, failReply, answerCommit, resume, answerMemory, answerTo, answerOf}
 use Rattle.layer.specs.Step.{Call, reserve, manage, adopt, claim, release, sweep, answer, owns, area, sweepOf, gate, stepOn, step}
-use Rattle.layer_laws.proofs.Tools.{or-false, at-same, at-other}
-use Rattle.layer_laws.proofs.Facts.{SoundTable, SoundQuestion, question-facts}
-use Rattle.layer_laws.proofs.Registered.{good-range, new-table, reserved-rows, reserved-sound, reserved-range}
-use Rattle.share_book.specs.Book.{opened}
-use Rattle.share_book.specs.Sequence.{isBroken, calm, asksIn, asksFor}
-use Rattle.share_book.proofs.Shown.{bookIn}
-use Rattle.share_book.proofs.View.{book-reserved, book-managed}
-use Rattle.share_book.proofs.Cases.{grant-cases, search-cases, miss-cases, claim-cases, release-in-cases, release-cases, reserve-cases, register-cases, manage-cases, adopt-cases, memory-cases}
-use Rattle.share_book.proofs.Keeps.{only-one}
+use Rattle.layer.proofs.Tools.{or-false, at-same, at-other}
+use Rattle.layer.proofs.Facts.{SoundTable, SoundQuestion, question-facts}
+use Rattle.layer.proofs.Registered.{good-range, new-table, reserved-rows, reserved-sound, reserved-range}
+use Rattle.layer.specs.Book.{opened}
+use Rattle.layer.specs.Sequence.{isBroken, calm, asksIn, asksFor}
+use Rattle.layer.proofs.Shown.{bookIn}
+use Rattle.layer.proofs.View.{book-reserved, book-managed}
+use Rattle.layer.proofs.Cases.{grant-cases, search-cases, miss-cases, claim-cases, release-in-cases, release-cases, reserve-cases, register-cases, manage-cases, adopt-cases, memory-cases}
+use Rattle.layer.proofs.Keeps.{only-one}
 
 -- ---- no address lies in two arenas
 

@@ -1,3 +1,8 @@
+pub mod Tools
+pub mod Facts
+pub mod Kept
+pub mod Registered
+pub mod Stepped
 pub mod Shown
 pub mod View
 pub mod Cases

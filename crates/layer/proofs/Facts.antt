@@ -22,12 +22,12 @@ use Rattle.lookup.specs.Place.{bytesOf, endOf}
 use Rattle.lookup.specs.Soundness.{soundArena}
 use Rattle.lookup.proofs.SoundLaws.{SoundArena, arena-facts, arena-test}
 use Rattle.arena_laws.specs.Rows.{Rows}
 use Rattle.layer.specs.declared.State.{State}
 use Rattle.layer.specs.declared.Question.{Question}
 use Rattle.layer.specs.declared.Question.the-variants.{Idle, Committing, Purging, Reserving, GivingBack}
 use Rattle.layer.specs.World.{blank}
 use Rattle.layer.specs.Table.{at, isAt, meets, overlaps, apart, askedId, soundQuestion, soundTable}
-use Rattle.layer_laws.proofs.Tools.{at-same, at-other, by-set}
+use Rattle.layer.proofs.Tools.{at-same, at-other, by-set}
 
 -- ---- ranges
 

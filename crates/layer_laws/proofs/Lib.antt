@@ -1,5 +1,0 @@
-pub mod Tools
-pub mod Facts
-pub mod Kept
-pub mod Registered
-pub mod Stepped

@@ -1,1 +1,0 @@
-// What holds of the layer's rules: proofs/. No code stands here.

@@ -1,3 +1,0 @@
-pub mod Book
-pub mod Sequence
-pub mod Demand

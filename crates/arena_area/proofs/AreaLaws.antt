@@ -24,7 +24,7 @@ use Rattle.layer.specs.Step.{owns, area, areaOf, stepOn, step}
 use Rattle.judge.specs.declared.Query.the-variants.{Holds}
 use Rattle.judge.specs.Scan.{hit, scanOf}
 use Rattle.table.proofs.TableLaws.{few-at}
-use Rattle.registers.proofs.RegisterLaws.{sound-count}
+use Rattle.registers.proofs.WriteLaws.{sound-count}
 use Rattle.refusals.specs.declared.Refusal.the-variants.{Broken}
 use Rattle.arena_area.specs.Asked.{lookedAt, ownsReply, placeOf, areaAnswer, areaReply}
 

@@ -38,14 +38,9 @@ use Rattle.layer.proofs.Reply as Y
 use Rattle.runs.specs.declared.Found.{Found}
 use Rattle.runs.proofs.Found as F
 use Rattle.runs.proofs.Found.Laws as F′
-use Rattle.judge.specs.declared.Query.{Query}
-use Rattle.judge.proofs.Query as Q
-use Rattle.judge.specs.declared.Query.the-variants.{Holds}
 use Rattle.arena_area.specs.Asked.{lookedAt, ownsReply, placeOf, areaReply}
 use Rattle.arena_area.proofs.looked_at as looked-at′
 use Rattle.arena_area.proofs.looked_at.Symbol.{name as #arena-area·looked-at}
-use Rattle.arena_area.proofs.holds_query as holds-query′
-use Rattle.arena_area.proofs.holds_query.Symbol.{name as #arena-area·holds-query}
 use Rattle.arena_area.proofs.owns_reply as owns-reply′
 use Rattle.arena_area.proofs.owns_reply.Symbol.{name as #arena-area·owns-reply}
 use Rattle.arena_area.proofs.place_of as place-of′
@@ -58,9 +53,6 @@ use Rattle.table.proofs.Calls.{Site, plain-call}
 module _ {M : Type 1} (𝓤 : URA M) (H : Heap 𝓤) (A : Atoms 𝓤) (mem : Memory → SProp 𝓤) (run : Routine → Fun 𝓤) where
   abbrev pub LookedAt : Contract 𝓤
   LookedAt = tripleOf 𝓤 H A looked-at′.signature (looked-at′.spec 𝓤 H A mem run)
-
-  abbrev pub HoldsQuery : Contract 𝓤
-  HoldsQuery = tripleOf 𝓤 H A holds-query′.signature (holds-query′.spec 𝓤 H A mem run)
 
   abbrev pub OwnsReply : Contract 𝓤
   OwnsReply = tripleOf 𝓤 H A owns-reply′.signature (owns-reply′.spec 𝓤 H A mem run)
@@ -81,16 +73,6 @@ module _ {M : Type 1} {𝓤 : URA M} {H : Heap 𝓤} {A : Atoms 𝓤} {K : Type 
       plain-call t site usize (plain (λ _. bool) ∷ plain (λ _. Z.the-row) ∷ []) (yes, (yes, tt)) (looked-at′.clauses 𝓤 H A mem run) known (ok, (s, tt)) (vbool ok ∷ [], (vs ∷ [], tt))
       (owns-make 𝓤 H A (bool ∷ Z.the-row ∷ []) (Ises (bool ∷ Z.the-row ∷ [])) (bool-makes 𝓤 H A W, (LL.makes Z.the-type Z′.the-plain 𝓤 H A, tt)) (ok, (s, tt)) (vbool ok ∷ [], (vs ∷ [], tt)) (refl, (gs, tt))) tt (id⊢ 𝓤 _)
       (λ r. r ≡ lookedAt ok s) (λ r ws. id⊢ 𝓤 _) ops (λ v r is e. subst (λ (u : Val). Seq K W (i ∷ Γ) (after u)) (sym (ap only (is .0) ∙ ap (vint w64) e)) (k (subst (λ (m : ℕ). m < 2 ^ 64) e (is .1))))
-
-  pub holds-query-step : K → Site K W Γ C E #arena-area·holds-query xs G after → (mem : Memory → SProp 𝓤) (run : Routine → Fun 𝓤) → Triple 𝓤 (C #arena-area·holds-query) (HoldsQuery 𝓤 H A mem run)
-      → (address : ℕ) → address < 2 ^ 64
-      → ((h : Item 𝓤) → Opds K W (h ∷ Γ) E xs (vint w64 address ∷ []))
-      → ((v : Val) → Is Q.the-row (Holds address) (v ∷ []) → Seq K W (i ∷ Γ) (after v))
-      → Seq K W (i ∷ Γ) G
-  holds-query-step t site mem run known address faddress ops k =
-      plain-call t site Q.the-row (plain (λ _. u64) ∷ []) (yes, tt) (holds-query′.clauses 𝓤 H A mem run) known (address, tt) (vint w64 address ∷ [], tt)
-      (owns-make 𝓤 H A (u64 ∷ []) (Ises (u64 ∷ [])) (uint-makes 𝓤 H A W w64, tt) (address, tt) (vint w64 address ∷ [], tt) ((refl, faddress), tt)) tt (id⊢ 𝓤 _)
-      (λ r. r ≡ Holds address) (λ r ws. id⊢ 𝓤 _) ops (λ v r is e. k v (subst (λ (o : Query). Is Q.the-row o (v ∷ [])) e is))
 
   pub owns-reply-step : K → Site K W Γ C E #arena-area·owns-reply xs G after → (mem : Memory → SProp 𝓤) (run : Routine → Fun 𝓤) → Triple 𝓤 (C #arena-area·owns-reply) (OwnsReply 𝓤 H A mem run)
       → (ok : Bool) → (s : State) (vs : Val) → Is Z.the-row s (vs ∷ []) → (f : Found) (vf : Val) → Is F.the-row f (vf ∷ [])

@@ -1,4 +1,3 @@
-mod Big
 mod Two
 mod AreaLaws
 mod AreaSteps

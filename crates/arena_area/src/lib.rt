@@ -32,13 +32,6 @@ fn looked_at(ok: bool, state: State) -> usize
     0
 }
 
-// What an address lies in.
-fn holds_query(address: u64) -> Query
-    ensures { λ r. ⌜ r ≡ Holds address ⌝ }
-{
-    Query::Holds { address }
-}
-
 // Whether the scan found an arena.
 fn is_at(f: Found) -> bool
     ensures { λ r. ⌜ r ≡ isAt f ⌝ }
@@ -71,9 +64,10 @@ pub fn owns(
 ) -> Reply
     ensures { λ r. ⌜ r ≡ replyOf (step 33554432 (worldOf (now (records .entry)) (now (stamps .entry)) state) ns settings (owns address)) ⌝ }
 {
-    let ok = table::row_one(records, stamps.len(), state, settings.page, CHUNK);
+    let page = entry::page_of(settings);
+    let ok = table::row_one(records, stamps.len(), state, page, CHUNK);
     let k = looked_at(ok, state);
-    let q = holds_query(address);
+    let q = entry::holds_query(address);
     let f = table::scan(records, k, CHUNK, q);
     owns_reply(ok, state, f)
 }
@@ -128,7 +122,8 @@ pub fn arena_area(
 ) -> Reply
     ensures { λ r. ⌜ r ≡ replyOf (step 33554432 (worldOf (now (records .entry)) (now (stamps .entry)) state) ns settings (area id)) ⌝ }
 {
-    let ok = table::row_one(records, stamps.len(), state, settings.page, CHUNK);
+    let page = entry::page_of(settings);
+    let ok = table::row_one(records, stamps.len(), state, page, CHUNK);
     let j = place_of(id);
     let a = table::load_or(records, j);
     area_reply(ok, state, j, a, CHUNK)

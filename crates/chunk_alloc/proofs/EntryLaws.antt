@@ -17,7 +17,8 @@ use Rattle.layer.specs.Step.{claim, step}
 use Rattle.judge.specs.declared.Query.the-variants.{Serves}
 use Rattle.judge.specs.Scan.{hit, scanOf}
 use Rattle.claims.specs.Core.{claimCount, searchArena, claimReply}
-use Rattle.claims.proofs.ClaimLaws.{storedAt, claim-step-set, found-sound}
+use Rattle.claims.proofs.ClaimLaws.{claim-step-set, found-sound}
+use Rattle.registers.specs.Core.{storedAt}
 use Rattle.layer.specs.World.{replyOf, Leaves}
 
 module _ (S : ℕ) (l : List Arena) (stamps : List ℕ) (state : State) (settings : Settings) (id : ℤ) (n : ℕ) (commits : Bool) where

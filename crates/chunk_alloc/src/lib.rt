@@ -6,7 +6,6 @@ ghost use Prim.Native.Nat.{ℕ};
 ghost use Rattle.judge.specs.declared.Query.the-variants.{Serves};
 ghost use Rattle.layer.specs.World.{worldOf};
 ghost use Rattle.layer.specs.Step.{claim, step};
-ghost use Rattle.claims.proofs.ClaimLaws.{storedAt};
 ghost use Rattle.layer.specs.World.{Leaves};
 use arena::Arena;
 use claims::Served;
@@ -24,22 +23,6 @@ fn serves_query(id: i32, n: usize) -> Query
     ensures { λ r. ⌜ r ≡ Serves id n ⌝ }
 {
     Query::Serves { id, n }
-}
-
-// The id that is stored to; 32 stores nothing.
-fn stored_at(f: Found) -> usize
-    ensures { λ r. ⌜ r ≡ storedAt f ⌝ }
-{
-    match f {
-        Found::At(i) => i,
-        Found::Nothing => 32,
-    }
-}
-
-fn page_of(settings: Settings) -> u64
-    ensures { λ r. ⌜ r ≡ settings .page ⌝ }
-{
-    settings.page
 }
 
 fn arena_of(d: Served) -> Arena
@@ -66,12 +49,12 @@ fn claim_at(
 ) -> Reply
     ensures { λ r. ⌜ ((ns : ℕ) → Leaves (step 33554432 (worldOf (now (records .entry)) (now (stamps .entry)) state) ns settings (claim id n commits)) r (now (records .exit)) (now (stamps .exit))) ⌝ }
 {
-    let page = page_of(settings);
+    let page = entry::page_of(settings);
     let ok = table::row_one(records, stamps.len(), state, page, CHUNK);
     let k = claims::claim_count(ok, state, settings, id, n);
     let q = serves_query(id, n);
     let f = table::scan(records, k, CHUNK, q);
-    let i = stored_at(f);
+    let i = entry::stored_at(f);
     let a = table::load_or(records, i);
     let d = claims::claim_core(ok, state, settings, id, n, commits, f, a, CHUNK);
     let b = arena_of(d);

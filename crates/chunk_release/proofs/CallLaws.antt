@@ -18,7 +18,8 @@ use Rattle.layer.specs.Table.{at, soundLent}
 use Rattle.layer.specs.Step.{release, step}
 use Rattle.judge.specs.declared.Query.the-variants.{Holds}
 use Rattle.judge.specs.Scan.{hit, scanOf}
-use Rattle.releases.specs.Core.{releaseCount, releaseAnswer, releaseArena, stampsAfter, storedAt}
+use Rattle.releases.specs.Core.{releaseCount, releaseAnswer, releaseArena, stampsAfter}
+use Rattle.registers.specs.Core.{storedAt}
 use Rattle.releases.proofs.StepLaws.{release-step, found-facts}
 
 module _ (S : ℕ) (l : List Arena) (stamps : List ℕ) (state : State) (settings : Settings) (address n : ℕ) where

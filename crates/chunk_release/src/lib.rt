@@ -5,7 +5,6 @@ ghost use Rattle.clock.specs.Clock.{nowMs, delayMs};
 ghost use Rattle.layer.specs.World.{worldOf, Leaves};
 ghost use Rattle.layer.specs.Step.{release, step};
 ghost use Rattle.judge.specs.declared.Query.the-variants.{Holds};
-ghost use Rattle.releases.specs.Core.{storedAt};
 use arena::Arena;
 use arena::Commitment;
 use judge::Query;
@@ -17,30 +16,7 @@ use runs::Found;
 // The size of a chunk.
 const CHUNK: u64 = 33554432;
 
-// What is asked of a record: whether the address lies in it.
-fn holds_query(address: u64) -> Query
-    ensures { λ r. ⌜ r ≡ Holds address ⌝ }
-{
-    Query::Holds { address }
-}
-
-// The id that is stored to: 32, past the table, where none was found.
-fn stored_at(f: Found) -> usize
-    ensures { λ r. ⌜ r ≡ storedAt f ⌝ }
-{
-    match f {
-        Found::At(i) => i,
-        Found::Nothing => 32,
-    }
-}
-
-// The page size, and the delay in milliseconds.
-fn sound_page(settings: Settings) -> u64
-    ensures { λ r. ⌜ r ≡ settings .page ⌝ }
-{
-    settings.page
-}
-
+// The delay in milliseconds.
 fn release_delay(settings: Settings) -> u32
     ensures { λ r. ⌜ r ≡ delayMs (settings .delay) ⌝ }
 {
@@ -68,10 +44,16 @@ pub fn chunk_release(
 ) -> Reply
     ensures { λ r. ⌜ Leaves (step 33554432 (worldOf (now (records .entry)) (now (stamps .entry)) state) ns settings (release address n told pending)) r (now (records .exit)) (now (stamps .exit)) ⌝ }
 {
-    let ok = table::row_one(records, stamps.len(), state, sound_page(settings), CHUNK);
+    let ok = table::row_one(
+        records,
+        stamps.len(),
+        state,
+        entry::page_of(settings),
+        CHUNK,
+    );
     let k = releases::release_count(ok, state, n);
-    let f = table::scan(records, k, CHUNK, holds_query(address));
-    let i = stored_at(f);
+    let f = table::scan(records, k, CHUNK, entry::holds_query(address));
+    let i = entry::stored_at(f);
     let a = table::load_or(records, i);
     let ms = release_ms(ns);
     let delay = release_delay(settings);

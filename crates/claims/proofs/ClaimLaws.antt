@@ -33,7 +33,7 @@ use Rattle.layer.specs.Claiming.{eligible, serves, missReply, grantFound, searc
 use Rattle.layer.specs.Step.{claim, gate, step}
 use Rattle.judge.specs.declared.Query.the-variants.{Serves}
 use Rattle.judge.specs.Scan.{hit, scanOf}
-use Rattle.registers.specs.Core.{isIdle}
+use Rattle.registers.specs.Core.{isIdle, storedAt}
 use Rattle.words.proofs.Tests.{when, unless}
 use Rattle.claims.specs.Core.{claimCount, runReply, runArena, searchReply, searchArena, claimReply}
 use Rattle.claims.proofs.CallLaws.{count-broken, count-asked, count-none, count-off, count-all}
@@ -65,11 +65,6 @@ unfolding scanOf hit
 scan-hits S id n l k = refl
 
 -- ---- the store
-
--- the id that is stored to: 32 stores nothing
-abbrev pub storedAt : Found → ℕ
-storedAt (At x) = x
-storedAt Nothing = 32
 
 abbrev pub stored : List Arena → ℕ → Bool → Found → List Arena
 stored l n commits (At x) = set l x (searchArena (at l x) n commits (At x))

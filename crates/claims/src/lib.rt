@@ -8,7 +8,6 @@ ghost use Rattle.refusals.specs.declared.Refusal.the-variants.{Zero, ArenasOff}
 ghost use Rattle.runs.specs.declared.Found.the-variants.{At};
 ghost use Rattle.lookup.specs.Soundness.{soundArena};
 ghost use Rattle.layer.specs.World.{stateOf, reply, turnDown, calm};
-ghost use Rattle.layer.specs.Registering.{tooLarge};
 ghost use Rattle.layer.specs.Claiming.{isNegative, grantArena, grantReply, missReply};
 ghost use Rattle.claims.specs.Core.{claimCount, searchArena, searchReply, claimReply};
 use arena::Arena;
@@ -21,9 +20,6 @@ use layer::State;
 use layer::Waiting;
 use refusals::Refusal;
 use runs::Found;
-
-// The last address of all.
-const LAST: u64 = 18446744073709551615;
 
 // The record that a claim leaves, and its reply.
 pub struct Served {
@@ -108,14 +104,6 @@ fn may_reserve(id: i32, reserve: u64, mark: bool, chunk_size: u64) -> bool
     !mark
 }
 
-// Whether the whole chunks of the reserve, or they and one more, pass the last address.
-fn reserve_too_large(reserve: u64, chunk_size: u64) -> bool
-    requires { ⌜ (0 < «chunk_size») × («chunk_size» ≤ 4294967296) ⌝ }
-    ensures { λ r. ⌜ r ≡ tooLarge «chunk_size» reserve ⌝ }
-{
-    LAST / chunk_size <= registers::chunks_for(reserve, chunk_size)
-}
-
 // No arena serves the claim: it waits for the default reserve, or there is no such run. A reserve that
 // cannot be asked for has failed, and is given up.
 pub fn miss(
@@ -135,11 +123,11 @@ pub fn miss(
     if !may_reserve(id, reserve, mark, chunk_size) {
         return refuse(Refusal::NoRun, k, mark);
     }
-    if reserve_too_large(reserve, chunk_size) {
+    if reserving::too_large(reserve, chunk_size) {
         return refuse(Refusal::NoRun, k, true);
     }
     let waiting = Waiting::Claim { n, commits };
-    registers::ask_memory(
+    reserving::ask_memory(
         k,
         mark,
         reserve,

@@ -28,11 +28,10 @@ use Rattle.layer.specs.World.{blank}
 use Rattle.layer.specs.Table.{at}
 use Rattle.layer.specs.Registering.{badCount}
 use Rattle.layer.specs.Claiming.{serves}
-use Rattle.registers.specs.Core.{rangeBad}
-use Rattle.registers.specs.Parts.{recordsWith}
+use Rattle.registers.specs.Core.{rangeBad, recordsWith, storedAt}
 use Rattle.registers.proofs.DecisionLaws.{either, neither, few}
-use Rattle.registers.proofs.RegisterLaws.{records-none, records-set}
-use Rattle.claims.proofs.ClaimLaws.{hits, storedAt, serving, set-past}
+use Rattle.registers.proofs.WriteLaws.{records-none, records-set}
+use Rattle.claims.proofs.ClaimLaws.{hits, serving, set-past}
 use Rattle.memory.specs.Core.{memoryRegisters, memoryId, waitingCount, waitingN, searchCount}
 use Rattle.memory.proofs.DecisionLaws.{Registers, registers-facts, registers-room}
 

@@ -30,12 +30,11 @@ use Rattle.layer.specs.Table.{at, meets, overlaps, badRange}
 use Rattle.layer.specs.Registering.{badCount, withRecord, withStamps}
 use Rattle.layer.specs.Claiming.{serves, grantFound, searchAt, searchOf}
 use Rattle.layer.specs.Answering.{failReply, giveBackReply, resume, answerMemory}
-use Rattle.registers.specs.Core.{rangeBad}
-use Rattle.registers.specs.Parts.{recordsWith, stampsWith}
+use Rattle.registers.specs.Core.{rangeBad, recordsWith, stampsWith, storedAt}
 use Rattle.registers.proofs.DecisionLaws.{either, range-zero, range-long}
-use Rattle.registers.proofs.RegisterLaws.{records-below, stamps-below}
+use Rattle.registers.proofs.WriteLaws.{records-below, stamps-below}
 use Rattle.claims.specs.Core.{runReply, runArena, searchReply, searchArena}
-use Rattle.claims.proofs.ClaimLaws.{storedAt, set-same}
+use Rattle.claims.proofs.ClaimLaws.{set-same}
 use Rattle.memory.specs.Core.{memoryBytes, memoryCount, memoryRegisters, registeredReply, blockReply, memoryReply, memoryId, waitingCount, waitingN, waitingCommits, searchCount}
 use Rattle.memory.proofs.DecisionLaws.{bytes-short, registers-facts, registers-room, registers-no, registers-bad, registers-count, registers-part, registers-whole}
 

@@ -28,9 +28,9 @@ use Rattle.sweeps.specs.declared.Stay.{Stay}
 use Rattle.sweeps.specs.Core.{stayArena, stayReply, isAsked}
 use Rattle.answers.specs.Core.{purgingId, purgingChunk, purgingSweep}
 use Rattle.answers.proofs.AnswerLaws.{return-range, for-purge, stayed, purge-stays, purge-room}
-use Rattle.purge_due.specs.Going.{Ranged, nextPlace}
-use Rattle.purge_due.proofs.GoingLaws.{ended}
-use Rattle.purge_due.proofs.CallLaws.{sound-sweepable}
+use Rattle.sweeping.specs.Going.{Ranged, nextPlace}
+use Rattle.sweeping.proofs.GoingLaws.{ended}
+use Rattle.sweeping.proofs.LentLaws.{sound-sweepable}
 use Rattle.purge_answer.specs.Part.{Fit, Purgeable, found, Stays, placeOf, countOf, sweepFor, purgeLeft}
 
 -- ---- ranges

@@ -33,12 +33,13 @@ use Rattle.layer.proofs.State as Z
 use Rattle.layer.proofs.State.Laws as Z′
 use Rattle.layer.proofs.Sweep as X
 use Rattle.sweeps.proofs.Stay as Y
+use Rattle.sweeps.proofs.Stay.Laws as Y′
 use Rattle.layer.specs.declared.Sweep.{Sweep}
 use Rattle.layer.specs.declared.State.{State}
 use Rattle.layer.specs.declared.Reply.{Reply}
 use Rattle.sweeps.specs.declared.Stay.{Stay}
 use Rattle.answers.specs.Core.{purgingId, purgingChunk, purgingSweep}
-use Rattle.purge_due.specs.Going.{nextPlace}
+use Rattle.sweeping.specs.Going.{nextPlace}
 use Rattle.purge_answer.specs.Part.{Fit, Stays, placeOf, countOf, sweepFor}
 use Rattle.table.proofs.Walk.{Loan, sliceOf, lent}
 use Rattle.table.proofs.Calls.{Site, plain-call, shr-call}
@@ -118,21 +119,21 @@ module _ {M : Type 1} {𝓤 : URA M} {H : Heap 𝓤} {A : Atoms 𝓤} {K : Type 
       (λ o. (ok ≡ true → Stays S us (s .count) (s .mark) granted a o (purgingId (s .question)) (purgingChunk (s .question)) (purgingSweep (s .question))) × (ok ≡ false → o .asked ≡ true)) (λ _ _ r ws. id⊢ 𝓤 _) (λ h _. ops h) (λ v r is e. k v r is e)
 
   pub rest-step : K → Site K W Γ C E #purge-answer·rest-from xs G after → (mem : Memory → SProp 𝓤) (run : Routine → Fun 𝓤) → Triple 𝓤 (C #purge-answer·rest-from) (Rests 𝓤 H A mem run)
-      → (j : ℕ) → j < 2 ^ 64 → (asked : Bool) → (n : ℕ) → n < 2 ^ 64 → (asked ≡ false → j < 32)
-      → ((h : Item 𝓤) → Opds K W (h ∷ Γ) E xs (vint w64 j ∷ vbool asked ∷ vint w64 n ∷ []))
-      → (nextPlace j asked n < 2 ^ 64 → Seq K W (i ∷ Γ) (after (vint w64 (nextPlace j asked n))))
+      → (j : ℕ) → j < 2 ^ 64 → (o : Stay) (vo : Val) → Is Y.the-row o (vo ∷ []) → (n : ℕ) → n < 2 ^ 64 → (o .asked ≡ false → j < 32)
+      → ((h : Item 𝓤) → Opds K W (h ∷ Γ) E xs (vint w64 j ∷ vo ∷ vint w64 n ∷ []))
+      → (nextPlace j (o .asked) n < 2 ^ 64 → Seq K W (i ∷ Γ) (after (vint w64 (nextPlace j (o .asked) n))))
       → Seq K W (i ∷ Γ) G
-  rest-step t site mem run known j fj asked n fn l ops k =
-      plain-call t site usize (plain (λ _. usize) ∷ plain (λ _. bool) ∷ plain (λ _. usize) ∷ []) (yes, (yes, (yes, tt))) (rest′.clauses 𝓤 H A mem run) known (j, (asked, (n, tt))) (vint w64 j ∷ [], (vbool asked ∷ [], (vint w64 n ∷ [], tt)))
-      (owns-make 𝓤 H A (usize ∷ bool ∷ usize ∷ []) (Ises (usize ∷ bool ∷ usize ∷ [])) (uint-makes 𝓤 H A W w64, (bool-makes 𝓤 H A W, (uint-makes 𝓤 H A W w64, tt))) (j, (asked, (n, tt))) (vint w64 j ∷ [], (vbool asked ∷ [], (vint w64 n ∷ [], tt))) ((refl, fj), (refl, ((refl, fn), tt)))) tt (factI 𝓤 _ (emp 𝓤) l)
-      (λ r. r ≡ nextPlace j asked n) (λ r ws. id⊢ 𝓤 _) ops (λ v r is e. subst (λ (u : Val). Seq K W (i ∷ Γ) (after u)) (sym (ap only (is .0) ∙ ap (vint w64) e)) (k (subst (λ (m : ℕ). m < 2 ^ 64) e (is .1))))
+  rest-step t site mem run known j fj o vo go n fn l ops k =
+      plain-call t site usize (plain (λ _. usize) ∷ plain (λ _. Y.the-row) ∷ plain (λ _. usize) ∷ []) (yes, (yes, (yes, tt))) (rest′.clauses 𝓤 H A mem run) known (j, (o, (n, tt))) (vint w64 j ∷ [], (vo ∷ [], (vint w64 n ∷ [], tt)))
+      (owns-make 𝓤 H A (usize ∷ Y.the-row ∷ usize ∷ []) (Ises (usize ∷ Y.the-row ∷ usize ∷ [])) (uint-makes 𝓤 H A W w64, (LL.makes Y.the-type Y′.the-plain 𝓤 H A, (uint-makes 𝓤 H A W w64, tt))) (j, (o, (n, tt))) (vint w64 j ∷ [], (vo ∷ [], (vint w64 n ∷ [], tt))) ((refl, fj), (go, ((refl, fn), tt)))) tt (factI 𝓤 _ (emp 𝓤) l)
+      (λ r. r ≡ nextPlace j (o .asked) n) (λ r ws. id⊢ 𝓤 _) ops (λ v r is e. subst (λ (u : Val). Seq K W (i ∷ Γ) (after u)) (sym (ap only (is .0) ∙ ap (vint w64) e)) (k (subst (λ (m : ℕ). m < 2 ^ 64) e (is .1))))
 
   pub pick-step : K → Site K W Γ C E #purge-answer·pick xs G after → (mem : Memory → SProp 𝓤) (run : Routine → Fun 𝓤) → Triple 𝓤 (C #purge-answer·pick) (Picks 𝓤 H A mem run)
-      → (asked : Bool) → (first : Reply) (vf : Val) → Is P.the-row first (vf ∷ []) → (rest : Reply) (vr : Val) → Is P.the-row rest (vr ∷ [])
-      → ((h : Item 𝓤) → Opds K W (h ∷ Γ) E xs (vbool asked ∷ vf ∷ vr ∷ []))
-      → ((v : Val) → Is P.the-row (cond asked first rest) (v ∷ []) → Seq K W (i ∷ Γ) (after v))
+      → (o : Stay) (vo : Val) → Is Y.the-row o (vo ∷ []) → (rest : Reply) (vr : Val) → Is P.the-row rest (vr ∷ [])
+      → ((h : Item 𝓤) → Opds K W (h ∷ Γ) E xs (vo ∷ vr ∷ []))
+      → ((v : Val) → Is P.the-row (cond (o .asked) (o .reply) rest) (v ∷ []) → Seq K W (i ∷ Γ) (after v))
       → Seq K W (i ∷ Γ) G
-  pick-step t site mem run known asked first vf gf rest vr gr ops k =
-      plain-call t site P.the-row (plain (λ _. bool) ∷ plain (λ _. P.the-row) ∷ plain (λ _. P.the-row) ∷ []) (yes, (yes, (yes, tt))) (pick′.clauses 𝓤 H A mem run) known (asked, (first, (rest, tt))) (vbool asked ∷ [], (vf ∷ [], (vr ∷ [], tt)))
-      (owns-make 𝓤 H A (bool ∷ P.the-row ∷ P.the-row ∷ []) (Ises (bool ∷ P.the-row ∷ P.the-row ∷ [])) (bool-makes 𝓤 H A W, (LL.makes P.the-type P′.the-plain 𝓤 H A, (LL.makes P.the-type P′.the-plain 𝓤 H A, tt))) (asked, (first, (rest, tt))) (vbool asked ∷ [], (vf ∷ [], (vr ∷ [], tt))) (refl, (gf, (gr, tt)))) tt (id⊢ 𝓤 _)
-      (λ r. r ≡ cond asked first rest) (λ r ws. id⊢ 𝓤 _) ops (λ v r is e. k v (subst (λ (o : Reply). Is P.the-row o (v ∷ [])) e is))
+  pick-step t site mem run known o vo go rest vr gr ops k =
+      plain-call t site P.the-row (plain (λ _. Y.the-row) ∷ plain (λ _. P.the-row) ∷ []) (yes, (yes, tt)) (pick′.clauses 𝓤 H A mem run) known (o, (rest, tt)) (vo ∷ [], (vr ∷ [], tt))
+      (owns-make 𝓤 H A (Y.the-row ∷ P.the-row ∷ []) (Ises (Y.the-row ∷ P.the-row ∷ [])) (LL.makes Y.the-type Y′.the-plain 𝓤 H A, (LL.makes P.the-type P′.the-plain 𝓤 H A, tt)) (o, (rest, tt)) (vo ∷ [], (vr ∷ [], tt)) (go, (gr, tt))) tt (id⊢ 𝓤 _)
+      (λ r. r ≡ cond (o .asked) (o .reply) rest) (λ r ws. id⊢ 𝓤 _) ops (λ v r is e. k v (subst (λ (x : Reply). Is P.the-row x (v ∷ [])) e is))

@@ -16,7 +16,7 @@ use Rattle.layer.specs.Answering.{counted, answerPurge}
 use Rattle.sweeps.specs.declared.Stay.{Stay}
 use Rattle.sweeps.specs.Core.{nextOf, stayArena, stayReply, isAsked}
 use Rattle.answers.specs.Core.{purgingId, purgingChunk, purgingSweep}
-use Rattle.purge_due.specs.Going.{Ranged}
+use Rattle.sweeping.specs.Going.{Ranged}
 
 -- arena a, its id i and chunk j, and the sweep w are within bounds
 abbrev pub Fit : ℕ → List ℕ → Arena → ℕ → ℕ → Sweep → Type 0

@@ -4,7 +4,7 @@ ghost use mathlib.Core.Bool.{true, false, cond};
 ghost use Prim.Native.Nat.{_<_, _≤_};
 ghost use Rattle.layer.specs.World.{replyOf};
 ghost use Rattle.answers.specs.Core.{purgingId, purgingChunk, purgingSweep};
-ghost use Rattle.purge_due.specs.Going.{nextPlace};
+ghost use Rattle.sweeping.specs.Going.{nextPlace};
 ghost use Rattle.purge_answer.specs.Part.{Fit, Purgeable, Stays, placeOf, countOf, sweepFor, purgeLeft};
 use arena::Arena;
 use layer::Reply;
@@ -82,21 +82,22 @@ fn purge_at(
 }
 
 // Where the sweep goes on: past the last arena once a question is put.
-fn rest_from(i: usize, asked: bool, count: usize) -> usize
-    requires { ⌜ (asked ≡ false → i < 32) ⌝ }
-    ensures { λ r. ⌜ r ≡ nextPlace i asked count ⌝ }
+fn rest_from(i: usize, s: Stay, count: usize) -> usize
+    requires { ⌜ (s .asked ≡ false → i < 32) ⌝ }
+    ensures { λ r. ⌜ r ≡ nextPlace i (s .asked) count ⌝ }
 {
-    if asked {
+    if s.asked {
         return count;
     }
     i + 1
 }
 
 // The question of the arena, or what the arenas behind it say.
-fn pick(asked: bool, first: Reply, rest: Reply) -> Reply
-    ensures { λ r. ⌜ r ≡ cond asked first rest ⌝ }
+fn pick(s: Stay, rest: Reply) -> Reply
+    ensures { λ r. ⌜ r ≡ cond (s .asked) (s .reply) rest ⌝ }
 {
-    if asked {
+    let first = s.reply;
+    if s.asked {
         return first;
     }
     rest
@@ -121,8 +122,10 @@ pub fn purge_part(
     let v = sweep_for(go, state, granted);
     let a = table::load_or(records, i);
     let s = purge_at(stamps, go, state, a, granted, chunk_size);
-    table::store_if(records, i, s.arena);
-    let from = rest_from(i, s.asked, count);
-    let rest = purge_due::sweep_on(records, stamps, from, count, state.mark, v, chunk_size);
-    pick(s.asked, s.reply, rest)
+    let left = sweeping::arena_left(s);
+    table::store_if(records, i, left);
+    let from = rest_from(i, s, count);
+    let mark = sweeping::mark_of(state);
+    let rest = sweeping::sweep_on(records, stamps, from, count, mark, v, chunk_size);
+    pick(s, rest)
 }

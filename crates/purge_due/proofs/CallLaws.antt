@@ -2,19 +2,11 @@
 use mathlib.Core.Path.{_≡_, refl, sym, ap, _∙_}
 use mathlib.Core.Bool.{Bool, true, false, cond}
 use mathlib.Core.List.{List}
-use Prim.Native.Nat.{ℕ, zero, suc, _+_, _-_, _<_, _≤_}
+use Prim.Native.Nat.{ℕ, zero, suc, _+_, _-_}
 use native.Mathlib.Omega.{arith}
-use borrow.Author.Tests.{leb-true, eqb-true}
-use lib.Dec.{eqb, leb}
 use lib.ListN.{length, set}
-use Rattle.runs.specs.Lowest.{all}
-use Rattle.runs.proofs.LowestLaws.{all-free-of}
-use Rattle.runs.proofs.SearchLaws.{and-both}
-use Rattle.options.specs.Options.{pageSizeSound}
 use Rattle.refusals.specs.declared.Refusal.the-variants.{Broken}
 use Rattle.arena.specs.declared.Arena.{Arena}
-use Rattle.lookup.specs.Soundness.{soundArena}
-use Rattle.lookup.proofs.SoundLaws.{arena-facts}
 use Rattle.purge.specs.Stamps.{stampsOf}
 use Rattle.layer.specs.declared.Settings.{Settings}
 use Rattle.layer.specs.declared.Sweep.{Sweep}
@@ -22,43 +14,24 @@ use Rattle.layer.specs.declared.State.{State}
 use Rattle.layer.specs.declared.Question.{Question}
 use Rattle.layer.specs.declared.Question.the-variants.{Idle, Committing, Purging, Reserving, GivingBack}
 use Rattle.layer.specs.World.{Outcome, stateOf, worldOf, after, turnDown, replyOf}
-use Rattle.layer.specs.Table.{at, soundTable, soundLent}
+use Rattle.layer.specs.Table.{at, soundLent}
 use Rattle.layer.specs.Sweeping.{sweepFrom}
 use Rattle.layer.specs.Step.{sweep, sweepOf, stepOn, step}
 use Rattle.words.proofs.Tests.{by-cond}
 use Rattle.registers.specs.Core.{isIdle, gated}
 use Rattle.sweeps.specs.Core.{isAsked, arriveFound, arriveArena}
 use Rattle.sweeps.proofs.SweepLaws.{sweep-arrives}
-use Rattle.purge_due.specs.Going.{Ranged, sweepCount}
-use Rattle.purge_due.proofs.GoingLaws.{ended}
+use Rattle.sweeping.proofs.GoingLaws.{ended}
+use Rattle.sweeping.proofs.LentLaws.{Sweepable, none, sound-sweepable}
+use Rattle.purge_due.specs.Going.{sweepCount}
 
 -- ---- what row 1 says of the arenas that are looked at
 
--- the facts that the sweep over k arenas needs
-abbrev pub Sweepable : ℕ → List Arena → List ℕ → ℕ → Type 0
-Sweepable S l stamps k = (k ≤ 32) × (0 < k → length stamps ≡ 32768) × Ranged S l k
-
-none : (S : ℕ) (l : List Arena) (stamps : List ℕ) → Sweepable S l stamps 0
-none S l stamps = (omega arith, λ h. absurd (omega (arith, h)), λ i h. absurd (omega (arith, h)))
-
 module _ (S : ℕ) (l : List Arena) (stamps : List ℕ) (state : State) (page : ℕ) where
-  pub sound-sweepable : soundLent S l (length stamps) state page ≡ true → Sweepable S l stamps (state .count)
-  unfolding soundLent soundTable
-  sound-sweepable e =
-      let p = and-both (eqb (length l) 32) _ e in
-      let q = and-both (eqb (length stamps) 32768) _ (p .1) in
-      let r = and-both (pageSizeSound page) _ (q .1) in
-      let s = and-both (leb (state .count) 32) _ (r .1) in
-      let t = and-both (all (λ i. soundArena S (at l i)) 0 (state .count)) _ (s .1) in (
-        leb-true (state .count) 32 (s .0),
-        λ _. eqb-true (length stamps) 32768 (q .0),
-        λ i h. let f = arena-facts S (at l i) (all-free-of (λ j. soundArena S (at l j)) 0 (state .count) (t .0) i (omega arith) (omega (arith, h))) .range in (f .few, f .ends),
-      )
-
   pub sweepable : Sweepable S l stamps (sweepCount (soundLent S l (length stamps) state page) state)
   sweepable =
       by-cond (Sweepable S l stamps) (soundLent S l (length stamps) state page) _ _
-      (λ e. by-cond (Sweepable S l stamps) (isIdle (state .question)) _ _ (λ f. sound-sweepable e) (λ f. none S l stamps))
+      (λ e. by-cond (Sweepable S l stamps) (isIdle (state .question)) _ _ (λ f. sound-sweepable S l stamps state page e) (λ f. none S l stamps))
       (λ e. none S l stamps)
 
 -- ---- a sweep leaves the stamps

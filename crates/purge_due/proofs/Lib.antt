@@ -1,3 +1,2 @@
-pub mod GoingLaws
 pub mod CallLaws
 pub mod Steps

@@ -1,20 +1,9 @@
--- A sweep over the lent records: what it asks of them, and where it goes on. S is the size of a chunk. Assumes nothing.
+-- How many arenas a sweep of all looks at. Assumes nothing.
 use mathlib.Core.Bool.{Bool, cond}
-use mathlib.Core.List.{List}
-use Prim.Native.Nat.{ℕ, _+_, _*_, _^_, _<_, _≤_}
-use Rattle.arena.specs.declared.Arena.{Arena}
+use Prim.Native.Nat.{ℕ}
 use Rattle.layer.specs.declared.State.{State}
-use Rattle.layer.specs.Table.{at}
 use Rattle.registers.specs.Core.{isIdle}
 
--- each of the first k arenas has at most 1,024 chunks, and ends below 2^64
-abbrev pub Ranged : ℕ → List Arena → ℕ → Type 0
-Ranged S l k = (i : ℕ) → i < k → (at l i .chunks ≤ 1024) × (at l i .base + at l i .chunks * S < 2 ^ 64)
-
--- past the last arena once a question is put
-abbrev pub nextPlace : ℕ → Bool → ℕ → ℕ
-nextPlace i asked count = cond asked count (i + 1)
-
--- how many arenas a sweep looks at: none where the call is turned down
+-- none where the call is turned down
 abbrev pub sweepCount : Bool → State → ℕ
 sweepCount ok state = cond ok (cond (isIdle (state .question)) (state .count) 0) 0

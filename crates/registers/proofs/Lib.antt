@@ -1,2 +1,2 @@
 pub mod DecisionLaws
-pub mod RegisterLaws
+pub mod WriteLaws

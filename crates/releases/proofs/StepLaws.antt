@@ -32,10 +32,10 @@ use Rattle.layer.specs.World.{Outcome, stateOf, worldOf, after, turnDown, calm}
 use Rattle.layer.specs.Table.{at, findArena, soundTable, soundLent}
 use Rattle.layer.specs.Releasing.{releases, releaseReply, releaseAt, releaseOf}
 use Rattle.layer.specs.Step.{release, gate, step}
-use Rattle.registers.specs.Core.{isIdle, gated}
+use Rattle.registers.specs.Core.{isIdle, gated, storedAt}
 use Rattle.words.proofs.Tests.{when, unless}
 use Rattle.registers.proofs.DecisionLaws.{and-first, and-second}
-use Rattle.releases.specs.Core.{releaseCount, foundReply, releaseAnswer, releaseArena, stampsAfter, storedAt}
+use Rattle.releases.specs.Core.{releaseCount, foundReply, releaseAnswer, releaseArena, stampsAfter}
 
 -- ---- the store
 

@@ -42,8 +42,3 @@ abbrev pub stampsAfter : ℕ → List ℕ → ℕ → ℕ → Bool → ℕ → F
 stampsAfter S stamps address n pending now (At i) a =
     cond (releases S a (address - a .base) n && pending) (stampRun stamps (1024 * i + (address - a .base) / S) n now) stamps
 stampsAfter S stamps address n pending now Nothing a = stamps
-
--- the id that is stored to: 32, past the table, where none was found
-abbrev pub storedAt : Found → ℕ
-storedAt (At x) = x
-storedAt Nothing = 32

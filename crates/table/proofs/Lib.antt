@@ -1,3 +1,4 @@
+pub mod Big
 pub mod Walk
 pub mod Locals
 pub mod Calls

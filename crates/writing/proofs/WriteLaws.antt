@@ -9,7 +9,7 @@ use lib.ListN.{length, set}
 use Rattle.arena.specs.declared.Arena.{Arena}
 use Rattle.layer.specs.declared.Reply.{Reply}
 use Rattle.layer.specs.World.{after}
-use Rattle.registers.specs.Parts.{recordsWith, stampsWith}
+use Rattle.registers.specs.Core.{recordsWith, stampsWith}
 use Rattle.words.proofs.Tests.{when, unless}
 use Rattle.registers.proofs.DecisionLaws.{either}
 use Rattle.writing.specs.declared.Writing.{Writing}

@@ -28,7 +28,7 @@ use Rattle.arena.specs.declared.Arena.{Arena}
 use Rattle.arena.proofs.Arena as T
 use Rattle.layer.specs.declared.Reply.{Reply}
 use Rattle.layer.proofs.Reply as Y
-use Rattle.registers.specs.Parts.{stampsWith}
+use Rattle.registers.specs.Core.{stampsWith}
 use Rattle.table.proofs.Walk.{Loan, sliceOf, lent}
 use Rattle.table.proofs.Calls.{Site, plain-call, mut-call, mut2-call}
 use Rattle.writing.specs.declared.Writing.{Writing}

@@ -2,10 +2,11 @@
 ghost use mathlib.Core.Path.{_≡_};
 ghost use Prim.Native.Nat.{_<_};
 ghost use lib.ListN.{length, set};
-ghost use Rattle.registers.specs.Parts.{stampsWith};
-ghost use Rattle.writing.specs.Places.{recordPlace};
+ghost use Rattle.registers.specs.Core.{stampsWith};
+ghost use Rattle.writing.specs.Places.{recordPlace, writingOf};
 use arena::Arena;
 use layer::Reply;
+use registers::Registering;
 
 // Past the end of every slice.
 const NOWHERE: usize = 18446744073709551615;
@@ -16,6 +17,20 @@ pub struct Writing {
     pub arena: Arena,
     pub stamped: usize,
     pub reply: Reply,
+}
+
+// What is registered, with the id whose stamps are written.
+pub fn as_written(d: Registering, stamped: usize) -> Writing
+    ensures { λ r. ⌜ r ≡ writingOf d stamped ⌝ }
+{
+    let arena = d.arena;
+    let reply = d.reply;
+    Writing {
+        id: d.id,
+        arena,
+        stamped,
+        reply,
+    }
 }
 
 // Where the record is written.

@@ -49,9 +49,10 @@ use Rattle.layer.proofs.Settings.Laws as G′
 use Rattle.table.proofs.Walk.{Loan, Known, shared, sliceOf}
 use Rattle.table.proofs.Locals.{enters, used}
 use Rattle.table.proofs.Calls.{in-seq}
+use Rattle.entry.proofs.EntrySteps.{Page, page-step}
 use Rattle.table.proofs.Steps.{Row, LoadOr, row-pass, load-or-pass}
 use Rattle.arena_area.proofs.Two.{Done, finish, meets}
-use Rattle.arena_area.proofs.Big.{big-lit}
+use Rattle.table.proofs.Big.{big-lit}
 use Rattle.arena_area.proofs.AreaLaws.{passes, few, area-step}
 use Rattle.arena_area.proofs.AreaSteps.{PlaceOf, AreaReply, place-of-step, area-reply-step}
 use Rattle.layer.specs.World.{replyOf, worldOf}
@@ -59,6 +60,9 @@ use Rattle.layer.specs.Table.{at}
 use Rattle.layer.specs.Step.{area, step}
 use Rattle.arena_area.specs.Asked.{placeOf, areaReply}
 use native.Mathlib.Omega.{arith}
+use Rattle.entry.proofs.page_of.Symbol as page-def
+use Rattle.entry.proofs.page_of.Symbol.{name as #entry·page-of}
+use Rattle.entry.proofs.page_of.Met as page-thm
 use Rattle.table.proofs.row_one.Symbol as row-def
 use Rattle.table.proofs.row_one.Symbol.{name as #table·row-one}
 use Rattle.table.proofs.row_one.Met as row-thm
@@ -77,6 +81,7 @@ use Rattle.arena_area.proofs.arena_area.Statement as stated
 use Rattle.arena_area.proofs.arena_area.Code as code
 
 module _ {M : Type 1} (𝓤 : URA M) (H : Heap 𝓤) (A : Atoms 𝓤) (W : Given 𝓤 H A) (mem : Memory → SProp 𝓤) (run : Routine → Fun 𝓤) (𝓣 : Tables 𝓤 H)
+    (known-page : Triple 𝓤 (𝓣 .C #entry·page-of) (Page 𝓤 H A mem run))
     (known-row : Triple 𝓤 (𝓣 .C #table·row-one) (Row 𝓤 H A mem run))
     (known-place : Triple 𝓤 (𝓣 .C #arena-area·place-of) (PlaceOf 𝓤 H A mem run))
     (known-load : Triple 𝓤 (𝓣 .C #table·load-or) (LoadOr 𝓤 H A mem run))
@@ -87,12 +92,6 @@ module _ {M : Type 1} (𝓤 : URA M) (H : Heap 𝓤) (A : Atoms 𝓤) (W : Given
 
     abbrev L′ : Loan
     L′ = record { κ = κ′; q = q′; γ = γ′; b = b′; o = o′; n = length us }
-
-    abbrev mstate : Val
-    mstate = LL.val Z.the-type Z′.the-laws state
-
-    abbrev msettings : Val
-    msettings = LL.val G.the-type G′.the-laws settings
 
     abbrev ok : Bool
     ok = passes 33554432 ys us state ns settings
@@ -109,27 +108,27 @@ module _ {M : Type 1} (𝓤 : URA M) (H : Heap 𝓤) (A : Atoms 𝓤) (W : Given
     abbrev χ : Reply → Type 0
     χ r = r ≡ replyOf (step 33554432 (worldOf ys us state) ns settings (area id))
 
-    walk : Known T.the-row L ys → Known u32 L′ us → Is Z.the-row state (mstate ∷ []) → ns < 2 ^ 64 → Is G.the-row settings (msettings ∷ []) → Is i32 id (vint w32 (ofZ w32 id) ∷ [])
+    walk : (mstate msettings : Val) → Known T.the-row L ys → Known u32 L′ us → Is Z.the-row state (mstate ∷ []) → ns < 2 ^ 64 → Is G.the-row settings (msettings ∷ []) → Is i32 id (vint w32 (ofZ w32 id) ∷ [])
         → Sq W ((‵ (shared T.the-row L ys) ⊛ (‵ (shared u32 L′ us) ⊛ ‵ ftrue)) ∷ []) (prop (WpFn 𝓤 H (𝓣 .C) (𝓣 .Λ) code.function (sliceOf L ∷ sliceOf L′ ∷ mstate ∷ vint w64 ns ∷ msettings ∷ vint w32 (ofZ w32 id) ∷ []) (Done 𝓤 H A T.the-row u32 L L′ Y.the-row ys us χ)))
-    walk kn kn′ gstate fns gsettings gid =
-        let owed = LL.owed G.the-type G′.the-laws settings (msettings ∷ []) gsettings in
-        let fp : settings .page < 2 ^ 64 = owed .1 .1 .1 .1 .0 .1 in
+    walk mstate msettings kn kn′ gstate fns gsettings gid =
         let lo : 0 < 33554432 = lit< tt in
         let hi : 33554432 ≤ 4294967296 = omega arith in
         let fS : 33554432 < 2 ^ 64 = lit< tt in
         enters ! code.function (λ bs. params1 ! $
         pass1 ! (init ! 3 refl (tt, (tt, (record { fits = kn .1 .0 }, tt)))) $ pass1 ! (init ! 5 refl (tt, (tt, (record { fits = kn′ .1 .0 }, tt)))) $ pass1 ! (init ! 7 refl (LL.lawful Z.the-type Z′.the-laws 𝓤 H A W .typed state (mstate ∷ []) gstate .0)) $ pass1 ! (init ! 9 refl (tt, record { fits = fns })) $ pass1 ! (init ! 11 refl (LL.lawful G.the-type G′.the-laws 𝓤 H A W .typed settings (msettings ∷ []) gsettings .0)) $ pass1 ! (init ! 13 refl (sint-lawful 𝓤 H A W w32 .typed id (vint w32 (ofZ w32 id) ∷ []) gid .0)) $ pass0 ! $
-        assigns ! (of-opd ! (load ! (from ! (fld ! refl (stop !))) (look-in ! 5 (sub ! 1 refl (whole !))))) (from ! (stop !)) (init ! 21 refl (tt, record { fits = kn′ .1 .0 })) $
-        row-pass ! (in-seq ! (fmOf 𝓤 H (W .laws) 𝓣)) mem run known-row L ys (length us) (kn′ .1 .0) state mstate gstate (settings .page) fp 33554432 fS lo hi (λ _. and-then ! (load ! (from ! (stop !)) (look ! 3 refl)) (and-then ! (load ! (from ! (stop !)) (look ! 21 refl)) (and-then ! (load ! (from ! (stop !)) (look ! 7 refl)) (and-then ! (load ! (from ! (fld ! refl (stop !))) (look-in ! 11 (sub ! 4 refl (whole !)))) (and-then ! (big-lit ! (record { fits = lit< tt })) (no-more !)))))) (
-        land ! (from ! (stop !)) (init ! 15 refl (tt, tt)) $
+        page-step ! (in-seq ! (fmOf 𝓤 H (W .laws) 𝓣)) mem run known-page settings msettings gsettings (λ _. and-then ! (load ! (from ! (stop !)) (look ! 11 refl)) (no-more !)) (λ fp.
+        land ! (from ! (stop !)) (init ! 15 refl (tt, record { fits = fp })) $
+        assigns ! (of-opd ! (load ! (from ! (fld ! refl (stop !))) (look-in ! 5 (sub ! 1 refl (whole !))))) (from ! (stop !)) (init ! 23 refl (tt, record { fits = kn′ .1 .0 })) $
+        row-pass ! (in-seq ! (fmOf 𝓤 H (W .laws) 𝓣)) mem run known-row L ys (length us) (kn′ .1 .0) state mstate gstate (settings .page) fp 33554432 fS lo hi (λ _. and-then ! (load ! (from ! (stop !)) (look ! 3 refl)) (and-then ! (load ! (from ! (stop !)) (look ! 23 refl)) (and-then ! (load ! (from ! (stop !)) (look ! 7 refl)) (and-then ! (load ! (from ! (stop !)) (look ! 15 refl)) (and-then ! (big-lit ! (record { fits = lit< tt })) (no-more !)))))) (
+        land ! (from ! (stop !)) (init ! 17 refl (tt, tt)) $
         place-of-step ! (in-seq ! (fmOf 𝓤 H (W .laws) 𝓣)) mem run known-place id gid (λ _. and-then ! (load ! (from ! (stop !)) (look ! 13 refl)) (no-more !)) (λ fj.
-        land ! (from ! (stop !)) (init ! 17 refl (tt, record { fits = fj })) $
-        load-or-pass ! (in-seq ! (fmOf 𝓤 H (W .laws) 𝓣)) mem run known-load L ys j fj (λ _. and-then ! (load ! (from ! (stop !)) (look ! 3 refl)) (and-then ! (load ! (from ! (stop !)) (look ! 17 refl)) (no-more !))) (λ va ga.
-        land ! (from ! (stop !)) (init ! 19 refl (LL.lawful T.the-type T′.the-laws 𝓤 H A W .typed a (va ∷ []) ga .0)) $
-        area-reply-step ! (in-seq ! (fmOf 𝓤 H (W .laws) 𝓣)) mem run known-reply ok state mstate gstate j fj a va ga 33554432 fS (λ e l. few 33554432 ys us state ns settings e j l) hi (λ _. and-then ! (load ! (from ! (stop !)) (look ! 15 refl)) (and-then ! (load ! (from ! (stop !)) (look ! 7 refl)) (and-then ! (load ! (from ! (stop !)) (look ! 17 refl)) (and-then ! (load ! (from ! (stop !)) (look ! 19 refl)) (and-then ! (big-lit ! (record { fits = lit< tt })) (no-more !)))))) (λ vr gr.
+        land ! (from ! (stop !)) (init ! 19 refl (tt, record { fits = fj })) $
+        load-or-pass ! (in-seq ! (fmOf 𝓤 H (W .laws) 𝓣)) mem run known-load L ys j fj (λ _. and-then ! (load ! (from ! (stop !)) (look ! 3 refl)) (and-then ! (load ! (from ! (stop !)) (look ! 19 refl)) (no-more !))) (λ va ga.
+        land ! (from ! (stop !)) (init ! 21 refl (LL.lawful T.the-type T′.the-laws 𝓤 H A W .typed a (va ∷ []) ga .0)) $
+        area-reply-step ! (in-seq ! (fmOf 𝓤 H (W .laws) 𝓣)) mem run known-reply ok state mstate gstate j fj a va ga 33554432 fS (λ e l. few 33554432 ys us state ns settings e j l) hi (λ _. and-then ! (load ! (from ! (stop !)) (look ! 17 refl)) (and-then ! (load ! (from ! (stop !)) (look ! 7 refl)) (and-then ! (load ! (from ! (stop !)) (look ! 19 refl)) (and-then ! (load ! (from ! (stop !)) (look ! 21 refl)) (and-then ! (big-lit ! (record { fits = lit< tt })) (no-more !)))))) (λ vr gr.
         land ! (from ! (stop !)) (init ! 1 refl (LL.lawful Y.the-type Y′.the-laws 𝓤 H A W .typed re (vr ∷ []) gr .0)) $
-        returns ! (look ! 1 refl) $ used ! $ used ! $ used ! $ used ! $ used ! $ used ! $ used ! $ used ! $ used ! $ used ! $ used ! $ free0 ! $
-        finish 𝓤 H A T.the-row u32 L L′ Y.the-row ys us χ W (‵ ftrue) vr re gr (area-step 33554432 ys us state ns settings id))))))
+        returns ! (look ! 1 refl) $ used ! $ used ! $ used ! $ used ! $ used ! $ used ! $ used ! $ used ! $ used ! $ used ! $ used ! $ used ! $ free0 ! $
+        finish 𝓤 H A T.the-row u32 L L′ Y.the-row ys us χ W (‵ ftrue) vr re gr (area-step 33554432 ys us state ns settings id)))))))
 
   arena-area-meets : Meets 𝓤 H A arena-area′.signature (WpFn 𝓤 H (𝓣 .C) (𝓣 .Λ) code.function) (arena-area′.spec 𝓤 H A mem run)
   arena-area-meets = meets 𝓤 H A W T.the-row u32 Y.the-row (plain (λ _. Z.the-row) ∷ plain (λ _. u64) ∷ plain (λ _. G.the-row) ∷ plain (λ _. i32) ∷ []) (yes, (yes, (yes, (yes, tt)))) (arena-area′.clauses 𝓤 H A mem run)
@@ -137,7 +136,7 @@ module _ {M : Type 1} (𝓤 : URA M) (H : Heap 𝓤) (A : Atoms 𝓤) (W : Given
       (λ κs x g. Unit {0}) (λ κs x g. χ (κs .0) (κs .1 .0) fullShare fullShare (x .0 .name) (x .1 .0 .name) (x .0 .ptr .0) (x .0 .ptr .1) (x .1 .0 .ptr .0) (x .1 .0 .ptr .1) (x .0 .now) (x .1 .0 .now) (x .1 .1 .0) (x .1 .1 .1 .0) (x .1 .1 .1 .1 .0) (x .1 .1 .1 .1 .1 .0))
       (LL.makes Y.the-type Y′.the-plain 𝓤 H A) ((λ κs x f. refl), ((λ κs x f. refl), ((λ κs x f. refl), ((λ κs x f. refl), tt)))) (λ κs. (LL.tells Z.the-type Z′.the-laws, (uint-tells w64, (LL.tells G.the-type G′.the-laws, (sint-tells w32, tt)))))
       (λ κs x g. factI 𝓤 (Unit {0}) _ tt) (λ κs x g r e. factI 𝓤 _ (emp 𝓤) e) code.function 𝓣
-      (λ κs q q′ x g kn kn′ are l. walk (κs .0) (κs .1 .0) q q′ (x .0 .name) (x .1 .0 .name) (x .0 .ptr .0) (x .0 .ptr .1) (x .1 .0 .ptr .0) (x .1 .0 .ptr .1) (x .0 .now) (x .1 .0 .now) (x .1 .1 .0) (x .1 .1 .1 .0) (x .1 .1 .1 .1 .0) (x .1 .1 .1 .1 .1 .0) kn kn′ (are .0) (are .1 .0 .1) (are .1 .1 .0) (are .1 .1 .1 .0))
+      (λ κs q q′ x g kn kn′ are l. walk (κs .0) (κs .1 .0) q q′ (x .0 .name) (x .1 .0 .name) (x .0 .ptr .0) (x .0 .ptr .1) (x .1 .0 .ptr .0) (x .1 .0 .ptr .1) (x .0 .now) (x .1 .0 .now) (x .1 .1 .0) (x .1 .1 .1 .0) (x .1 .1 .1 .1 .0) (x .1 .1 .1 .1 .1 .0) (LL.val Z.the-type Z′.the-laws (x .1 .1 .0)) (LL.val G.the-type G′.the-laws (x .1 .1 .1 .1 .0)) kn kn′ (are .0) (are .1 .0 .1) (are .1 .1 .0) (are .1 .1 .1 .0))
 
 pub arena-area-spec : {M : Type 1} → stated.statement M
 unfolding code.routine tablesOf
@@ -145,6 +144,7 @@ arena-area-spec 𝓤 H 𝓜 𝓖 𝓡 =
     entered 𝓤 H (tripleOf 𝓤 H (𝓖 .A) arena-area′.signature (arena-area′.spec 𝓤 H (𝓖 .A) (𝓜 .mem) (𝓡 .run)))
     (tables 𝓤 H 𝓜 𝓡 code.env .C) (tables 𝓤 H 𝓜 𝓡 code.env .Λ) #arena-area·arena-area code.function (code.unfolded 𝓤 H 𝓜 𝓡)
     (arena-area-meets 𝓤 H (𝓖 .A) (givenOf 𝓤 H 𝓜 𝓖) (𝓜 .mem) (𝓡 .run) (tablesOf 𝓤 H 𝓜 (tables 𝓤 H 𝓜 𝓡 code.env))
+    (cited 𝓤 H (Page 𝓤 H (𝓖 .A) (𝓜 .mem) (𝓡 .run)) 𝓜 𝓡 code.env #entry·page-of page-def.routine code.calls-entry·page-of (page-thm.met 𝓤 H 𝓜 𝓖 𝓡))
     (cited 𝓤 H (Row 𝓤 H (𝓖 .A) (𝓜 .mem) (𝓡 .run)) 𝓜 𝓡 code.env #table·row-one row-def.routine code.calls-table·row-one (row-thm.met 𝓤 H 𝓜 𝓖 𝓡))
     (cited 𝓤 H (PlaceOf 𝓤 H (𝓖 .A) (𝓜 .mem) (𝓡 .run)) 𝓜 𝓡 code.env #arena-area·place-of place-def.routine code.calls-arena-area·place-of (place-thm.met 𝓤 H 𝓜 𝓖 𝓡))
     (cited 𝓤 H (LoadOr 𝓤 H (𝓖 .A) (𝓜 .mem) (𝓡 .run)) 𝓜 𝓡 code.env #table·load-or load-def.routine code.calls-table·load-or (load-thm.met 𝓤 H 𝓜 𝓖 𝓡))

@@ -52,26 +52,30 @@ use Rattle.judge.proofs.Query.Laws as Q′
 use Rattle.table.proofs.Walk.{Loan, Known, shared, sliceOf}
 use Rattle.table.proofs.Locals.{enters, used}
 use Rattle.table.proofs.Calls.{in-seq}
+use Rattle.entry.proofs.EntrySteps.{Page, HoldsQuery, page-step, holds-step}
 use Rattle.table.proofs.Steps.{Row, Scan, row-pass, scan-pass}
 use Rattle.arena_area.proofs.Two.{Done, finish, meets}
-use Rattle.arena_area.proofs.Big.{big-lit}
+use Rattle.table.proofs.Big.{big-lit}
 use Rattle.arena_area.proofs.AreaLaws.{passes, owns-step}
-use Rattle.arena_area.proofs.AreaSteps.{LookedAt, HoldsQuery, OwnsReply, looked-at-step, holds-query-step, owns-reply-step}
+use Rattle.arena_area.proofs.AreaSteps.{LookedAt, OwnsReply, looked-at-step, owns-reply-step}
 use Rattle.layer.specs.World.{replyOf, worldOf}
 use Rattle.layer.specs.Step.{owns, step}
 use Rattle.judge.specs.Scan.{scanOf}
 use Rattle.judge.specs.declared.Query.the-variants.{Holds}
 use Rattle.arena_area.specs.Asked.{lookedAt, ownsReply}
 use native.Mathlib.Omega.{arith}
+use Rattle.entry.proofs.page_of.Symbol as page-def
+use Rattle.entry.proofs.page_of.Symbol.{name as #entry·page-of}
+use Rattle.entry.proofs.page_of.Met as page-thm
 use Rattle.table.proofs.row_one.Symbol as row-def
 use Rattle.table.proofs.row_one.Symbol.{name as #table·row-one}
 use Rattle.table.proofs.row_one.Met as row-thm
 use Rattle.arena_area.proofs.looked_at.Symbol as looked-def
 use Rattle.arena_area.proofs.looked_at.Symbol.{name as #arena-area·looked-at}
 use Rattle.arena_area.proofs.looked_at.Met as looked-thm
-use Rattle.arena_area.proofs.holds_query.Symbol as holds-def
-use Rattle.arena_area.proofs.holds_query.Symbol.{name as #arena-area·holds-query}
-use Rattle.arena_area.proofs.holds_query.Met as holds-thm
+use Rattle.entry.proofs.holds_query.Symbol as holds-def
+use Rattle.entry.proofs.holds_query.Symbol.{name as #entry·holds-query}
+use Rattle.entry.proofs.holds_query.Met as holds-thm
 use Rattle.table.proofs.scan.Symbol as scan-def
 use Rattle.table.proofs.scan.Symbol.{name as #table·scan}
 use Rattle.table.proofs.scan.Met as scan-thm
@@ -84,9 +88,10 @@ use Rattle.arena_area.proofs.owns.Statement as stated
 use Rattle.arena_area.proofs.owns.Code as code
 
 module _ {M : Type 1} (𝓤 : URA M) (H : Heap 𝓤) (A : Atoms 𝓤) (W : Given 𝓤 H A) (mem : Memory → SProp 𝓤) (run : Routine → Fun 𝓤) (𝓣 : Tables 𝓤 H)
+    (known-page : Triple 𝓤 (𝓣 .C #entry·page-of) (Page 𝓤 H A mem run))
     (known-row : Triple 𝓤 (𝓣 .C #table·row-one) (Row 𝓤 H A mem run))
     (known-looked : Triple 𝓤 (𝓣 .C #arena-area·looked-at) (LookedAt 𝓤 H A mem run))
-    (known-holds : Triple 𝓤 (𝓣 .C #arena-area·holds-query) (HoldsQuery 𝓤 H A mem run))
+    (known-holds : Triple 𝓤 (𝓣 .C #entry·holds-query) (HoldsQuery 𝓤 H A mem run))
     (known-scan : Triple 𝓤 (𝓣 .C #table·scan) (Scan 𝓤 H A mem run))
     (known-reply : Triple 𝓤 (𝓣 .C #arena-area·owns-reply) (OwnsReply 𝓤 H A mem run)) where
   module _ (κ κ′ : Lft) (q q′ : Share) (γ γ′ : GName) (b o b′ o′ : ℕ) (ys : List Arena) (us : List ℕ) (state : State) (ns : ℕ) (settings : Settings) (address : ℕ) where
@@ -95,12 +100,6 @@ module _ {M : Type 1} (𝓤 : URA M) (H : Heap 𝓤) (A : Atoms 𝓤) (W : Given
 
     abbrev L′ : Loan
     L′ = record { κ = κ′; q = q′; γ = γ′; b = b′; o = o′; n = length us }
-
-    abbrev mstate : Val
-    mstate = LL.val Z.the-type Z′.the-laws state
-
-    abbrev msettings : Val
-    msettings = LL.val G.the-type G′.the-laws settings
 
     abbrev ok : Bool
     ok = passes 33554432 ys us state ns settings
@@ -117,29 +116,29 @@ module _ {M : Type 1} (𝓤 : URA M) (H : Heap 𝓤) (A : Atoms 𝓤) (W : Given
     abbrev χ : Reply → Type 0
     χ r = r ≡ replyOf (step 33554432 (worldOf ys us state) ns settings (owns address))
 
-    walk : Known T.the-row L ys → Known u32 L′ us → Is Z.the-row state (mstate ∷ []) → ns < 2 ^ 64 → Is G.the-row settings (msettings ∷ []) → address < 2 ^ 64
+    walk : (mstate msettings : Val) → Known T.the-row L ys → Known u32 L′ us → Is Z.the-row state (mstate ∷ []) → ns < 2 ^ 64 → Is G.the-row settings (msettings ∷ []) → address < 2 ^ 64
         → Sq W ((‵ (shared T.the-row L ys) ⊛ (‵ (shared u32 L′ us) ⊛ ‵ ftrue)) ∷ []) (prop (WpFn 𝓤 H (𝓣 .C) (𝓣 .Λ) code.function (sliceOf L ∷ sliceOf L′ ∷ mstate ∷ vint w64 ns ∷ msettings ∷ vint w64 address ∷ []) (Done 𝓤 H A T.the-row u32 L L′ Y.the-row ys us χ)))
-    walk kn kn′ gstate fns gsettings faddress =
-        let owed = LL.owed G.the-type G′.the-laws settings (msettings ∷ []) gsettings in
-        let fp : settings .page < 2 ^ 64 = owed .1 .1 .1 .1 .0 .1 in
+    walk mstate msettings kn kn′ gstate fns gsettings faddress =
         let lo : 0 < 33554432 = lit< tt in
         let hi : 33554432 ≤ 4294967296 = omega arith in
         let fS : 33554432 < 2 ^ 64 = lit< tt in
         enters ! code.function (λ bs. params1 ! $
         pass1 ! (init ! 3 refl (tt, (tt, (record { fits = kn .1 .0 }, tt)))) $ pass1 ! (init ! 5 refl (tt, (tt, (record { fits = kn′ .1 .0 }, tt)))) $ pass1 ! (init ! 7 refl (LL.lawful Z.the-type Z′.the-laws 𝓤 H A W .typed state (mstate ∷ []) gstate .0)) $ pass1 ! (init ! 9 refl (tt, record { fits = fns })) $ pass1 ! (init ! 11 refl (LL.lawful G.the-type G′.the-laws 𝓤 H A W .typed settings (msettings ∷ []) gsettings .0)) $ pass1 ! (init ! 13 refl (tt, record { fits = faddress })) $ pass0 ! $
-        assigns ! (of-opd ! (load ! (from ! (fld ! refl (stop !))) (look-in ! 5 (sub ! 1 refl (whole !))))) (from ! (stop !)) (init ! 23 refl (tt, record { fits = kn′ .1 .0 })) $
-        row-pass ! (in-seq ! (fmOf 𝓤 H (W .laws) 𝓣)) mem run known-row L ys (length us) (kn′ .1 .0) state mstate gstate (settings .page) fp 33554432 fS lo hi (λ _. and-then ! (load ! (from ! (stop !)) (look ! 3 refl)) (and-then ! (load ! (from ! (stop !)) (look ! 23 refl)) (and-then ! (load ! (from ! (stop !)) (look ! 7 refl)) (and-then ! (load ! (from ! (fld ! refl (stop !))) (look-in ! 11 (sub ! 4 refl (whole !)))) (and-then ! (big-lit ! (record { fits = lit< tt })) (no-more !)))))) (
-        land ! (from ! (stop !)) (init ! 15 refl (tt, tt)) $
-        looked-at-step ! (in-seq ! (fmOf 𝓤 H (W .laws) 𝓣)) mem run known-looked ok state mstate gstate (λ _. and-then ! (load ! (from ! (stop !)) (look ! 15 refl)) (and-then ! (load ! (from ! (stop !)) (look ! 7 refl)) (no-more !))) (λ fk.
-        land ! (from ! (stop !)) (init ! 17 refl (tt, record { fits = fk })) $
-        holds-query-step ! (in-seq ! (fmOf 𝓤 H (W .laws) 𝓣)) mem run known-holds address faddress (λ _. and-then ! (load ! (from ! (stop !)) (look ! 13 refl)) (no-more !)) (λ vq gq.
-        land ! (from ! (stop !)) (init ! 19 refl (EL.lawful Q.the-type Q′.the-laws 𝓤 H A W tt .typed (Holds address) (vq ∷ []) gq .0)) $
-        scan-pass ! (in-seq ! (fmOf 𝓤 H (W .laws) 𝓣)) mem run known-scan L ys k fk 33554432 fS (Holds address) vq gq lo hi (λ _. and-then ! (load ! (from ! (stop !)) (look ! 3 refl)) (and-then ! (load ! (from ! (stop !)) (look ! 17 refl)) (and-then ! (big-lit ! (record { fits = lit< tt })) (and-then ! (load ! (from ! (stop !)) (look ! 19 refl)) (no-more !))))) (λ vf gf.
-        land ! (from ! (stop !)) (init ! 21 refl (EL.lawful F.the-type F′.the-laws 𝓤 H A W tt .typed fo (vf ∷ []) gf .0)) $
-        owns-reply-step ! (in-seq ! (fmOf 𝓤 H (W .laws) 𝓣)) mem run known-reply ok state mstate gstate fo vf gf (λ _. and-then ! (load ! (from ! (stop !)) (look ! 15 refl)) (and-then ! (load ! (from ! (stop !)) (look ! 7 refl)) (and-then ! (load ! (from ! (stop !)) (look ! 21 refl)) (no-more !)))) (λ vr gr.
+        page-step ! (in-seq ! (fmOf 𝓤 H (W .laws) 𝓣)) mem run known-page settings msettings gsettings (λ _. and-then ! (load ! (from ! (stop !)) (look ! 11 refl)) (no-more !)) (λ fp.
+        land ! (from ! (stop !)) (init ! 15 refl (tt, record { fits = fp })) $
+        assigns ! (of-opd ! (load ! (from ! (fld ! refl (stop !))) (look-in ! 5 (sub ! 1 refl (whole !))))) (from ! (stop !)) (init ! 25 refl (tt, record { fits = kn′ .1 .0 })) $
+        row-pass ! (in-seq ! (fmOf 𝓤 H (W .laws) 𝓣)) mem run known-row L ys (length us) (kn′ .1 .0) state mstate gstate (settings .page) fp 33554432 fS lo hi (λ _. and-then ! (load ! (from ! (stop !)) (look ! 3 refl)) (and-then ! (load ! (from ! (stop !)) (look ! 25 refl)) (and-then ! (load ! (from ! (stop !)) (look ! 7 refl)) (and-then ! (load ! (from ! (stop !)) (look ! 15 refl)) (and-then ! (big-lit ! (record { fits = lit< tt })) (no-more !)))))) (
+        land ! (from ! (stop !)) (init ! 17 refl (tt, tt)) $
+        looked-at-step ! (in-seq ! (fmOf 𝓤 H (W .laws) 𝓣)) mem run known-looked ok state mstate gstate (λ _. and-then ! (load ! (from ! (stop !)) (look ! 17 refl)) (and-then ! (load ! (from ! (stop !)) (look ! 7 refl)) (no-more !))) (λ fk.
+        land ! (from ! (stop !)) (init ! 19 refl (tt, record { fits = fk })) $
+        holds-step ! (in-seq ! (fmOf 𝓤 H (W .laws) 𝓣)) mem run known-holds address faddress (λ _. and-then ! (load ! (from ! (stop !)) (look ! 13 refl)) (no-more !)) (λ vq gq.
+        land ! (from ! (stop !)) (init ! 21 refl (EL.lawful Q.the-type Q′.the-laws 𝓤 H A W tt .typed (Holds address) (vq ∷ []) gq .0)) $
+        scan-pass ! (in-seq ! (fmOf 𝓤 H (W .laws) 𝓣)) mem run known-scan L ys k fk 33554432 fS (Holds address) vq gq lo hi (λ _. and-then ! (load ! (from ! (stop !)) (look ! 3 refl)) (and-then ! (load ! (from ! (stop !)) (look ! 19 refl)) (and-then ! (big-lit ! (record { fits = lit< tt })) (and-then ! (load ! (from ! (stop !)) (look ! 21 refl)) (no-more !))))) (λ vf gf.
+        land ! (from ! (stop !)) (init ! 23 refl (EL.lawful F.the-type F′.the-laws 𝓤 H A W tt .typed fo (vf ∷ []) gf .0)) $
+        owns-reply-step ! (in-seq ! (fmOf 𝓤 H (W .laws) 𝓣)) mem run known-reply ok state mstate gstate fo vf gf (λ _. and-then ! (load ! (from ! (stop !)) (look ! 17 refl)) (and-then ! (load ! (from ! (stop !)) (look ! 7 refl)) (and-then ! (load ! (from ! (stop !)) (look ! 23 refl)) (no-more !)))) (λ vr gr.
         land ! (from ! (stop !)) (init ! 1 refl (LL.lawful Y.the-type Y′.the-laws 𝓤 H A W .typed re (vr ∷ []) gr .0)) $
-        returns ! (look ! 1 refl) $ used ! $ used ! $ used ! $ used ! $ used ! $ used ! $ used ! $ used ! $ used ! $ used ! $ used ! $ used ! $ free0 ! $
-        finish 𝓤 H A T.the-row u32 L L′ Y.the-row ys us χ W (‵ ftrue) vr re gr (owns-step 33554432 ys us state ns settings address)))))))
+        returns ! (look ! 1 refl) $ used ! $ used ! $ used ! $ used ! $ used ! $ used ! $ used ! $ used ! $ used ! $ used ! $ used ! $ used ! $ used ! $ free0 ! $
+        finish 𝓤 H A T.the-row u32 L L′ Y.the-row ys us χ W (‵ ftrue) vr re gr (owns-step 33554432 ys us state ns settings address))))))))
 
   owns-meets : Meets 𝓤 H A owns′.signature (WpFn 𝓤 H (𝓣 .C) (𝓣 .Λ) code.function) (owns′.spec 𝓤 H A mem run)
   owns-meets = meets 𝓤 H A W T.the-row u32 Y.the-row (plain (λ _. Z.the-row) ∷ plain (λ _. u64) ∷ plain (λ _. G.the-row) ∷ plain (λ _. u64) ∷ []) (yes, (yes, (yes, (yes, tt)))) (owns′.clauses 𝓤 H A mem run)
@@ -147,7 +146,7 @@ module _ {M : Type 1} (𝓤 : URA M) (H : Heap 𝓤) (A : Atoms 𝓤) (W : Given
       (λ κs x g. Unit {0}) (λ κs x g. χ (κs .0) (κs .1 .0) fullShare fullShare (x .0 .name) (x .1 .0 .name) (x .0 .ptr .0) (x .0 .ptr .1) (x .1 .0 .ptr .0) (x .1 .0 .ptr .1) (x .0 .now) (x .1 .0 .now) (x .1 .1 .0) (x .1 .1 .1 .0) (x .1 .1 .1 .1 .0) (x .1 .1 .1 .1 .1 .0))
       (LL.makes Y.the-type Y′.the-plain 𝓤 H A) ((λ κs x f. refl), ((λ κs x f. refl), ((λ κs x f. refl), ((λ κs x f. refl), tt)))) (λ κs. (LL.tells Z.the-type Z′.the-laws, (uint-tells w64, (LL.tells G.the-type G′.the-laws, (uint-tells w64, tt)))))
       (λ κs x g. factI 𝓤 (Unit {0}) _ tt) (λ κs x g r e. factI 𝓤 _ (emp 𝓤) e) code.function 𝓣
-      (λ κs q q′ x g kn kn′ are l. walk (κs .0) (κs .1 .0) q q′ (x .0 .name) (x .1 .0 .name) (x .0 .ptr .0) (x .0 .ptr .1) (x .1 .0 .ptr .0) (x .1 .0 .ptr .1) (x .0 .now) (x .1 .0 .now) (x .1 .1 .0) (x .1 .1 .1 .0) (x .1 .1 .1 .1 .0) (x .1 .1 .1 .1 .1 .0) kn kn′ (are .0) (are .1 .0 .1) (are .1 .1 .0) (are .1 .1 .1 .0 .1))
+      (λ κs q q′ x g kn kn′ are l. walk (κs .0) (κs .1 .0) q q′ (x .0 .name) (x .1 .0 .name) (x .0 .ptr .0) (x .0 .ptr .1) (x .1 .0 .ptr .0) (x .1 .0 .ptr .1) (x .0 .now) (x .1 .0 .now) (x .1 .1 .0) (x .1 .1 .1 .0) (x .1 .1 .1 .1 .0) (x .1 .1 .1 .1 .1 .0) (LL.val Z.the-type Z′.the-laws (x .1 .1 .0)) (LL.val G.the-type G′.the-laws (x .1 .1 .1 .1 .0)) kn kn′ (are .0) (are .1 .0 .1) (are .1 .1 .0) (are .1 .1 .1 .0 .1))
 
 pub owns-spec : {M : Type 1} → stated.statement M
 unfolding code.routine tablesOf
@@ -155,8 +154,9 @@ owns-spec 𝓤 H 𝓜 𝓖 𝓡 =
     entered 𝓤 H (tripleOf 𝓤 H (𝓖 .A) owns′.signature (owns′.spec 𝓤 H (𝓖 .A) (𝓜 .mem) (𝓡 .run)))
     (tables 𝓤 H 𝓜 𝓡 code.env .C) (tables 𝓤 H 𝓜 𝓡 code.env .Λ) #arena-area·owns code.function (code.unfolded 𝓤 H 𝓜 𝓡)
     (owns-meets 𝓤 H (𝓖 .A) (givenOf 𝓤 H 𝓜 𝓖) (𝓜 .mem) (𝓡 .run) (tablesOf 𝓤 H 𝓜 (tables 𝓤 H 𝓜 𝓡 code.env))
+    (cited 𝓤 H (Page 𝓤 H (𝓖 .A) (𝓜 .mem) (𝓡 .run)) 𝓜 𝓡 code.env #entry·page-of page-def.routine code.calls-entry·page-of (page-thm.met 𝓤 H 𝓜 𝓖 𝓡))
     (cited 𝓤 H (Row 𝓤 H (𝓖 .A) (𝓜 .mem) (𝓡 .run)) 𝓜 𝓡 code.env #table·row-one row-def.routine code.calls-table·row-one (row-thm.met 𝓤 H 𝓜 𝓖 𝓡))
     (cited 𝓤 H (LookedAt 𝓤 H (𝓖 .A) (𝓜 .mem) (𝓡 .run)) 𝓜 𝓡 code.env #arena-area·looked-at looked-def.routine code.calls-arena-area·looked-at (looked-thm.met 𝓤 H 𝓜 𝓖 𝓡))
-    (cited 𝓤 H (HoldsQuery 𝓤 H (𝓖 .A) (𝓜 .mem) (𝓡 .run)) 𝓜 𝓡 code.env #arena-area·holds-query holds-def.routine code.calls-arena-area·holds-query (holds-thm.met 𝓤 H 𝓜 𝓖 𝓡))
+    (cited 𝓤 H (HoldsQuery 𝓤 H (𝓖 .A) (𝓜 .mem) (𝓡 .run)) 𝓜 𝓡 code.env #entry·holds-query holds-def.routine code.calls-entry·holds-query (holds-thm.met 𝓤 H 𝓜 𝓖 𝓡))
     (cited 𝓤 H (Scan 𝓤 H (𝓖 .A) (𝓜 .mem) (𝓡 .run)) 𝓜 𝓡 code.env #table·scan scan-def.routine code.calls-table·scan (scan-thm.met 𝓤 H 𝓜 𝓖 𝓡))
     (cited 𝓤 H (OwnsReply 𝓤 H (𝓖 .A) (𝓜 .mem) (𝓡 .run)) 𝓜 𝓡 code.env #arena-area·owns-reply reply-def.routine code.calls-arena-area·owns-reply (reply-thm.met 𝓤 H 𝓜 𝓖 𝓡)))

@@ -60,7 +60,7 @@ use Rattle.claims.specs.declared.Served.{Served}
 use Rattle.claims.specs.Core.{claimCount, searchArena, claimReply}
 use Rattle.claims.proofs.Served as D
 use Rattle.claims.proofs.Served.Laws as D′
-use Rattle.claims.proofs.ClaimLaws.{storedAt}
+use Rattle.registers.specs.Core.{storedAt}
 use Rattle.table.proofs.Walk.{Loan, Known, lent, sliceOf}
 use Rattle.table.proofs.Locals.{enters, used}
 use Rattle.table.proofs.Frame.{Done2, finish2, mut2-meets}
@@ -68,10 +68,12 @@ use Rattle.table.proofs.Calls.{in-seq}
 use Rattle.table.proofs.Steps.{Row, Scan, LoadOr, StoreIf, row-step, scan-step, load-or-step, store-if-step}
 use Rattle.layer.specs.World.{Leaves}
 use Rattle.chunk_alloc.proofs.EntryLaws.{claimed, claimed-sound}
-use Rattle.chunk_alloc.proofs.Steps.{Page, Count, Asks, Stored, Core, ArenaOf, ReplyOf, served, big-lit, page-step, count-step, query-step, stored-step, core-step, arena-step, reply-step}
-use Rattle.chunk_alloc.proofs.page_of.Symbol as page-def
-use Rattle.chunk_alloc.proofs.page_of.Symbol.{name as #chunk-alloc·page-of}
-use Rattle.chunk_alloc.proofs.page_of.Met as page-thm
+use Rattle.entry.proofs.EntrySteps.{Page, Stored, page-step, stored-step}
+use Rattle.table.proofs.Big.{big-lit}
+use Rattle.chunk_alloc.proofs.Steps.{Count, Asks, Core, ArenaOf, ReplyOf, served, count-step, query-step, core-step, arena-step, reply-step}
+use Rattle.entry.proofs.page_of.Symbol as page-def
+use Rattle.entry.proofs.page_of.Symbol.{name as #entry·page-of}
+use Rattle.entry.proofs.page_of.Met as page-thm
 use Rattle.table.proofs.row_one.Symbol as row-def
 use Rattle.table.proofs.row_one.Symbol.{name as #table·row-one}
 use Rattle.table.proofs.row_one.Met as row-thm
@@ -84,9 +86,9 @@ use Rattle.chunk_alloc.proofs.serves_query.Met as query-thm
 use Rattle.table.proofs.scan.Symbol as scan-def
 use Rattle.table.proofs.scan.Symbol.{name as #table·scan}
 use Rattle.table.proofs.scan.Met as scan-thm
-use Rattle.chunk_alloc.proofs.stored_at.Symbol as stored-def
-use Rattle.chunk_alloc.proofs.stored_at.Symbol.{name as #chunk-alloc·stored-at}
-use Rattle.chunk_alloc.proofs.stored_at.Met as stored-thm
+use Rattle.entry.proofs.stored_at.Symbol as stored-def
+use Rattle.entry.proofs.stored_at.Symbol.{name as #entry·stored-at}
+use Rattle.entry.proofs.stored_at.Met as stored-thm
 use Rattle.table.proofs.load_or.Symbol as load-def
 use Rattle.table.proofs.load_or.Symbol.{name as #table·load-or}
 use Rattle.table.proofs.load_or.Met as load-thm
@@ -108,7 +110,7 @@ use Rattle.chunk_alloc.proofs.claim_at.Statement as stated
 use Rattle.chunk_alloc.proofs.claim_at.Code as code
 
 module _ {M : Type 1} (𝓤 : URA M) (H : Heap 𝓤) (A : Atoms 𝓤) (W : Given 𝓤 H A) (mem : Memory → SProp 𝓤) (run : Routine → Fun 𝓤) (𝓣 : Tables 𝓤 H)
-    (known-page : Triple 𝓤 (𝓣 .C #chunk-alloc·page-of) (Page 𝓤 H A mem run)) (known-row : Triple 𝓤 (𝓣 .C #table·row-one) (Row 𝓤 H A mem run)) (known-count : Triple 𝓤 (𝓣 .C #claims·claim-count) (Count 𝓤 H A mem run)) (known-query : Triple 𝓤 (𝓣 .C #chunk-alloc·serves-query) (Asks 𝓤 H A mem run)) (known-scan : Triple 𝓤 (𝓣 .C #table·scan) (Scan 𝓤 H A mem run)) (known-stored : Triple 𝓤 (𝓣 .C #chunk-alloc·stored-at) (Stored 𝓤 H A mem run))
+    (known-page : Triple 𝓤 (𝓣 .C #entry·page-of) (Page 𝓤 H A mem run)) (known-row : Triple 𝓤 (𝓣 .C #table·row-one) (Row 𝓤 H A mem run)) (known-count : Triple 𝓤 (𝓣 .C #claims·claim-count) (Count 𝓤 H A mem run)) (known-query : Triple 𝓤 (𝓣 .C #chunk-alloc·serves-query) (Asks 𝓤 H A mem run)) (known-scan : Triple 𝓤 (𝓣 .C #table·scan) (Scan 𝓤 H A mem run)) (known-stored : Triple 𝓤 (𝓣 .C #entry·stored-at) (Stored 𝓤 H A mem run))
     (known-load : Triple 𝓤 (𝓣 .C #table·load-or) (LoadOr 𝓤 H A mem run)) (known-core : Triple 𝓤 (𝓣 .C #claims·claim-core) (Core 𝓤 H A mem run)) (known-arena : Triple 𝓤 (𝓣 .C #chunk-alloc·arena-of) (ArenaOf 𝓤 H A mem run)) (known-store : Triple 𝓤 (𝓣 .C #table·store-if) (StoreIf 𝓤 H A mem run)) (known-reply : Triple 𝓤 (𝓣 .C #chunk-alloc·reply-of) (ReplyOf 𝓤 H A mem run)) where
   module _ (κ κ′ : Lft) (q q′ : Share) (γ γ′ : GName) (b o b′ o′ : ℕ) (ys : List Arena) (us : List ℕ) (s : State) (c : Settings) (id : ℤ) (n : ℕ) (w : Bool) where
     abbrev L : Loan
@@ -203,12 +205,12 @@ claim-at-spec 𝓤 H 𝓜 𝓖 𝓡 =
     entered 𝓤 H (tripleOf 𝓤 H (𝓖 .A) claim′.signature (claim′.spec 𝓤 H (𝓖 .A) (𝓜 .mem) (𝓡 .run)))
     (tables 𝓤 H 𝓜 𝓡 code.env .C) (tables 𝓤 H 𝓜 𝓡 code.env .Λ) #chunk-alloc·claim-at code.function (code.unfolded 𝓤 H 𝓜 𝓡)
     (claim-meets 𝓤 H (𝓖 .A) (givenOf 𝓤 H 𝓜 𝓖) (𝓜 .mem) (𝓡 .run) (tablesOf 𝓤 H 𝓜 (tables 𝓤 H 𝓜 𝓡 code.env))
-    (cited 𝓤 H (Page 𝓤 H (𝓖 .A) (𝓜 .mem) (𝓡 .run)) 𝓜 𝓡 code.env #chunk-alloc·page-of page-def.routine code.calls-chunk-alloc·page-of (page-thm.met 𝓤 H 𝓜 𝓖 𝓡))
+    (cited 𝓤 H (Page 𝓤 H (𝓖 .A) (𝓜 .mem) (𝓡 .run)) 𝓜 𝓡 code.env #entry·page-of page-def.routine code.calls-entry·page-of (page-thm.met 𝓤 H 𝓜 𝓖 𝓡))
     (cited 𝓤 H (Row 𝓤 H (𝓖 .A) (𝓜 .mem) (𝓡 .run)) 𝓜 𝓡 code.env #table·row-one row-def.routine code.calls-table·row-one (row-thm.met 𝓤 H 𝓜 𝓖 𝓡))
     (cited 𝓤 H (Count 𝓤 H (𝓖 .A) (𝓜 .mem) (𝓡 .run)) 𝓜 𝓡 code.env #claims·claim-count count-def.routine code.calls-claims·claim-count (count-thm.met 𝓤 H 𝓜 𝓖 𝓡))
     (cited 𝓤 H (Asks 𝓤 H (𝓖 .A) (𝓜 .mem) (𝓡 .run)) 𝓜 𝓡 code.env #chunk-alloc·serves-query query-def.routine code.calls-chunk-alloc·serves-query (query-thm.met 𝓤 H 𝓜 𝓖 𝓡))
     (cited 𝓤 H (Scan 𝓤 H (𝓖 .A) (𝓜 .mem) (𝓡 .run)) 𝓜 𝓡 code.env #table·scan scan-def.routine code.calls-table·scan (scan-thm.met 𝓤 H 𝓜 𝓖 𝓡))
-    (cited 𝓤 H (Stored 𝓤 H (𝓖 .A) (𝓜 .mem) (𝓡 .run)) 𝓜 𝓡 code.env #chunk-alloc·stored-at stored-def.routine code.calls-chunk-alloc·stored-at (stored-thm.met 𝓤 H 𝓜 𝓖 𝓡))
+    (cited 𝓤 H (Stored 𝓤 H (𝓖 .A) (𝓜 .mem) (𝓡 .run)) 𝓜 𝓡 code.env #entry·stored-at stored-def.routine code.calls-entry·stored-at (stored-thm.met 𝓤 H 𝓜 𝓖 𝓡))
     (cited 𝓤 H (LoadOr 𝓤 H (𝓖 .A) (𝓜 .mem) (𝓡 .run)) 𝓜 𝓡 code.env #table·load-or load-def.routine code.calls-table·load-or (load-thm.met 𝓤 H 𝓜 𝓖 𝓡))
     (cited 𝓤 H (Core 𝓤 H (𝓖 .A) (𝓜 .mem) (𝓡 .run)) 𝓜 𝓡 code.env #claims·claim-core core-def.routine code.calls-claims·claim-core (core-thm.met 𝓤 H 𝓜 𝓖 𝓡))
     (cited 𝓤 H (ArenaOf 𝓤 H (𝓖 .A) (𝓜 .mem) (𝓡 .run)) 𝓜 𝓡 code.env #chunk-alloc·arena-of arena-def.routine code.calls-chunk-alloc·arena-of (arena-thm.met 𝓤 H 𝓜 𝓖 𝓡))

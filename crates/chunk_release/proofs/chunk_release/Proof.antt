@@ -60,25 +60,25 @@ use Rattle.table.proofs.Locals.{enters, used}
 use Rattle.table.proofs.Frame.{Done2, finish2, mut2-meets}
 use Rattle.table.proofs.Calls.{in-seq, swaps}
 use Rattle.table.proofs.Steps.{Row, Scan, LoadOr, StoreIf, row-step, scan-step, load-or-step, store-if-step}
-use Rattle.releases.specs.Core.{storedAt}
-use Rattle.chunk_release.proofs.sound_page.Symbol as page-def
-use Rattle.chunk_release.proofs.sound_page.Symbol.{name as #chunk-release·sound-page}
-use Rattle.chunk_release.proofs.sound_page.Met as page-thm
+use Rattle.registers.specs.Core.{storedAt}
+use Rattle.entry.proofs.page_of.Symbol as page-def
+use Rattle.entry.proofs.page_of.Symbol.{name as #entry·page-of}
+use Rattle.entry.proofs.page_of.Met as page-thm
 use Rattle.table.proofs.row_one.Symbol as row-def
 use Rattle.table.proofs.row_one.Symbol.{name as #table·row-one}
 use Rattle.table.proofs.row_one.Met as row-thm
 use Rattle.releases.proofs.release_count.Symbol as count-def
 use Rattle.releases.proofs.release_count.Symbol.{name as #releases·release-count}
 use Rattle.releases.proofs.release_count.Met as count-thm
-use Rattle.chunk_release.proofs.holds_query.Symbol as holds-def
-use Rattle.chunk_release.proofs.holds_query.Symbol.{name as #chunk-release·holds-query}
-use Rattle.chunk_release.proofs.holds_query.Met as holds-thm
+use Rattle.entry.proofs.holds_query.Symbol as holds-def
+use Rattle.entry.proofs.holds_query.Symbol.{name as #entry·holds-query}
+use Rattle.entry.proofs.holds_query.Met as holds-thm
 use Rattle.table.proofs.scan.Symbol as scan-def
 use Rattle.table.proofs.scan.Symbol.{name as #table·scan}
 use Rattle.table.proofs.scan.Met as scan-thm
-use Rattle.chunk_release.proofs.stored_at.Symbol as stored-def
-use Rattle.chunk_release.proofs.stored_at.Symbol.{name as #chunk-release·stored-at}
-use Rattle.chunk_release.proofs.stored_at.Met as stored-thm
+use Rattle.entry.proofs.stored_at.Symbol as stored-def
+use Rattle.entry.proofs.stored_at.Symbol.{name as #entry·stored-at}
+use Rattle.entry.proofs.stored_at.Met as stored-thm
 use Rattle.table.proofs.load_or.Symbol as load-def
 use Rattle.table.proofs.load_or.Symbol.{name as #table·load-or}
 use Rattle.table.proofs.load_or.Met as load-thm
@@ -101,19 +101,21 @@ use Rattle.releases.proofs.release_answer.Symbol as answer-def
 use Rattle.releases.proofs.release_answer.Symbol.{name as #releases·release-answer}
 use Rattle.releases.proofs.release_answer.Met as answer-thm
 use Rattle.chunk_release.proofs.CallLaws.{okOf, countOf, foundOf, arenaOf, replyOf, newOf, stampsOf, stepOf, found-in, found-few, ends}
-use Rattle.chunk_release.proofs.Steps.{big-lit, Page, HoldsQ, StoredAt, Ms, Delay, Count, ArenaOf, StampsOf, AnswerOf, page-step, holds-step, stored-step, ms-step, delay-step, count-step, arena-step, stamps-step, answer-step}
+use Rattle.entry.proofs.EntrySteps.{Page, HoldsQuery, Stored, page-step, holds-step, stored-step}
+use Rattle.table.proofs.Big.{big-lit}
+use Rattle.chunk_release.proofs.Steps.{Ms, Delay, Count, ArenaOf, StampsOf, AnswerOf, ms-step, delay-step, count-step, arena-step, stamps-step, answer-step}
 use Rattle.chunk_release.proofs.chunk_release.Key.{name as #chunk-release·chunk-release}
 use Rattle.chunk_release.proofs.chunk_release as chunk-release′
 use Rattle.chunk_release.proofs.chunk_release.Statement as stated
 use Rattle.chunk_release.proofs.chunk_release.Code as code
 
 module _ {M : Type 1} (𝓤 : URA M) (H : Heap 𝓤) (A : Atoms 𝓤) (W : Given 𝓤 H A) (mem : Memory → SProp 𝓤) (run : Routine → Fun 𝓤) (𝓣 : Tables 𝓤 H)
-    (known-page : Triple 𝓤 (𝓣 .C #chunk-release·sound-page) (Page 𝓤 H A mem run))
+    (known-page : Triple 𝓤 (𝓣 .C #entry·page-of) (Page 𝓤 H A mem run))
     (known-row : Triple 𝓤 (𝓣 .C #table·row-one) (Row 𝓤 H A mem run))
     (known-count : Triple 𝓤 (𝓣 .C #releases·release-count) (Count 𝓤 H A mem run))
-    (known-holds : Triple 𝓤 (𝓣 .C #chunk-release·holds-query) (HoldsQ 𝓤 H A mem run))
+    (known-holds : Triple 𝓤 (𝓣 .C #entry·holds-query) (HoldsQuery 𝓤 H A mem run))
     (known-scan : Triple 𝓤 (𝓣 .C #table·scan) (Scan 𝓤 H A mem run))
-    (known-stored : Triple 𝓤 (𝓣 .C #chunk-release·stored-at) (StoredAt 𝓤 H A mem run))
+    (known-stored : Triple 𝓤 (𝓣 .C #entry·stored-at) (Stored 𝓤 H A mem run))
     (known-load : Triple 𝓤 (𝓣 .C #table·load-or) (LoadOr 𝓤 H A mem run))
     (known-ms : Triple 𝓤 (𝓣 .C #chunk-release·release-ms) (Ms 𝓤 H A mem run))
     (known-delay : Triple 𝓤 (𝓣 .C #chunk-release·release-delay) (Delay 𝓤 H A mem run))
@@ -233,12 +235,12 @@ chunk-release-spec 𝓤 H 𝓜 𝓖 𝓡 =
     entered 𝓤 H (tripleOf 𝓤 H (𝓖 .A) chunk-release′.signature (chunk-release′.spec 𝓤 H (𝓖 .A) (𝓜 .mem) (𝓡 .run)))
     (tables 𝓤 H 𝓜 𝓡 code.env .C) (tables 𝓤 H 𝓜 𝓡 code.env .Λ) #chunk-release·chunk-release code.function (code.unfolded 𝓤 H 𝓜 𝓡)
     (chunk-release-meets 𝓤 H (𝓖 .A) (givenOf 𝓤 H 𝓜 𝓖) (𝓜 .mem) (𝓡 .run) (tablesOf 𝓤 H 𝓜 (tables 𝓤 H 𝓜 𝓡 code.env))
-    (cited 𝓤 H (Page 𝓤 H (𝓖 .A) (𝓜 .mem) (𝓡 .run)) 𝓜 𝓡 code.env #chunk-release·sound-page page-def.routine code.calls-chunk-release·sound-page (page-thm.met 𝓤 H 𝓜 𝓖 𝓡))
+    (cited 𝓤 H (Page 𝓤 H (𝓖 .A) (𝓜 .mem) (𝓡 .run)) 𝓜 𝓡 code.env #entry·page-of page-def.routine code.calls-entry·page-of (page-thm.met 𝓤 H 𝓜 𝓖 𝓡))
     (cited 𝓤 H (Row 𝓤 H (𝓖 .A) (𝓜 .mem) (𝓡 .run)) 𝓜 𝓡 code.env #table·row-one row-def.routine code.calls-table·row-one (row-thm.met 𝓤 H 𝓜 𝓖 𝓡))
     (cited 𝓤 H (Count 𝓤 H (𝓖 .A) (𝓜 .mem) (𝓡 .run)) 𝓜 𝓡 code.env #releases·release-count count-def.routine code.calls-releases·release-count (count-thm.met 𝓤 H 𝓜 𝓖 𝓡))
-    (cited 𝓤 H (HoldsQ 𝓤 H (𝓖 .A) (𝓜 .mem) (𝓡 .run)) 𝓜 𝓡 code.env #chunk-release·holds-query holds-def.routine code.calls-chunk-release·holds-query (holds-thm.met 𝓤 H 𝓜 𝓖 𝓡))
+    (cited 𝓤 H (HoldsQuery 𝓤 H (𝓖 .A) (𝓜 .mem) (𝓡 .run)) 𝓜 𝓡 code.env #entry·holds-query holds-def.routine code.calls-entry·holds-query (holds-thm.met 𝓤 H 𝓜 𝓖 𝓡))
     (cited 𝓤 H (Scan 𝓤 H (𝓖 .A) (𝓜 .mem) (𝓡 .run)) 𝓜 𝓡 code.env #table·scan scan-def.routine code.calls-table·scan (scan-thm.met 𝓤 H 𝓜 𝓖 𝓡))
-    (cited 𝓤 H (StoredAt 𝓤 H (𝓖 .A) (𝓜 .mem) (𝓡 .run)) 𝓜 𝓡 code.env #chunk-release·stored-at stored-def.routine code.calls-chunk-release·stored-at (stored-thm.met 𝓤 H 𝓜 𝓖 𝓡))
+    (cited 𝓤 H (Stored 𝓤 H (𝓖 .A) (𝓜 .mem) (𝓡 .run)) 𝓜 𝓡 code.env #entry·stored-at stored-def.routine code.calls-entry·stored-at (stored-thm.met 𝓤 H 𝓜 𝓖 𝓡))
     (cited 𝓤 H (LoadOr 𝓤 H (𝓖 .A) (𝓜 .mem) (𝓡 .run)) 𝓜 𝓡 code.env #table·load-or load-def.routine code.calls-table·load-or (load-thm.met 𝓤 H 𝓜 𝓖 𝓡))
     (cited 𝓤 H (Ms 𝓤 H (𝓖 .A) (𝓜 .mem) (𝓡 .run)) 𝓜 𝓡 code.env #chunk-release·release-ms ms-def.routine code.calls-chunk-release·release-ms (ms-thm.met 𝓤 H 𝓜 𝓖 𝓡))
     (cited 𝓤 H (Delay 𝓤 H (𝓖 .A) (𝓜 .mem) (𝓡 .run)) 𝓜 𝓡 code.env #chunk-release·release-delay delay-def.routine code.calls-chunk-release·release-delay (delay-thm.met 𝓤 H 𝓜 𝓖 𝓡))

@@ -35,8 +35,8 @@ returns c =
     let a = m .before .args in
     c .refuse .ensures ∙ miss-plain (a .chunk-size) (a .k) (a .mark) (a .id) (a .n) (a .commits) (a .settings) (sym (told m) ∙ not-true (m .may-reserve .result) (c .before .if1 .taken))
 
-reserve-too-large-requires : tie.Need-reserve-too-large-requires
-reserve-too-large-requires c κs = search needs
+too-large-requires : tie.Need-too-large-requires
+too-large-requires c κs = search needs
 
 refuse-requires-2 : tie.Need-refuse-requires-2
 refuse-requires-2 c κs = search needs
@@ -46,20 +46,20 @@ returns-2 c =
     let l = c .before .before in
     let a = l .before .before .before .args in
     c .refuse2 .ensures
-    ∙ miss-gives-up (a .chunk-size) (a .k) (a .mark) (a .id) (a .n) (a .commits) (a .settings) (may (l .before)) (sym (l .reserve-too-large .ensures) ∙ c .before .if2 .taken)
+    ∙ miss-gives-up (a .chunk-size) (a .k) (a .mark) (a .id) (a .n) (a .commits) (a .settings) (may (l .before)) (sym (l .too-large .ensures) ∙ c .before .if2 .taken)
 
 ask-memory-requires : tie.Need-ask-memory-requires
 ask-memory-requires c κs =
     let l = c .before in
     let s = l .before .before .before in
-    (s .pre .0, s .pre .1, sym (l .reserve-too-large .ensures) ∙ c .if2 .left)
+    (s .pre .0, s .pre .1, sym (l .too-large .ensures) ∙ c .if2 .left)
 
 returns-3 : tie.Need-returns-3
 returns-3 c =
     let l = c .before .before in
     let a = l .before .before .before .args in
     c .ask-memory .ensures
-    ∙ miss-asks (a .chunk-size) (a .k) (a .mark) (a .id) (a .n) (a .commits) (a .settings) (may (l .before)) (sym (l .reserve-too-large .ensures) ∙ c .before .if2 .left)
+    ∙ miss-asks (a .chunk-size) (a .k) (a .mark) (a .id) (a .n) (a .commits) (a .settings) (may (l .before)) (sym (l .too-large .ensures) ∙ c .before .if2 .left)
 
 pub miss-spec : {M : Type 1} → statement M
 miss-spec =
@@ -68,7 +68,7 @@ miss-spec =
     may-reserve-requires
     refuse-requires
     returns
-    reserve-too-large-requires
+    too-large-requires
     refuse-requires-2
     returns-2
     ask-memory-requires

@@ -58,11 +58,17 @@ use Rattle.table.proofs.load_or.Met as load-thm
 use Rattle.table.proofs.store_if.Symbol as store-def
 use Rattle.table.proofs.store_if.Symbol.{name as #table·store-if}
 use Rattle.table.proofs.store_if.Met as store-thm
-use Rattle.purge_due.specs.Going.{nextPlace}
-use Rattle.purge_due.proofs.Steps.{On, sweep-on-step}
-use Rattle.purge_due.proofs.sweep_on.Symbol as on-def
-use Rattle.purge_due.proofs.sweep_on.Symbol.{name as #purge-due·sweep-on}
-use Rattle.purge_due.proofs.sweep_on.Met as on-thm
+use Rattle.sweeping.specs.Going.{nextPlace}
+use Rattle.sweeping.proofs.Steps.{ArenaLeft, Marks, On, arena-left-step, mark-step, sweep-on-step}
+use Rattle.sweeping.proofs.arena_left.Symbol as left-def
+use Rattle.sweeping.proofs.arena_left.Symbol.{name as #sweeping·arena-left}
+use Rattle.sweeping.proofs.arena_left.Met as left-thm
+use Rattle.sweeping.proofs.mark_of.Symbol as mark-def
+use Rattle.sweeping.proofs.mark_of.Symbol.{name as #sweeping·mark-of}
+use Rattle.sweeping.proofs.mark_of.Met as mark-thm
+use Rattle.sweeping.proofs.sweep_on.Symbol as on-def
+use Rattle.sweeping.proofs.sweep_on.Symbol.{name as #sweeping·sweep-on}
+use Rattle.sweeping.proofs.sweep_on.Met as on-thm
 use Rattle.purge_answer.specs.Part.{Purgeable, placeOf, countOf, sweepFor, purgeLeft}
 use Rattle.purge_answer.proofs.PartLaws.{rest, at-fits, purged-fits, near, few, long, stays-ranged, comes}
 use Rattle.purge_answer.proofs.Steps.{Places, Counts, Begins, Ats, Rests, Picks, place-step, count-step, for-step, at-step, rest-step, pick-step}
@@ -90,7 +96,8 @@ use Rattle.purge_answer.proofs.purge_part.Statement as stated
 use Rattle.purge_answer.proofs.purge_part.Code as code
 
 module _ {M : Type 1} (𝓤 : URA M) (H : Heap 𝓤) (A : Atoms 𝓤) (W : Given 𝓤 H A) (mem : Memory → SProp 𝓤) (run : Routine → Fun 𝓤) (𝓣 : Tables 𝓤 H)
-    (known-load : Triple 𝓤 (𝓣 .C #table·load-or) (LoadOr 𝓤 H A mem run)) (known-store : Triple 𝓤 (𝓣 .C #table·store-if) (StoreIf 𝓤 H A mem run)) (known-on : Triple 𝓤 (𝓣 .C #purge-due·sweep-on) (On 𝓤 H A mem run))
+    (known-left : Triple 𝓤 (𝓣 .C #sweeping·arena-left) (ArenaLeft 𝓤 H A mem run)) (known-mark : Triple 𝓤 (𝓣 .C #sweeping·mark-of) (Marks 𝓤 H A mem run))
+    (known-load : Triple 𝓤 (𝓣 .C #table·load-or) (LoadOr 𝓤 H A mem run)) (known-store : Triple 𝓤 (𝓣 .C #table·store-if) (StoreIf 𝓤 H A mem run)) (known-on : Triple 𝓤 (𝓣 .C #sweeping·sweep-on) (On 𝓤 H A mem run))
     (known-place : Triple 𝓤 (𝓣 .C #purge-answer·place-of) (Places 𝓤 H A mem run)) (known-count : Triple 𝓤 (𝓣 .C #purge-answer·count-of) (Counts 𝓤 H A mem run)) (known-for : Triple 𝓤 (𝓣 .C #purge-answer·sweep-for) (Begins 𝓤 H A mem run))
     (known-at : Triple 𝓤 (𝓣 .C #purge-answer·purge-at) (Ats 𝓤 H A mem run)) (known-rest : Triple 𝓤 (𝓣 .C #purge-answer·rest-from) (Rests 𝓤 H A mem run)) (known-pick : Triple 𝓤 (𝓣 .C #purge-answer·pick) (Picks 𝓤 H A mem run)) where
   module _ (L L′ : Loan) (ys : List Arena) (us : List ℕ) (go : Bool) (s : State) (granted : Bool) (S : ℕ) where
@@ -101,9 +108,6 @@ module _ {M : Type 1} (𝓤 : URA M) (H : Heap 𝓤) (A : Atoms 𝓤) (W : Given
     abbrev χ : Reply → List Arena → List ℕ → Type 0
     χ r zs ts = (go ≡ true → r ≡ replyOf left) × (zs ≡ cond go (left .world .records) ys) × (ts ≡ us)
 
-    abbrev mach : Val
-    mach = LL.val Z.the-type Z′.the-laws s
-
     abbrev i : ℕ
     i = placeOf go s
 
@@ -113,9 +117,9 @@ module _ {M : Type 1} (𝓤 : URA M) (H : Heap 𝓤) (A : Atoms 𝓤) (W : Given
     abbrev v : Sweep
     v = sweepFor go s granted
 
-    walk : L .n < 2 ^ 64 → L′ .n < 2 ^ 64 → length ys < 2 ^ 64 → Is Z.the-row s (mach ∷ []) → S < 2 ^ 64 → (S ≤ 4294967296) × (go ≡ true → Purgeable S ys us s)
+    walk : (mach : Val) → L .n < 2 ^ 64 → L′ .n < 2 ^ 64 → length ys < 2 ^ 64 → Is Z.the-row s (mach ∷ []) → S < 2 ^ 64 → (S ≤ 4294967296) × (go ≡ true → Purgeable S ys us s)
         → Sq W ((‵ (lent T.the-row L ys) ⊛ (‵ (lent u32 L′ us) ⊛ ‵ ftrue)) ∷ []) (prop (WpFn 𝓤 H (𝓣 .C) (𝓣 .Λ) code.function (sliceOf L ∷ sliceOf L′ ∷ vbool go ∷ mach ∷ vbool granted ∷ vint w64 S ∷ []) (Done2 𝓤 H A T.the-row u32 L L′ P.the-row ys us χ)))
-    walk fl fl′ fy gs fS pre =
+    walk mach fl fl′ fy gs fS pre =
         let h = pre .1 in
         let a : Arena = at ys i in
         enters ! code.function (λ bs. params1 ! $
@@ -126,36 +130,38 @@ module _ {M : Type 1} (𝓤 : URA M) (H : Heap 𝓤) (A : Atoms 𝓤) (W : Given
         land ! (from ! (stop !)) (init ! 17 refl (tt, record { fits = fk })) $
         for-step ! (in-seq ! (fmOf 𝓤 H (W .laws) 𝓣)) mem run known-for go s mach gs granted (purged-fits S ys us s granted go h) (λ _. and-then ! (load ! (from ! (stop !)) (look ! 7 refl)) (and-then ! (load ! (from ! (stop !)) (look ! 9 refl)) (and-then ! (load ! (from ! (stop !)) (look ! 11 refl)) (no-more !)))) (λ vw gw.
         land ! (from ! (stop !)) (init ! 19 refl (LL.lawful X.the-type X′.the-laws 𝓤 H A W .typed v (vw ∷ []) gw .0)) $
-        assigns ! (addr ! (from ! (fld ! refl (hop ! (look-in ! 3 (sub ! 0 refl (whole !))) (stop !))))) (from ! (stop !)) (init ! 29 refl (tt, tt)) $
-        assigns ! (agg ! (and-then ! (load ! (from ! (stop !)) (look ! 29 refl)) (and-then ! (load ! (from ! (fld ! refl (stop !))) (look-in ! 3 (sub ! 1 refl (whole !)))) (no-more !)))) (from ! (stop !)) (init ! 31 refl (tt, (tt, (record { fits = fl }, tt)))) $
-        load-or-step ! (in-seq ! (fmOf 𝓤 H (W .laws) 𝓣)) mem run known-load L ys i fi (λ _. and-then ! (load ! (from ! (stop !)) (look ! 31 refl)) (and-then ! (load ! (from ! (stop !)) (look ! 15 refl)) (no-more !))) (λ va ga.
+        assigns ! (addr ! (from ! (fld ! refl (hop ! (look-in ! 3 (sub ! 0 refl (whole !))) (stop !))))) (from ! (stop !)) (init ! 33 refl (tt, tt)) $
+        assigns ! (agg ! (and-then ! (load ! (from ! (stop !)) (look ! 33 refl)) (and-then ! (load ! (from ! (fld ! refl (stop !))) (look-in ! 3 (sub ! 1 refl (whole !)))) (no-more !)))) (from ! (stop !)) (init ! 35 refl (tt, (tt, (record { fits = fl }, tt)))) $
+        load-or-step ! (in-seq ! (fmOf 𝓤 H (W .laws) 𝓣)) mem run known-load L ys i fi (λ _. and-then ! (load ! (from ! (stop !)) (look ! 35 refl)) (and-then ! (load ! (from ! (stop !)) (look ! 15 refl)) (no-more !))) (λ va ga.
         land ! (from ! (stop !)) (init ! 21 refl (LL.lawful T.the-type T′.the-laws 𝓤 H A W .typed a (va ∷ []) ga .0)) $
-        assigns ! (addr ! (from ! (fld ! refl (hop ! (look-in ! 5 (sub ! 0 refl (whole !))) (stop !))))) (from ! (stop !)) (init ! 33 refl (tt, tt)) $
-        assigns ! (agg ! (and-then ! (load ! (from ! (stop !)) (look ! 33 refl)) (and-then ! (load ! (from ! (fld ! refl (stop !))) (look-in ! 5 (sub ! 1 refl (whole !)))) (no-more !)))) (from ! (stop !)) (init ! 35 refl (tt, (tt, (record { fits = fl′ }, tt)))) $
+        assigns ! (addr ! (from ! (fld ! refl (hop ! (look-in ! 5 (sub ! 0 refl (whole !))) (stop !))))) (from ! (stop !)) (init ! 37 refl (tt, tt)) $
+        assigns ! (agg ! (and-then ! (load ! (from ! (stop !)) (look ! 37 refl)) (and-then ! (load ! (from ! (fld ! refl (stop !))) (look-in ! 5 (sub ! 1 refl (whole !)))) (no-more !)))) (from ! (stop !)) (init ! 39 refl (tt, (tt, (record { fits = fl′ }, tt)))) $
         swaps ! $ at-step ! (in-seq ! (fmOf 𝓤 H (W .laws) 𝓣)) mem run known-at L′ us go s mach gs a va ga granted S fS (pre .0) (at-fits S ys us s granted go h)
-        (λ _. and-then ! (load ! (from ! (stop !)) (look ! 35 refl)) (and-then ! (load ! (from ! (stop !)) (look ! 7 refl)) (and-then ! (load ! (from ! (stop !)) (look ! 9 refl)) (and-then ! (load ! (from ! (stop !)) (look ! 21 refl)) (and-then ! (load ! (from ! (stop !)) (look ! 11 refl)) (and-then ! (load ! (from ! (stop !)) (look ! 13 refl)) (no-more !))))))) (λ vo o go′ e. swaps ! $
+        (λ _. and-then ! (load ! (from ! (stop !)) (look ! 39 refl)) (and-then ! (load ! (from ! (stop !)) (look ! 7 refl)) (and-then ! (load ! (from ! (stop !)) (look ! 9 refl)) (and-then ! (load ! (from ! (stop !)) (look ! 21 refl)) (and-then ! (load ! (from ! (stop !)) (look ! 11 refl)) (and-then ! (load ! (from ! (stop !)) (look ! 13 refl)) (no-more !))))))) (λ vo o go′ e. swaps ! $
         land ! (from ! (stop !)) (init ! 23 refl (LL.lawful Y.the-type Y′.the-laws 𝓤 H A W .typed o (vo ∷ []) go′ .0)) $
-        rewrite ! 23 (λ (u : Val). ‵ (fat fullShare Y′.mir (bs .1 .1 .1 .1 .1 .1 .1 .1 .1 .1 .1 .0) 0 u)) (ap only (LL.tells Y.the-type Y′.the-laws o (vo ∷ []) go′)) refl $
-        let owed = LL.owed Y.the-type Y′.the-laws o (vo ∷ []) go′ in
-        assigns ! (addr ! (from ! (fld ! refl (hop ! (look-in ! 3 (sub ! 0 refl (whole !))) (stop !))))) (from ! (stop !)) (init ! 39 refl (tt, tt)) $
-        assigns ! (agg ! (and-then ! (load ! (from ! (stop !)) (look ! 39 refl)) (and-then ! (load ! (from ! (fld ! refl (stop !))) (look-in ! 3 (sub ! 1 refl (whole !)))) (no-more !)))) (from ! (stop !)) (init ! 41 refl (tt, (tt, (record { fits = fl }, tt)))) $
-        store-if-step ! (in-seq ! (fmOf 𝓤 H (W .laws) 𝓣)) mem run known-store L ys i fi (o .arena) (LL.val T.the-type T′.the-laws (o .arena)) (owed .0)
-        (λ _. and-then ! (load ! (from ! (stop !)) (look ! 41 refl)) (and-then ! (load ! (from ! (stop !)) (look ! 15 refl)) (and-then ! (load ! (from ! (fld ! refl (stop !))) (look-in ! 23 (sub ! 0 refl (whole !)))) (no-more !)))) (λ vu gu.
-        land ! (from ! (stop !)) (init ! 37 refl (nothing-lawful 𝓤 H A W .typed tt (vu ∷ []) gu .0)) $
-        rest-step ! (in-seq ! (fmOf 𝓤 H (W .laws) 𝓣)) mem run known-rest i fi (o .asked) k fk (near S ys us s granted go o h e) (λ _. and-then ! (load ! (from ! (stop !)) (look ! 15 refl)) (and-then ! (load ! (from ! (fld ! refl (stop !))) (look-in ! 23 (sub ! 1 refl (whole !)))) (and-then ! (load ! (from ! (stop !)) (look ! 17 refl)) (no-more !)))) (λ fp.
-        land ! (from ! (stop !)) (init ! 25 refl (tt, record { fits = fp })) $
+        arena-left-step ! (in-seq ! (fmOf 𝓤 H (W .laws) 𝓣)) mem run known-left o vo go′ (λ _. and-then ! (load ! (from ! (stop !)) (look ! 23 refl)) (no-more !)) (λ vb gb.
+        land ! (from ! (stop !)) (init ! 25 refl (LL.lawful T.the-type T′.the-laws 𝓤 H A W .typed (o .arena) (vb ∷ []) gb .0)) $
         assigns ! (addr ! (from ! (fld ! refl (hop ! (look-in ! 3 (sub ! 0 refl (whole !))) (stop !))))) (from ! (stop !)) (init ! 43 refl (tt, tt)) $
         assigns ! (agg ! (and-then ! (load ! (from ! (stop !)) (look ! 43 refl)) (and-then ! (load ! (from ! (fld ! refl (stop !))) (look-in ! 3 (sub ! 1 refl (whole !)))) (no-more !)))) (from ! (stop !)) (init ! 45 refl (tt, (tt, (record { fits = fl }, tt)))) $
-        assigns ! (addr ! (from ! (fld ! refl (hop ! (look-in ! 5 (sub ! 0 refl (whole !))) (stop !))))) (from ! (stop !)) (init ! 47 refl (tt, tt)) $
-        assigns ! (agg ! (and-then ! (load ! (from ! (stop !)) (look ! 47 refl)) (and-then ! (load ! (from ! (fld ! refl (stop !))) (look-in ! 5 (sub ! 1 refl (whole !)))) (no-more !)))) (from ! (stop !)) (init ! 49 refl (tt, (tt, (record { fits = fl′ }, tt)))) $
+        store-if-step ! (in-seq ! (fmOf 𝓤 H (W .laws) 𝓣)) mem run known-store L ys i fi (o .arena) vb gb
+        (λ _. and-then ! (load ! (from ! (stop !)) (look ! 45 refl)) (and-then ! (load ! (from ! (stop !)) (look ! 15 refl)) (and-then ! (load ! (from ! (stop !)) (look ! 25 refl)) (no-more !)))) (λ vu gu.
+        land ! (from ! (stop !)) (init ! 41 refl (nothing-lawful 𝓤 H A W .typed tt (vu ∷ []) gu .0)) $
+        rest-step ! (in-seq ! (fmOf 𝓤 H (W .laws) 𝓣)) mem run known-rest i fi o vo go′ k fk (near S ys us s granted go o h e) (λ _. and-then ! (load ! (from ! (stop !)) (look ! 15 refl)) (and-then ! (load ! (from ! (stop !)) (look ! 23 refl)) (and-then ! (load ! (from ! (stop !)) (look ! 17 refl)) (no-more !)))) (λ fp.
+        land ! (from ! (stop !)) (init ! 27 refl (tt, record { fits = fp })) $
+        mark-step ! (in-seq ! (fmOf 𝓤 H (W .laws) 𝓣)) mem run known-mark s mach gs (λ _. and-then ! (load ! (from ! (stop !)) (look ! 9 refl)) (no-more !)) (
+        land ! (from ! (stop !)) (init ! 29 refl (tt, tt)) $
+        assigns ! (addr ! (from ! (fld ! refl (hop ! (look-in ! 3 (sub ! 0 refl (whole !))) (stop !))))) (from ! (stop !)) (init ! 47 refl (tt, tt)) $
+        assigns ! (agg ! (and-then ! (load ! (from ! (stop !)) (look ! 47 refl)) (and-then ! (load ! (from ! (fld ! refl (stop !))) (look-in ! 3 (sub ! 1 refl (whole !)))) (no-more !)))) (from ! (stop !)) (init ! 49 refl (tt, (tt, (record { fits = fl }, tt)))) $
+        assigns ! (addr ! (from ! (fld ! refl (hop ! (look-in ! 5 (sub ! 0 refl (whole !))) (stop !))))) (from ! (stop !)) (init ! 51 refl (tt, tt)) $
+        assigns ! (agg ! (and-then ! (load ! (from ! (stop !)) (look ! 51 refl)) (and-then ! (load ! (from ! (fld ! refl (stop !))) (look-in ! 5 (sub ! 1 refl (whole !)))) (no-more !)))) (from ! (stop !)) (init ! 53 refl (tt, (tt, (record { fits = fl′ }, tt)))) $
         sweep-on-step ! (in-seq ! (fmOf 𝓤 H (W .laws) 𝓣)) mem run known-on L L′ (set ys i (o .arena)) us (nextPlace i (o .asked) k) fp k fk (s .mark) v vw gw S fS (pre .0) (few S ys us s granted go h) (long S ys us s granted go h) (stays-ranged S ys us s granted go o h e)
-        (λ _. and-then ! (load ! (from ! (stop !)) (look ! 45 refl)) (and-then ! (load ! (from ! (stop !)) (look ! 49 refl)) (and-then ! (load ! (from ! (stop !)) (look ! 25 refl)) (and-then ! (load ! (from ! (stop !)) (look ! 17 refl)) (and-then ! (load ! (from ! (fld ! refl (stop !))) (look-in ! 9 (sub ! 1 refl (whole !)))) (and-then ! (load ! (from ! (stop !)) (look ! 19 refl)) (and-then ! (load ! (from ! (stop !)) (look ! 13 refl)) (no-more !)))))))) (λ vr gr len.
-        land ! (from ! (stop !)) (init ! 27 refl (LL.lawful P.the-type P′.the-laws 𝓤 H A W .typed (replyOf (rest S ys us s granted go o)) (vr ∷ []) gr .0)) $
-        pick-step ! (in-seq ! (fmOf 𝓤 H (W .laws) 𝓣)) mem run known-pick (o .asked) (o .reply) (LL.val P.the-type P′.the-laws (o .reply)) (owed .1 .1 .0) (replyOf (rest S ys us s granted go o)) vr gr (λ _. and-then ! (load ! (from ! (fld ! refl (stop !))) (look-in ! 23 (sub ! 1 refl (whole !)))) (and-then ! (load ! (from ! (fld ! refl (stop !))) (look-in ! 23 (sub ! 2 refl (whole !)))) (and-then ! (load ! (from ! (stop !)) (look ! 27 refl)) (no-more !)))) (λ vp gp.
+        (λ _. and-then ! (load ! (from ! (stop !)) (look ! 49 refl)) (and-then ! (load ! (from ! (stop !)) (look ! 53 refl)) (and-then ! (load ! (from ! (stop !)) (look ! 27 refl)) (and-then ! (load ! (from ! (stop !)) (look ! 17 refl)) (and-then ! (load ! (from ! (stop !)) (look ! 29 refl)) (and-then ! (load ! (from ! (stop !)) (look ! 19 refl)) (and-then ! (load ! (from ! (stop !)) (look ! 13 refl)) (no-more !)))))))) (λ vr gr len.
+        land ! (from ! (stop !)) (init ! 31 refl (LL.lawful P.the-type P′.the-laws 𝓤 H A W .typed (replyOf (rest S ys us s granted go o)) (vr ∷ []) gr .0)) $
+        pick-step ! (in-seq ! (fmOf 𝓤 H (W .laws) 𝓣)) mem run known-pick o vo go′ (replyOf (rest S ys us s granted go o)) vr gr (λ _. and-then ! (load ! (from ! (stop !)) (look ! 23 refl)) (and-then ! (load ! (from ! (stop !)) (look ! 31 refl)) (no-more !))) (λ vp gp.
         land ! (from ! (stop !)) (init ! 1 refl (LL.lawful P.the-type P′.the-laws 𝓤 H A W .typed (cond (o .asked) (o .reply) (replyOf (rest S ys us s granted go o))) (vp ∷ []) gp .0)) $
-        returns ! (look ! 1 refl) $ used ! $ used ! $ used ! $ used ! $ used ! $ used ! $ used ! $ used ! $ used ! $ used ! $ used ! $ used ! $ used ! $ used ! $ used ! $ used ! $ used ! $ used ! $ used ! $ used ! $ used ! $ used ! $ used ! $ used ! $ used ! $ free0 ! $
+        returns ! (look ! 1 refl) $ used ! $ used ! $ used ! $ used ! $ used ! $ used ! $ used ! $ used ! $ used ! $ used ! $ used ! $ used ! $ used ! $ used ! $ used ! $ used ! $ used ! $ used ! $ used ! $ used ! $ used ! $ used ! $ used ! $ used ! $ used ! $ used ! $ used ! $ free0 ! $
         let c = comes S ys us s granted go o fy e in
-        finish2 𝓤 H A T.the-row u32 L L′ P.the-row ys us χ W (‵ ftrue) vp (cond (o .asked) (o .reply) (replyOf (rest S ys us s granted go o))) (rest S ys us s granted go o .world .records) us gp (len ∙ length-set ys i (o .arena)) refl (c .0, c .1, refl)))))))))))
+        finish2 𝓤 H A T.the-row u32 L L′ P.the-row ys us χ W (‵ ftrue) vp (cond (o .asked) (o .reply) (replyOf (rest S ys us s granted go o))) (rest S ys us s granted go o .world .records) us gp (len ∙ length-set ys i (o .arena)) refl (c .0, c .1, refl)))))))))))))
 
   purge-part-meets : Meets 𝓤 H A part′.signature (WpFn 𝓤 H (𝓣 .C) (𝓣 .Λ) code.function) (part′.spec 𝓤 H A mem run)
   purge-part-meets = mut2-meets 𝓤 H A W T.the-row u32 P.the-row (plain (λ _. bool) ∷ plain (λ _. Z.the-row) ∷ plain (λ _. bool) ∷ plain (λ _. u64) ∷ []) (yes, (yes, (yes, (yes, tt)))) (part′.clauses 𝓤 H A mem run)
@@ -165,7 +171,7 @@ module _ {M : Type 1} (𝓤 : URA M) (H : Heap 𝓤) (A : Atoms 𝓤) (W : Given
       × (zs ≡ cond (x .1 .1 .0) (purgeLeft (x .1 .1 .1 .1 .1 .0) (x .0 .now) (x .1 .0 .now) (x .1 .1 .1 .0) (x .1 .1 .1 .1 .0) .world .records) (x .0 .now)) × (ts ≡ x .1 .0 .now))
       (LL.makes P.the-type P′.the-plain 𝓤 H A) ((λ κs x f. refl), ((λ κs x f. refl), ((λ κs x f. refl), ((λ κs x f. refl), tt)))) (λ κs. (bool-tells, (LL.tells Z.the-type Z′.the-laws, (bool-tells, (uint-tells w64, tt)))))
       (λ κs x g. id⊢ 𝓤 _) (λ κs x g r zs ts e. factI 𝓤 _ (emp 𝓤) e) code.function 𝓣
-      (λ κs q q′ x g kn kn′ are l. walk _ _ (x .0 .now) (x .1 .0 .now) (x .1 .1 .0) (x .1 .1 .1 .0) (x .1 .1 .1 .1 .0) (x .1 .1 .1 .1 .1 .0) (kn .1 .0) (kn′ .1 .0) (kn .1 .0) (are .1 .0) (are .1 .1 .1 .0 .1) l)
+      (λ κs q q′ x g kn kn′ are l. walk _ _ (x .0 .now) (x .1 .0 .now) (x .1 .1 .0) (x .1 .1 .1 .0) (x .1 .1 .1 .1 .0) (x .1 .1 .1 .1 .1 .0) (LL.val Z.the-type Z′.the-laws (x .1 .1 .1 .0)) (kn .1 .0) (kn′ .1 .0) (kn .1 .0) (are .1 .0) (are .1 .1 .1 .0 .1) l)
 
 pub purge-part-spec : {M : Type 1} → stated.statement M
 unfolding code.routine tablesOf
@@ -173,9 +179,11 @@ purge-part-spec 𝓤 H 𝓜 𝓖 𝓡 =
     entered 𝓤 H (tripleOf 𝓤 H (𝓖 .A) part′.signature (part′.spec 𝓤 H (𝓖 .A) (𝓜 .mem) (𝓡 .run)))
     (tables 𝓤 H 𝓜 𝓡 code.env .C) (tables 𝓤 H 𝓜 𝓡 code.env .Λ) #purge-answer·purge-part code.function (code.unfolded 𝓤 H 𝓜 𝓡)
     (purge-part-meets 𝓤 H (𝓖 .A) (givenOf 𝓤 H 𝓜 𝓖) (𝓜 .mem) (𝓡 .run) (tablesOf 𝓤 H 𝓜 (tables 𝓤 H 𝓜 𝓡 code.env))
+    (cited 𝓤 H (ArenaLeft 𝓤 H (𝓖 .A) (𝓜 .mem) (𝓡 .run)) 𝓜 𝓡 code.env #sweeping·arena-left left-def.routine code.calls-sweeping·arena-left (left-thm.met 𝓤 H 𝓜 𝓖 𝓡))
+    (cited 𝓤 H (Marks 𝓤 H (𝓖 .A) (𝓜 .mem) (𝓡 .run)) 𝓜 𝓡 code.env #sweeping·mark-of mark-def.routine code.calls-sweeping·mark-of (mark-thm.met 𝓤 H 𝓜 𝓖 𝓡))
     (cited 𝓤 H (LoadOr 𝓤 H (𝓖 .A) (𝓜 .mem) (𝓡 .run)) 𝓜 𝓡 code.env #table·load-or load-def.routine code.calls-table·load-or (load-thm.met 𝓤 H 𝓜 𝓖 𝓡))
     (cited 𝓤 H (StoreIf 𝓤 H (𝓖 .A) (𝓜 .mem) (𝓡 .run)) 𝓜 𝓡 code.env #table·store-if store-def.routine code.calls-table·store-if (store-thm.met 𝓤 H 𝓜 𝓖 𝓡))
-    (cited 𝓤 H (On 𝓤 H (𝓖 .A) (𝓜 .mem) (𝓡 .run)) 𝓜 𝓡 code.env #purge-due·sweep-on on-def.routine code.calls-purge-due·sweep-on (on-thm.met 𝓤 H 𝓜 𝓖 𝓡))
+    (cited 𝓤 H (On 𝓤 H (𝓖 .A) (𝓜 .mem) (𝓡 .run)) 𝓜 𝓡 code.env #sweeping·sweep-on on-def.routine code.calls-sweeping·sweep-on (on-thm.met 𝓤 H 𝓜 𝓖 𝓡))
     (cited 𝓤 H (Places 𝓤 H (𝓖 .A) (𝓜 .mem) (𝓡 .run)) 𝓜 𝓡 code.env #purge-answer·place-of place-def.routine code.calls-purge-answer·place-of (place-thm.met 𝓤 H 𝓜 𝓖 𝓡))
     (cited 𝓤 H (Counts 𝓤 H (𝓖 .A) (𝓜 .mem) (𝓡 .run)) 𝓜 𝓡 code.env #purge-answer·count-of count-def.routine code.calls-purge-answer·count-of (count-thm.met 𝓤 H 𝓜 𝓖 𝓡))
     (cited 𝓤 H (Begins 𝓤 H (𝓖 .A) (𝓜 .mem) (𝓡 .run)) 𝓜 𝓡 code.env #purge-answer·sweep-for for-def.routine code.calls-purge-answer·sweep-for (for-thm.met 𝓤 H 𝓜 𝓖 𝓡))

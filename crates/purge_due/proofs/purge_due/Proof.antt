@@ -61,25 +61,36 @@ use Rattle.table.proofs.row_one.Symbol as row-def
 use Rattle.table.proofs.row_one.Symbol.{name as #table·row-one}
 use Rattle.table.proofs.row_one.Met as row-thm
 use Rattle.purge_due.specs.Going.{sweepCount}
-use Rattle.purge_due.proofs.CallLaws.{Sweepable, sweepable, swept, comes}
-use Rattle.purge_due.proofs.Steps.{big-lit, Counts, Begins, On, Gate, sweep-count-step, sweep-of-step, sweep-on-step, gate-step}
+use Rattle.purge_due.proofs.CallLaws.{sweepable, swept, comes}
+use Rattle.table.proofs.Big.{big-lit}
+use Rattle.entry.proofs.EntrySteps.{Page, page-step}
+use Rattle.sweeping.proofs.LentLaws.{Sweepable}
+use Rattle.sweeping.proofs.Steps.{On, Marks, sweep-on-step, mark-step}
+use Rattle.purge_due.proofs.Steps.{Counts, Begins, Gate, sweep-count-step, sweep-of-step, gate-step}
+use Rattle.entry.proofs.page_of.Symbol as page-def
+use Rattle.entry.proofs.page_of.Symbol.{name as #entry·page-of}
+use Rattle.entry.proofs.page_of.Met as page-thm
+use Rattle.sweeping.proofs.mark_of.Symbol as mark-def
+use Rattle.sweeping.proofs.mark_of.Symbol.{name as #sweeping·mark-of}
+use Rattle.sweeping.proofs.mark_of.Met as mark-thm
 use Rattle.purge_due.proofs.sweep_count.Symbol as count-def
 use Rattle.purge_due.proofs.sweep_count.Symbol.{name as #purge-due·sweep-count}
 use Rattle.purge_due.proofs.sweep_count.Met as count-thm
 use Rattle.purge_due.proofs.sweep_of.Symbol as of-def
 use Rattle.purge_due.proofs.sweep_of.Symbol.{name as #purge-due·sweep-of}
 use Rattle.purge_due.proofs.sweep_of.Met as of-thm
-use Rattle.purge_due.proofs.sweep_on.Symbol as on-def
-use Rattle.purge_due.proofs.sweep_on.Symbol.{name as #purge-due·sweep-on}
-use Rattle.purge_due.proofs.sweep_on.Met as on-thm
+use Rattle.sweeping.proofs.sweep_on.Symbol as on-def
+use Rattle.sweeping.proofs.sweep_on.Symbol.{name as #sweeping·sweep-on}
+use Rattle.sweeping.proofs.sweep_on.Met as on-thm
 use Rattle.purge_due.proofs.purge_due.Key.{name as #purge-due·purge-due}
 use Rattle.purge_due.proofs.purge_due as due′
 use Rattle.purge_due.proofs.purge_due.Statement as stated
 use Rattle.purge_due.proofs.purge_due.Code as code
 
 module _ {M : Type 1} (𝓤 : URA M) (H : Heap 𝓤) (A : Atoms 𝓤) (W : Given 𝓤 H A) (mem : Memory → SProp 𝓤) (run : Routine → Fun 𝓤) (𝓣 : Tables 𝓤 H)
+    (known-page : Triple 𝓤 (𝓣 .C #entry·page-of) (Page 𝓤 H A mem run)) (known-mark : Triple 𝓤 (𝓣 .C #sweeping·mark-of) (Marks 𝓤 H A mem run))
     (known-row : Triple 𝓤 (𝓣 .C #table·row-one) (Row 𝓤 H A mem run)) (known-count : Triple 𝓤 (𝓣 .C #purge-due·sweep-count) (Counts 𝓤 H A mem run)) (known-of : Triple 𝓤 (𝓣 .C #purge-due·sweep-of) (Begins 𝓤 H A mem run))
-    (known-on : Triple 𝓤 (𝓣 .C #purge-due·sweep-on) (On 𝓤 H A mem run)) (known-gate : Triple 𝓤 (𝓣 .C #registers·gate) (Gate 𝓤 H A mem run)) where
+    (known-on : Triple 𝓤 (𝓣 .C #sweeping·sweep-on) (On 𝓤 H A mem run)) (known-gate : Triple 𝓤 (𝓣 .C #registers·gate) (Gate 𝓤 H A mem run)) where
   module _ (κ κ′ : Lft) (q q′ : Share) (γ γ′ : GName) (b o b′ o′ : ℕ) (ys : List Arena) (us : List ℕ) (s : State) (ns : ℕ) (settings : Settings) (force : Bool) where
     abbrev L : Loan
     L = record { κ = κ; q = q; γ = γ; b = b; o = o; n = length ys }
@@ -94,12 +105,6 @@ module _ {M : Type 1} (𝓤 : URA M) (H : Heap 𝓤) (A : Atoms 𝓤) (W : Given
     abbrev χ : Reply → List Arena → List ℕ → Type 0
     χ r zs ts = (r ≡ replyOf left) × (zs ≡ left .world .records) × (ts ≡ left .world .stamps)
 
-    abbrev mach : Val
-    mach = LL.val Z.the-type Z′.the-laws s
-
-    abbrev mach′ : Val
-    mach′ = LL.val D.the-type D′.the-laws settings
-
     abbrev ok : Bool
     ok = soundLent 33554432 ys (length us) s (settings .page)
 
@@ -109,34 +114,37 @@ module _ {M : Type 1} (𝓤 : URA M) (H : Heap 𝓤) (A : Atoms 𝓤) (W : Given
     abbrev own : Outcome
     own = swept 33554432 ys us ns settings force k (s .mark)
 
-    walk : length ys < 2 ^ 64 → length us < 2 ^ 64 → Is Z.the-row s (mach ∷ []) → ns < 2 ^ 64 → Is D.the-row settings (mach′ ∷ [])
+    walk : (mach mach′ : Val) → length ys < 2 ^ 64 → length us < 2 ^ 64 → Is Z.the-row s (mach ∷ []) → ns < 2 ^ 64 → Is D.the-row settings (mach′ ∷ [])
         → Sq W ((‵ (lent T.the-row L ys) ⊛ (‵ (lent u32 L′ us) ⊛ ‵ ftrue)) ∷ []) (prop (WpFn 𝓤 H (𝓣 .C) (𝓣 .Λ) code.function (sliceOf L ∷ sliceOf L′ ∷ mach ∷ vint w64 ns ∷ mach′ ∷ vbool force ∷ []) (Done2 𝓤 H A T.the-row u32 L L′ P.the-row ys us χ)))
-    walk fl fl′ gs fns gd =
-        let fp : settings .page < 2 ^ 64 = LL.owed D.the-type D′.the-laws settings (mach′ ∷ []) gd .1 .1 .1 .1 .0 .1 in
+    walk mach mach′ fl fl′ gs fns gd =
         let facts : Sweepable 33554432 ys us k = sweepable 33554432 ys us s (settings .page) in
         enters ! code.function (λ bs. params1 ! $
         pass1 ! (init ! 3 refl (tt, (tt, (record { fits = fl }, tt)))) $ pass1 ! (init ! 5 refl (tt, (tt, (record { fits = fl′ }, tt)))) $ pass1 ! (init ! 7 refl (LL.lawful Z.the-type Z′.the-laws 𝓤 H A W .typed s (mach ∷ []) gs .0)) $ pass1 ! (init ! 9 refl (tt, record { fits = fns })) $
         pass1 ! (init ! 11 refl (LL.lawful D.the-type D′.the-laws 𝓤 H A W .typed settings (mach′ ∷ []) gd .0)) $ pass1 ! (init ! 13 refl (tt, tt)) $ pass0 ! $
-        assigns ! (addr ! (from ! (fld ! refl (hop ! (look-in ! 3 (sub ! 0 refl (whole !))) (stop !))))) (from ! (stop !)) (init ! 23 refl (tt, tt)) $
-        assigns ! (agg ! (and-then ! (load ! (from ! (stop !)) (look ! 23 refl)) (and-then ! (load ! (from ! (fld ! refl (stop !))) (look-in ! 3 (sub ! 1 refl (whole !)))) (no-more !)))) (from ! (stop !)) (init ! 25 refl (tt, (tt, (record { fits = fl }, tt)))) $
-        assigns ! (of-opd ! (load ! (from ! (fld ! refl (stop !))) (look-in ! 5 (sub ! 1 refl (whole !))))) (from ! (stop !)) (init ! 27 refl (tt, record { fits = fl′ })) $
-        row-step ! (in-seq ! (fmOf 𝓤 H (W .laws) 𝓣)) mem run known-row L ys (length us) fl′ s mach gs (settings .page) fp 33554432 (lit< tt) (omega arith) (omega arith) (λ _. and-then ! (load ! (from ! (stop !)) (look ! 25 refl)) (and-then ! (load ! (from ! (stop !)) (look ! 27 refl)) (and-then ! (load ! (from ! (stop !)) (look ! 7 refl)) (and-then ! (load ! (from ! (fld ! refl (stop !))) (look-in ! 11 (sub ! 4 refl (whole !)))) (and-then ! (big-lit ! (record { fits = lit< tt })) (no-more !)))))) (
-        land ! (from ! (stop !)) (init ! 15 refl (tt, tt)) $
-        sweep-count-step ! (in-seq ! (fmOf 𝓤 H (W .laws) 𝓣)) mem run known-count ok s mach gs (λ _. and-then ! (load ! (from ! (stop !)) (look ! 15 refl)) (and-then ! (load ! (from ! (stop !)) (look ! 7 refl)) (no-more !))) (λ fk.
-        land ! (from ! (stop !)) (init ! 17 refl (tt, record { fits = fk })) $
+        page-step ! (in-seq ! (fmOf 𝓤 H (W .laws) 𝓣)) mem run known-page settings mach′ gd (λ _. and-then ! (load ! (from ! (stop !)) (look ! 11 refl)) (no-more !)) (λ fp.
+        land ! (from ! (stop !)) (init ! 15 refl (tt, record { fits = fp })) $
+        assigns ! (addr ! (from ! (fld ! refl (hop ! (look-in ! 3 (sub ! 0 refl (whole !))) (stop !))))) (from ! (stop !)) (init ! 27 refl (tt, tt)) $
+        assigns ! (agg ! (and-then ! (load ! (from ! (stop !)) (look ! 27 refl)) (and-then ! (load ! (from ! (fld ! refl (stop !))) (look-in ! 3 (sub ! 1 refl (whole !)))) (no-more !)))) (from ! (stop !)) (init ! 29 refl (tt, (tt, (record { fits = fl }, tt)))) $
+        assigns ! (of-opd ! (load ! (from ! (fld ! refl (stop !))) (look-in ! 5 (sub ! 1 refl (whole !))))) (from ! (stop !)) (init ! 31 refl (tt, record { fits = fl′ })) $
+        row-step ! (in-seq ! (fmOf 𝓤 H (W .laws) 𝓣)) mem run known-row L ys (length us) fl′ s mach gs (settings .page) fp 33554432 (lit< tt) (omega arith) (omega arith) (λ _. and-then ! (load ! (from ! (stop !)) (look ! 29 refl)) (and-then ! (load ! (from ! (stop !)) (look ! 31 refl)) (and-then ! (load ! (from ! (stop !)) (look ! 7 refl)) (and-then ! (load ! (from ! (stop !)) (look ! 15 refl)) (and-then ! (big-lit ! (record { fits = lit< tt })) (no-more !)))))) (
+        land ! (from ! (stop !)) (init ! 17 refl (tt, tt)) $
+        sweep-count-step ! (in-seq ! (fmOf 𝓤 H (W .laws) 𝓣)) mem run known-count ok s mach gs (λ _. and-then ! (load ! (from ! (stop !)) (look ! 17 refl)) (and-then ! (load ! (from ! (stop !)) (look ! 7 refl)) (no-more !))) (λ fk.
+        land ! (from ! (stop !)) (init ! 19 refl (tt, record { fits = fk })) $
         sweep-of-step ! (in-seq ! (fmOf 𝓤 H (W .laws) 𝓣)) mem run known-of force ns fns settings mach′ gd (λ _. and-then ! (load ! (from ! (stop !)) (look ! 13 refl)) (and-then ! (load ! (from ! (stop !)) (look ! 9 refl)) (and-then ! (load ! (from ! (stop !)) (look ! 11 refl)) (no-more !)))) (λ vw gw.
-        land ! (from ! (stop !)) (init ! 19 refl (LL.lawful X.the-type X′.the-laws 𝓤 H A W .typed (sweepOf force ns settings) (vw ∷ []) gw .0)) $
-        assigns ! (addr ! (from ! (fld ! refl (hop ! (look-in ! 3 (sub ! 0 refl (whole !))) (stop !))))) (from ! (stop !)) (init ! 29 refl (tt, tt)) $
-        assigns ! (agg ! (and-then ! (load ! (from ! (stop !)) (look ! 29 refl)) (and-then ! (load ! (from ! (fld ! refl (stop !))) (look-in ! 3 (sub ! 1 refl (whole !)))) (no-more !)))) (from ! (stop !)) (init ! 31 refl (tt, (tt, (record { fits = fl }, tt)))) $
-        assigns ! (addr ! (from ! (fld ! refl (hop ! (look-in ! 5 (sub ! 0 refl (whole !))) (stop !))))) (from ! (stop !)) (init ! 33 refl (tt, tt)) $
-        assigns ! (agg ! (and-then ! (load ! (from ! (stop !)) (look ! 33 refl)) (and-then ! (load ! (from ! (fld ! refl (stop !))) (look-in ! 5 (sub ! 1 refl (whole !)))) (no-more !)))) (from ! (stop !)) (init ! 35 refl (tt, (tt, (record { fits = fl′ }, tt)))) $
+        land ! (from ! (stop !)) (init ! 21 refl (LL.lawful X.the-type X′.the-laws 𝓤 H A W .typed (sweepOf force ns settings) (vw ∷ []) gw .0)) $
+        mark-step ! (in-seq ! (fmOf 𝓤 H (W .laws) 𝓣)) mem run known-mark s mach gs (λ _. and-then ! (load ! (from ! (stop !)) (look ! 7 refl)) (no-more !)) (
+        land ! (from ! (stop !)) (init ! 23 refl (tt, tt)) $
+        assigns ! (addr ! (from ! (fld ! refl (hop ! (look-in ! 3 (sub ! 0 refl (whole !))) (stop !))))) (from ! (stop !)) (init ! 33 refl (tt, tt)) $
+        assigns ! (agg ! (and-then ! (load ! (from ! (stop !)) (look ! 33 refl)) (and-then ! (load ! (from ! (fld ! refl (stop !))) (look-in ! 3 (sub ! 1 refl (whole !)))) (no-more !)))) (from ! (stop !)) (init ! 35 refl (tt, (tt, (record { fits = fl }, tt)))) $
+        assigns ! (addr ! (from ! (fld ! refl (hop ! (look-in ! 5 (sub ! 0 refl (whole !))) (stop !))))) (from ! (stop !)) (init ! 37 refl (tt, tt)) $
+        assigns ! (agg ! (and-then ! (load ! (from ! (stop !)) (look ! 37 refl)) (and-then ! (load ! (from ! (fld ! refl (stop !))) (look-in ! 5 (sub ! 1 refl (whole !)))) (no-more !)))) (from ! (stop !)) (init ! 39 refl (tt, (tt, (record { fits = fl′ }, tt)))) $
         sweep-on-step ! (in-seq ! (fmOf 𝓤 H (W .laws) 𝓣)) mem run known-on L L′ ys us 0 (lit< tt) k fk (s .mark) (sweepOf force ns settings) vw gw 33554432 (lit< tt) (omega arith) (facts .0) (facts .1) (facts .2)
-        (λ _. and-then ! (load ! (from ! (stop !)) (look ! 31 refl)) (and-then ! (load ! (from ! (stop !)) (look ! 35 refl)) (and-then ! (lit ! tt) (and-then ! (load ! (from ! (stop !)) (look ! 17 refl)) (and-then ! (load ! (from ! (fld ! refl (stop !))) (look-in ! 7 (sub ! 1 refl (whole !)))) (and-then ! (load ! (from ! (stop !)) (look ! 19 refl)) (and-then ! (big-lit ! (record { fits = lit< tt })) (no-more !)))))))) (λ vr gr long.
-        land ! (from ! (stop !)) (init ! 21 refl (LL.lawful P.the-type P′.the-laws 𝓤 H A W .typed (replyOf own) (vr ∷ []) gr .0)) $
-        gate-step ! (in-seq ! (fmOf 𝓤 H (W .laws) 𝓣)) mem run known-gate ok s mach gs (replyOf own) vr gr (λ _. and-then ! (load ! (from ! (stop !)) (look ! 15 refl)) (and-then ! (load ! (from ! (stop !)) (look ! 7 refl)) (and-then ! (load ! (from ! (stop !)) (look ! 21 refl)) (no-more !)))) (λ v g.
+        (λ _. and-then ! (load ! (from ! (stop !)) (look ! 35 refl)) (and-then ! (load ! (from ! (stop !)) (look ! 39 refl)) (and-then ! (lit ! tt) (and-then ! (load ! (from ! (stop !)) (look ! 19 refl)) (and-then ! (load ! (from ! (stop !)) (look ! 23 refl)) (and-then ! (load ! (from ! (stop !)) (look ! 21 refl)) (and-then ! (big-lit ! (record { fits = lit< tt })) (no-more !)))))))) (λ vr gr long.
+        land ! (from ! (stop !)) (init ! 25 refl (LL.lawful P.the-type P′.the-laws 𝓤 H A W .typed (replyOf own) (vr ∷ []) gr .0)) $
+        gate-step ! (in-seq ! (fmOf 𝓤 H (W .laws) 𝓣)) mem run known-gate ok s mach gs (replyOf own) vr gr (λ _. and-then ! (load ! (from ! (stop !)) (look ! 17 refl)) (and-then ! (load ! (from ! (stop !)) (look ! 7 refl)) (and-then ! (load ! (from ! (stop !)) (look ! 25 refl)) (no-more !)))) (λ v g.
         land ! (from ! (stop !)) (init ! 1 refl (LL.lawful P.the-type P′.the-laws 𝓤 H A W .typed (gated ok s (replyOf own)) (v ∷ []) g .0)) $
-        returns ! (look ! 1 refl) $ used ! $ used ! $ used ! $ used ! $ used ! $ used ! $ used ! $ used ! $ used ! $ used ! $ used ! $ used ! $ used ! $ used ! $ used ! $ used ! $ used ! $ used ! $ free0 ! $
-        finish2 𝓤 H A T.the-row u32 L L′ P.the-row ys us χ W (‵ ftrue) v (gated ok s (replyOf own)) (own .world .records) us g long refl (comes 33554432 ys us ns settings force s)))))))
+        returns ! (look ! 1 refl) $ used ! $ used ! $ used ! $ used ! $ used ! $ used ! $ used ! $ used ! $ used ! $ used ! $ used ! $ used ! $ used ! $ used ! $ used ! $ used ! $ used ! $ used ! $ used ! $ used ! $ free0 ! $
+        finish2 𝓤 H A T.the-row u32 L L′ P.the-row ys us χ W (‵ ftrue) v (gated ok s (replyOf own)) (own .world .records) us g long refl (comes 33554432 ys us ns settings force s)))))))))
 
   purge-due-meets : Meets 𝓤 H A due′.signature (WpFn 𝓤 H (𝓣 .C) (𝓣 .Λ) code.function) (due′.spec 𝓤 H A mem run)
   purge-due-meets = mut2-meets 𝓤 H A W T.the-row u32 P.the-row (plain (λ _. Z.the-row) ∷ plain (λ _. u64) ∷ plain (λ _. D.the-row) ∷ plain (λ _. bool) ∷ []) (yes, (yes, (yes, (yes, tt)))) (due′.clauses 𝓤 H A mem run)
@@ -145,7 +153,7 @@ module _ {M : Type 1} (𝓤 : URA M) (H : Heap 𝓤) (A : Atoms 𝓤) (W : Given
       (λ κs x g. χ (κs .0) (κs .1 .0) fullShare fullShare (x .0 .name) (x .1 .0 .name) (x .0 .ptr .0) (x .0 .ptr .1) (x .1 .0 .ptr .0) (x .1 .0 .ptr .1) (x .0 .now) (x .1 .0 .now) (x .1 .1 .0) (x .1 .1 .1 .0) (x .1 .1 .1 .1 .0) (x .1 .1 .1 .1 .1 .0))
       (LL.makes P.the-type P′.the-plain 𝓤 H A) ((λ κs x f. refl), ((λ κs x f. refl), ((λ κs x f. refl), ((λ κs x f. refl), tt)))) (λ κs. (LL.tells Z.the-type Z′.the-laws, (uint-tells w64, (LL.tells D.the-type D′.the-laws, (bool-tells, tt)))))
       (λ κs x g. factI 𝓤 _ (emp 𝓤) tt) (λ κs x g r zs ts e. factI 𝓤 _ (emp 𝓤) e) code.function 𝓣
-      (λ κs q q′ x g kn kn′ are l. walk (κs .0) (κs .1 .0) q q′ (x .0 .name) (x .1 .0 .name) (x .0 .ptr .0) (x .0 .ptr .1) (x .1 .0 .ptr .0) (x .1 .0 .ptr .1) (x .0 .now) (x .1 .0 .now) (x .1 .1 .0) (x .1 .1 .1 .0) (x .1 .1 .1 .1 .0) (x .1 .1 .1 .1 .1 .0) (kn .1 .0) (kn′ .1 .0) (are .0) (are .1 .0 .1) (are .1 .1 .0))
+      (λ κs q q′ x g kn kn′ are l. walk (κs .0) (κs .1 .0) q q′ (x .0 .name) (x .1 .0 .name) (x .0 .ptr .0) (x .0 .ptr .1) (x .1 .0 .ptr .0) (x .1 .0 .ptr .1) (x .0 .now) (x .1 .0 .now) (x .1 .1 .0) (x .1 .1 .1 .0) (x .1 .1 .1 .1 .0) (x .1 .1 .1 .1 .1 .0) (LL.val Z.the-type Z′.the-laws (x .1 .1 .0)) (LL.val D.the-type D′.the-laws (x .1 .1 .1 .1 .0)) (kn .1 .0) (kn′ .1 .0) (are .0) (are .1 .0 .1) (are .1 .1 .0))
 
 pub purge-due-spec : {M : Type 1} → stated.statement M
 unfolding code.routine tablesOf
@@ -153,8 +161,10 @@ purge-due-spec 𝓤 H 𝓜 𝓖 𝓡 =
     entered 𝓤 H (tripleOf 𝓤 H (𝓖 .A) due′.signature (due′.spec 𝓤 H (𝓖 .A) (𝓜 .mem) (𝓡 .run)))
     (tables 𝓤 H 𝓜 𝓡 code.env .C) (tables 𝓤 H 𝓜 𝓡 code.env .Λ) #purge-due·purge-due code.function (code.unfolded 𝓤 H 𝓜 𝓡)
     (purge-due-meets 𝓤 H (𝓖 .A) (givenOf 𝓤 H 𝓜 𝓖) (𝓜 .mem) (𝓡 .run) (tablesOf 𝓤 H 𝓜 (tables 𝓤 H 𝓜 𝓡 code.env))
+    (cited 𝓤 H (Page 𝓤 H (𝓖 .A) (𝓜 .mem) (𝓡 .run)) 𝓜 𝓡 code.env #entry·page-of page-def.routine code.calls-entry·page-of (page-thm.met 𝓤 H 𝓜 𝓖 𝓡))
+    (cited 𝓤 H (Marks 𝓤 H (𝓖 .A) (𝓜 .mem) (𝓡 .run)) 𝓜 𝓡 code.env #sweeping·mark-of mark-def.routine code.calls-sweeping·mark-of (mark-thm.met 𝓤 H 𝓜 𝓖 𝓡))
     (cited 𝓤 H (Row 𝓤 H (𝓖 .A) (𝓜 .mem) (𝓡 .run)) 𝓜 𝓡 code.env #table·row-one row-def.routine code.calls-table·row-one (row-thm.met 𝓤 H 𝓜 𝓖 𝓡))
     (cited 𝓤 H (Counts 𝓤 H (𝓖 .A) (𝓜 .mem) (𝓡 .run)) 𝓜 𝓡 code.env #purge-due·sweep-count count-def.routine code.calls-purge-due·sweep-count (count-thm.met 𝓤 H 𝓜 𝓖 𝓡))
     (cited 𝓤 H (Begins 𝓤 H (𝓖 .A) (𝓜 .mem) (𝓡 .run)) 𝓜 𝓡 code.env #purge-due·sweep-of of-def.routine code.calls-purge-due·sweep-of (of-thm.met 𝓤 H 𝓜 𝓖 𝓡))
-    (cited 𝓤 H (On 𝓤 H (𝓖 .A) (𝓜 .mem) (𝓡 .run)) 𝓜 𝓡 code.env #purge-due·sweep-on on-def.routine code.calls-purge-due·sweep-on (on-thm.met 𝓤 H 𝓜 𝓖 𝓡))
+    (cited 𝓤 H (On 𝓤 H (𝓖 .A) (𝓜 .mem) (𝓡 .run)) 𝓜 𝓡 code.env #sweeping·sweep-on on-def.routine code.calls-sweeping·sweep-on (on-thm.met 𝓤 H 𝓜 𝓖 𝓡))
     (cited 𝓤 H (Gate 𝓤 H (𝓖 .A) (𝓜 .mem) (𝓡 .run)) 𝓜 𝓡 code.env #registers·gate gate-def.routine code.calls-registers·gate (gate-thm.met 𝓤 H 𝓜 𝓖 𝓡)))

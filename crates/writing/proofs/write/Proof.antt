@@ -43,7 +43,7 @@ use Rattle.table.proofs.Calls.{in-seq, swaps}
 use Rattle.table.proofs.Frame.{Done2, finish2, mut2-meets}
 use Rattle.table.proofs.Steps.{StoreIf, store-if-step}
 use Rattle.writing.proofs.WriteSteps.{RecordPlace, RecordOf, StampedOf, ReplyOf, ZeroStamps, record-place-step, record-of-step, stamped-of-step, reply-of-step, zero-stamps-step}
-use Rattle.registers.specs.Parts.{stampsWith}
+use Rattle.registers.specs.Core.{stampsWith}
 use Rattle.writing.specs.Places.{recordPlace}
 use Rattle.writing.proofs.record_place.Symbol as record-place-def
 use Rattle.writing.proofs.record_place.Symbol.{name as #writing·record-place}

@@ -5,9 +5,9 @@ use native.Mathlib.Omega.{arith}
 use borrow.Author.Needs.{needs}
 use borrow.Author.Tests.{le-ltb}
 use Rattle.arena.specs.Releasing.{stampRun}
-use Rattle.registers.specs.Parts.{stampsWith}
+use Rattle.registers.specs.Core.{stampsWith}
 use Rattle.words.proofs.Tests.{unless}
-use Rattle.registers.proofs.RegisterLaws.{stamps-below}
+use Rattle.registers.proofs.WriteLaws.{stamps-below}
 use Rattle.writing.proofs.zero_stamps.Statement.{statement}
 use Rattle.writing.proofs.zero_stamps.Tie as tie
 

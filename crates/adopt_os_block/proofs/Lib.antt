@@ -1,0 +1,2 @@
+mod AdoptLaws
+mod Steps

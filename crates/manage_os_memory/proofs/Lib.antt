@@ -1,0 +1,2 @@
+mod ManageLaws
+mod Steps

@@ -1,3 +1,0 @@
-mod Big
-mod PlaceLaws
-mod PlaceSteps

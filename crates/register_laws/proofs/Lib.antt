@@ -1,0 +1,4 @@
+pub mod Around
+pub mod ReserveStep
+pub mod ManageStep
+pub mod AdoptStep

@@ -1,0 +1,3 @@
+pub mod GoingLaws
+pub mod LentLaws
+pub mod Steps

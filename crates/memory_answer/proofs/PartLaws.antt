@@ -11,7 +11,7 @@ use Rattle.words.proofs.Tests.{unless}
 use Rattle.runs.specs.declared.Found.{Found}
 use Rattle.runs.specs.declared.Found.the-variants.{At}
 use Rattle.runs.specs.Lowest.{all, least}
-use Rattle.runs.proofs.LowestLaws.{all-free-of}
+use Rattle.runs.proofs.LowestLaws.{all-free-of, First, first-says}
 use Rattle.arena.specs.declared.Arena.{Arena}
 use Rattle.arena.specs.Registering.{reservedArena}
 use Rattle.lookup.specs.Soundness.{soundArena}
@@ -21,11 +21,10 @@ use Rattle.layer.specs.World.{Outcome, after, replyOf}
 use Rattle.layer.specs.Table.{at}
 use Rattle.judge.specs.declared.Query.the-variants.{Serves}
 use Rattle.judge.specs.Scan.{hit, scanOf}
-use Rattle.registers.specs.Parts.{recordsWith, stampsWith}
+use Rattle.registers.specs.Core.{storedAt, recordsWith, stampsWith}
 use Rattle.registers.proofs.DecisionLaws.{either}
-use Rattle.registers.proofs.RegisterLaws.{scan-facts}
 use Rattle.claims.specs.Core.{searchReply, searchArena}
-use Rattle.claims.proofs.ClaimLaws.{storedAt, set-same, scan-hits}
+use Rattle.claims.proofs.ClaimLaws.{set-same, scan-hits}
 use Rattle.memory.specs.declared.Memory.{Memory}
 use Rattle.memory.specs.Core.{memoryRegisters, memoryReply, memoryId, waitingN, waitingCommits, searchCount}
 use Rattle.memory.proofs.MemoryLaws.{memoryMet, memory-answer-by}
@@ -49,8 +48,10 @@ pub again-found : (S : ℕ) (l : List Arena) (m : Memory) → all (λ i. soundAr
     → (x : ℕ) → foundOf S l m ≡ At x → soundArena S (foundArena S l m) ≡ true
 unfolding scanOf
 again-found S l m sound x e =
+    let p : ℕ → Bool = λ i. hit S (Serves (negsuc 0) (m .n)) i (at l i) in
+    let h : First p 0 (m .search) (At x) = subst (First p 0 (m .search)) e (first-says p 0 (m .search)) in
     ap (λ (f : Found). soundArena S (at l (storedAt f))) e
-    ∙ all-free-of (λ i. soundArena S (at l i)) 0 (m .search) sound x (omega arith) (omega (arith, scan-facts _ (m .search) x e .0))
+    ∙ all-free-of (λ i. soundArena S (at l i)) 0 (m .search) sound x (omega arith) (h .1)
 
 -- what a search among the first c records leaves
 abbrev ending : ℕ → List Arena → ℕ → Bool → Reply → List ℕ → Found → Outcome

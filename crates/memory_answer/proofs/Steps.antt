@@ -50,7 +50,6 @@ use Rattle.claims.specs.declared.Served.{Served}
 use Rattle.claims.specs.Core.{searchArena, searchReply}
 use Rattle.claims.proofs.Served as D
 use Rattle.claims.proofs.Served.Laws as D′
-use Rattle.claims.proofs.ClaimLaws.{storedAt}
 use Rattle.memory.specs.declared.Memory.{Memory as Made}
 use Rattle.memory.specs.Core.{memoryBytes}
 use Rattle.memory.proofs.Memory as X
@@ -76,8 +75,6 @@ use Rattle.memory_answer.proofs.record_of as record-of′
 use Rattle.memory_answer.proofs.record_of.Symbol.{name as #memory-answer·record-of}
 use Rattle.memory_answer.proofs.reply_of as reply-of′
 use Rattle.memory_answer.proofs.reply_of.Symbol.{name as #memory-answer·reply-of}
-use Rattle.memory_answer.proofs.stored_at as stored-at′
-use Rattle.memory_answer.proofs.stored_at.Symbol.{name as #memory-answer·stored-at}
 use Rattle.memory_answer.proofs.ended as ended′
 use Rattle.memory_answer.proofs.ended.Symbol.{name as #memory-answer·ended}
 use Rattle.memory_answer.proofs.search_again as search-again′
@@ -111,9 +108,6 @@ module _ {M : Type 1} (𝓤 : URA M) (H : Heap 𝓤) (A : Atoms 𝓤) (mem : Mem
 
   abbrev pub ReplyOf : Contract 𝓤
   ReplyOf = tripleOf 𝓤 H A reply-of′.signature (reply-of′.spec 𝓤 H A mem run)
-
-  abbrev pub StoredAt : Contract 𝓤
-  StoredAt = tripleOf 𝓤 H A stored-at′.signature (stored-at′.spec 𝓤 H A mem run)
 
   abbrev pub Ended : Contract 𝓤
   Ended = tripleOf 𝓤 H A ended′.signature (ended′.spec 𝓤 H A mem run)
@@ -211,16 +205,6 @@ module _ {M : Type 1} {𝓤 : URA M} {H : Heap 𝓤} {A : Atoms 𝓤} {K : Type 
       plain-call t site P.the-row (plain (λ _. D.the-row) ∷ []) (yes, tt) (reply-of′.clauses 𝓤 H A mem run) known (d, tt) (vd ∷ [], tt)
       (owns-make 𝓤 H A (D.the-row ∷ []) (Ises (D.the-row ∷ [])) (LL.makes D.the-type D′.the-plain 𝓤 H A, tt) (d, tt) (vd ∷ [], tt) (gd, tt)) tt (id⊢ 𝓤 _)
       (λ r. r ≡ d .reply) (λ r ws. id⊢ 𝓤 _) ops (λ v r is e. k v (subst (λ (o : Reply). Is P.the-row o (v ∷ [])) e is))
-
-  pub stored-at-step : K → Site K W Γ C E #memory-answer·stored-at xs G after → (mem : Memory → SProp 𝓤) (run : Routine → Fun 𝓤) → Triple 𝓤 (C #memory-answer·stored-at) (StoredAt 𝓤 H A mem run)
-      → (f : Found) (vf : Val) → Is F.the-row f (vf ∷ [])
-      → ((h : Item 𝓤) → Opds K W (h ∷ Γ) E xs (vf ∷ []))
-      → (storedAt f < 2 ^ 64 → Seq K W (i ∷ Γ) (after (vint w64 (storedAt f))))
-      → Seq K W (i ∷ Γ) G
-  stored-at-step t site mem run known f vf gf ops k =
-      plain-call t site usize (plain (λ _. F.the-row) ∷ []) (yes, tt) (stored-at′.clauses 𝓤 H A mem run) known (f, tt) (vf ∷ [], tt)
-      (owns-make 𝓤 H A (F.the-row ∷ []) (Ises (F.the-row ∷ [])) (EL.makes F.the-type F′.the-plain 𝓤 H A, tt) (f, tt) (vf ∷ [], tt) (gf, tt)) tt (id⊢ 𝓤 _)
-      (λ r. r ≡ storedAt f) (λ r ws. id⊢ 𝓤 _) ops (λ v r is e. subst (λ (u : Val). Seq K W (i ∷ Γ) (after u)) (sym (ap only (is .0) ∙ ap (vint w64) e)) (k (subst (λ (m : ℕ). m < 2 ^ 64) e (is .1))))
 
   pub ended-step : K → Site K W Γ C E #memory-answer·ended xs G after → (mem : Memory → SProp 𝓤) (run : Routine → Fun 𝓤) → Triple 𝓤 (C #memory-answer·ended) (Ended 𝓤 H A mem run)
       → (m : Made) (vm : Val) → Is X.the-row m (vm ∷ []) → (a : Arena) (va : Val) → Is T.the-row a (va ∷ []) → (f : Found) (vf : Val) → Is F.the-row f (vf ∷ []) → (S : ℕ) → S < 2 ^ 64 → 0 < S → S ≤ 4294967296 → ((x : ℕ) → f ≡ At x → soundArena S a ≡ true)

@@ -21,7 +21,7 @@ use Rattle.layer.specs.Answering.{answerMemory}
 use Rattle.judge.specs.declared.Query.the-variants.{Meets, Serves}
 use Rattle.judge.specs.Scan.{scanOf}
 use Rattle.claims.specs.Core.{searchArena, searchReply}
-use Rattle.claims.proofs.ClaimLaws.{storedAt}
+use Rattle.registers.specs.Core.{storedAt}
 use Rattle.memory.specs.declared.Memory.{Memory}
 use Rattle.memory.specs.Core.{memoryBytes, memoryCount, memoryRegisters, memoryReply, memoryId, waitingN, waitingCommits, searchCount}
 use Rattle.writing.specs.declared.Writing.{Writing}

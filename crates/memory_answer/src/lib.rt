@@ -11,7 +11,6 @@ ghost use Rattle.judge.specs.declared.Query.the-variants.{Meets, Serves};
 ghost use Rattle.layer.specs.World.{replyOf};
 ghost use Rattle.layer.specs.Table.{at};
 ghost use Rattle.claims.specs.Core.{searchArena, searchReply};
-ghost use Rattle.claims.proofs.ClaimLaws.{storedAt};
 ghost use Rattle.memory.specs.Core.{memoryBytes};
 ghost use Rattle.memory_answer.specs.Part.{noneReserved, reservingOf, scanCount, metOf, Decides, writingOf, againReply, againRecords, Reservable, memoryLeft};
 use arena::Arena;
@@ -185,16 +184,6 @@ fn again_query(m: Memory) -> Query
     Query::Serves { id: -1, n: m.n }
 }
 
-// The id that is stored to; 32 for none.
-fn stored_at(f: Found) -> usize
-    ensures { λ r. ⌜ r ≡ storedAt f ⌝ }
-{
-    match f {
-        Found::At(i) => i,
-        Found::Nothing => 32,
-    }
-}
-
 // The search's end: the lowest run in record a, or what was answered already.
 fn ended(m: Memory, a: Arena, f: Found, chunk_size: u64) -> Served
     requires { ⌜ (0 < «chunk_size») × («chunk_size» ≤ 4294967296) × ((i : ℕ) → f ≡ At i → soundArena «chunk_size» a ≡ true) ⌝ }
@@ -226,7 +215,7 @@ fn search_again(records: &mut [Arena], m: Memory, chunk_size: u64) -> Reply
     let k = search_of(m);
     let q = again_query(m);
     let f = table::scan(records, k, chunk_size, q);
-    let i = stored_at(f);
+    let i = entry::stored_at(f);
     let a = table::load_or(records, i);
     let d = ended(m, a, f, chunk_size);
     let b = record_of(d);

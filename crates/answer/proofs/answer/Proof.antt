@@ -55,7 +55,7 @@ use Rattle.table.proofs.Locals.{enters, used}
 use Rattle.table.proofs.Calls.{in-seq}
 use Rattle.table.proofs.Frame.{Done2, finish2, mut2-meets}
 use Rattle.table.proofs.Steps.{Row, row-step}
-use Rattle.purge_due.proofs.Steps.{big-lit}
+use Rattle.table.proofs.Big.{big-lit}
 use Rattle.answer.proofs.CallLaws.{sound-answerable, answer-is}
 use Rattle.answer.proofs.Steps.{AnswerOn, answer-on-step}
 use Rattle.table.proofs.row_one.Symbol as row-def

@@ -39,8 +39,8 @@ use Rattle.layer.proofs.State as Z
 use Rattle.layer.proofs.State.Laws as Z′
 use Rattle.layer.proofs.Reply as P
 use Rattle.layer.proofs.Reply.Laws as P′
-use Rattle.claims.proofs.ClaimLaws.{storedAt}
-use Rattle.registers.specs.Parts.{stampsWith}
+use Rattle.registers.specs.Core.{storedAt}
+use Rattle.registers.specs.Core.{stampsWith}
 use Rattle.memory.proofs.Memory as X
 use Rattle.memory.proofs.Memory.Laws as X′
 use Rattle.writing.proofs.Writing as Y

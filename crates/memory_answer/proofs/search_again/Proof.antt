@@ -49,7 +49,7 @@ use Rattle.judge.proofs.Query as Q
 use Rattle.judge.proofs.Query.Laws as Q′
 use Rattle.claims.proofs.Served as D
 use Rattle.claims.proofs.Served.Laws as D′
-use Rattle.claims.proofs.ClaimLaws.{storedAt}
+use Rattle.registers.specs.Core.{storedAt}
 use Rattle.memory.specs.declared.Memory.{Memory as Made}
 use Rattle.memory.proofs.Memory as X
 use Rattle.memory.proofs.Memory.Laws as X′
@@ -59,8 +59,9 @@ use Rattle.table.proofs.Locals.{enters, used}
 use Rattle.table.proofs.Calls.{in-seq}
 use Rattle.table.proofs.Frame.{Done, finish, mut-meets}
 use Rattle.table.proofs.Steps.{Scan, LoadOr, StoreIf, scan-step, load-or-step, store-if-step}
+use Rattle.entry.proofs.EntrySteps.{Stored, stored-step}
 use Rattle.memory_answer.proofs.PartLaws.{again-found}
-use Rattle.memory_answer.proofs.Steps.{AgainQuery, SearchOf, RecordOf, ReplyOf, StoredAt, Ended, again-query-step, search-of-step, record-of-step, reply-of-step, stored-at-step, ended-step}
+use Rattle.memory_answer.proofs.Steps.{AgainQuery, SearchOf, RecordOf, ReplyOf, Ended, again-query-step, search-of-step, record-of-step, reply-of-step, ended-step}
 use Rattle.memory_answer.proofs.search_of.Symbol as search-of-def
 use Rattle.memory_answer.proofs.search_of.Symbol.{name as #memory-answer·search-of}
 use Rattle.memory_answer.proofs.search_of.Met as search-of-thm
@@ -70,9 +71,9 @@ use Rattle.memory_answer.proofs.again_query.Met as again-query-thm
 use Rattle.table.proofs.scan.Symbol as scan-def
 use Rattle.table.proofs.scan.Symbol.{name as #table·scan}
 use Rattle.table.proofs.scan.Met as scan-thm
-use Rattle.memory_answer.proofs.stored_at.Symbol as stored-at-def
-use Rattle.memory_answer.proofs.stored_at.Symbol.{name as #memory-answer·stored-at}
-use Rattle.memory_answer.proofs.stored_at.Met as stored-at-thm
+use Rattle.entry.proofs.stored_at.Symbol as stored-at-def
+use Rattle.entry.proofs.stored_at.Symbol.{name as #entry·stored-at}
+use Rattle.entry.proofs.stored_at.Met as stored-at-thm
 use Rattle.table.proofs.load_or.Symbol as load-or-def
 use Rattle.table.proofs.load_or.Symbol.{name as #table·load-or}
 use Rattle.table.proofs.load_or.Met as load-or-thm
@@ -97,7 +98,7 @@ module _ {M : Type 1} (𝓤 : URA M) (H : Heap 𝓤) (A : Atoms 𝓤) (W : Given
     (known-search-of : Triple 𝓤 (𝓣 .C #memory-answer·search-of) (SearchOf 𝓤 H A mem run))
     (known-again-query : Triple 𝓤 (𝓣 .C #memory-answer·again-query) (AgainQuery 𝓤 H A mem run))
     (known-scan : Triple 𝓤 (𝓣 .C #table·scan) (Scan 𝓤 H A mem run))
-    (known-stored-at : Triple 𝓤 (𝓣 .C #memory-answer·stored-at) (StoredAt 𝓤 H A mem run))
+    (known-stored-at : Triple 𝓤 (𝓣 .C #entry·stored-at) (Stored 𝓤 H A mem run))
     (known-load-or : Triple 𝓤 (𝓣 .C #table·load-or) (LoadOr 𝓤 H A mem run))
     (known-ended : Triple 𝓤 (𝓣 .C #memory-answer·ended) (Ended 𝓤 H A mem run))
     (known-record-of : Triple 𝓤 (𝓣 .C #memory-answer·record-of) (RecordOf 𝓤 H A mem run))
@@ -135,7 +136,7 @@ module _ {M : Type 1} (𝓤 : URA M) (H : Heap 𝓤) (A : Atoms 𝓤) (W : Given
         scan-step ! (in-seq ! (fmOf 𝓤 H (W .laws) 𝓣)) mem run known-scan L ys (m .search) fk S fS (Serves (negsuc 0) (m .n)) vq gq (pre .0) (pre .1)
         (λ _. and-then ! (load ! (from ! (stop !)) (look ! 25 refl)) (and-then ! (load ! (from ! (stop !)) (look ! 9 refl)) (and-then ! (load ! (from ! (stop !)) (look ! 7 refl)) (and-then ! (load ! (from ! (stop !)) (look ! 11 refl)) (no-more !))))) (λ vf gf.
         land ! (from ! (stop !)) (init ! 13 refl (EL.lawful F.the-type F′.the-laws 𝓤 H A W tt .typed f (vf ∷ []) gf .0)) $
-        stored-at-step ! (in-seq ! (fmOf 𝓤 H (W .laws) 𝓣)) mem run known-stored-at f vf gf
+        stored-step ! (in-seq ! (fmOf 𝓤 H (W .laws) 𝓣)) mem run known-stored-at f vf gf
         (λ _. and-then ! (load ! (from ! (stop !)) (look ! 13 refl)) (no-more !)) (λ fi.
         land ! (from ! (stop !)) (init ! 15 refl (tt, record { fits = fi })) $
         assigns ! (addr ! (from ! (fld ! refl (hop ! (look-in ! 3 (sub ! 0 refl (whole !))) (stop !))))) (from ! (stop !)) (init ! 27 refl (tt, tt)) $
@@ -178,7 +179,7 @@ search-again-spec 𝓤 H 𝓜 𝓖 𝓡 =
     (cited 𝓤 H (SearchOf 𝓤 H (𝓖 .A) (𝓜 .mem) (𝓡 .run)) 𝓜 𝓡 code.env #memory-answer·search-of search-of-def.routine code.calls-memory-answer·search-of (search-of-thm.met 𝓤 H 𝓜 𝓖 𝓡))
     (cited 𝓤 H (AgainQuery 𝓤 H (𝓖 .A) (𝓜 .mem) (𝓡 .run)) 𝓜 𝓡 code.env #memory-answer·again-query again-query-def.routine code.calls-memory-answer·again-query (again-query-thm.met 𝓤 H 𝓜 𝓖 𝓡))
     (cited 𝓤 H (Scan 𝓤 H (𝓖 .A) (𝓜 .mem) (𝓡 .run)) 𝓜 𝓡 code.env #table·scan scan-def.routine code.calls-table·scan (scan-thm.met 𝓤 H 𝓜 𝓖 𝓡))
-    (cited 𝓤 H (StoredAt 𝓤 H (𝓖 .A) (𝓜 .mem) (𝓡 .run)) 𝓜 𝓡 code.env #memory-answer·stored-at stored-at-def.routine code.calls-memory-answer·stored-at (stored-at-thm.met 𝓤 H 𝓜 𝓖 𝓡))
+    (cited 𝓤 H (Stored 𝓤 H (𝓖 .A) (𝓜 .mem) (𝓡 .run)) 𝓜 𝓡 code.env #entry·stored-at stored-at-def.routine code.calls-entry·stored-at (stored-at-thm.met 𝓤 H 𝓜 𝓖 𝓡))
     (cited 𝓤 H (LoadOr 𝓤 H (𝓖 .A) (𝓜 .mem) (𝓡 .run)) 𝓜 𝓡 code.env #table·load-or load-or-def.routine code.calls-table·load-or (load-or-thm.met 𝓤 H 𝓜 𝓖 𝓡))
     (cited 𝓤 H (Ended 𝓤 H (𝓖 .A) (𝓜 .mem) (𝓡 .run)) 𝓜 𝓡 code.env #memory-answer·ended ended-def.routine code.calls-memory-answer·ended (ended-thm.met 𝓤 H 𝓜 𝓖 𝓡))
     (cited 𝓤 H (RecordOf 𝓤 H (𝓖 .A) (𝓜 .mem) (𝓡 .run)) 𝓜 𝓡 code.env #memory-answer·record-of record-of-def.routine code.calls-memory-answer·record-of (record-of-thm.met 𝓤 H 𝓜 𝓖 𝓡))

@@ -25,6 +25,10 @@ pub no-second : (x y z : Bool) → x ≡ true → y ≡ false → false ≡ x &&
 no-second true y z e f = no-first y z f
 no-second false y z e f = refl
 
+pub only-second : (x y : Bool) → x ≡ true → y ≡ x && y
+only-second true y e = refl
+only-second false y e = absurd (true≢false (sym e))
+
 pub only-third : (x y z : Bool) → x ≡ true → y ≡ true → z ≡ x && (y && z)
 only-third true true z e f = refl
 only-third true false z e f = absurd (true≢false (sym f))

@@ -1,3 +1,4 @@
 pub mod RangeLaws
 pub mod ClaimLaws
 pub mod QuestionLaws
+pub mod HeadLaws

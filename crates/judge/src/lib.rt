@@ -8,10 +8,12 @@ ghost use Rattle.words.specs.Bits.{bitAt};
 ghost use Rattle.runs.specs.Lowest.{all};
 ghost use Rattle.arena.specs.Claiming.{findRun};
 ghost use Rattle.lookup.specs.Place.{isInside};
+ghost use Rattle.lookup.specs.Soundness.{soundRange};
 ghost use Rattle.layer.specs.Table.{isAt, meets, askedId, soundQuestion};
 ghost use Rattle.layer.specs.Registering.{grows};
 ghost use Rattle.layer.specs.Claiming.{eligible};
 ghost use Rattle.judge.specs.Scan.{hit};
+ghost use Rattle.judge.specs.Heads.{headed, asksMaps, headHit};
 use arena::Arena;
 use layer::Question;
 use runs::Found;
@@ -30,6 +32,14 @@ pub enum Query {
     Serves { id: i32, n: usize },
     // an arena that an adopted block of n chunks continues
     Grows { address: u64, n: u64 },
+}
+
+// What most queries need of a record.
+pub struct Head {
+    pub base: u64,
+    pub chunks: usize,
+    pub exclusive: bool,
+    pub owned: bool,
 }
 
 // ---- ranges
@@ -154,6 +164,75 @@ pub fn hit(q: Query, i: usize, a: Arena, chunk_size: u64) -> bool
         Query::Holds { address } => holds(a, chunk_size, address),
         Query::Serves { id, n } => serves_claim(id, n, i, a),
         Query::Grows { address, n } => grows_at(a, chunk_size, address, n),
+    }
+}
+
+// ---- heads
+
+// A record with that head, and nothing else in it.
+fn headed(h: Head) -> Arena
+    ensures { λ r. ⌜ r ≡ headed h ⌝ }
+{
+    Arena {
+        base: h.base,
+        chunks: h.chunks,
+        exclusive: h.exclusive,
+        owned: h.owned,
+        node: 0,
+        deadline: 0,
+        used: [0; 32],
+        dirty: [0; 32],
+        committed: [0; 32],
+        pending: [0; 32],
+    }
+}
+
+// Whether the maps past the last chunk are to be looked at.
+fn has_tail(base: u64, chunks: usize, chunk_size: u64) -> bool
+    requires { ⌜ (0 < «chunk_size») × («chunk_size» ≤ 4294967296) ⌝ }
+    ensures { λ r. ⌜ r ≡ (soundRange «chunk_size» base chunks && ltb chunks 1024) ⌝ }
+{
+    if !lookup::range_is_sound(base, chunks, chunk_size) {
+        return false;
+    }
+    chunks < MOST_CHUNKS
+}
+
+// Whether the map of used chunks is to be looked at.
+fn may_serve(id: i32, i: usize, h: Head) -> bool
+    ensures { λ r. ⌜ r ≡ (eligible id i (headed h) && leb (h .chunks) 1024) ⌝ }
+{
+    if !is_eligible(id, i, headed(h)) {
+        return false;
+    }
+    h.chunks <= MOST_CHUNKS
+}
+
+// Whether the query asks the maps of the record at id i, of that head.
+pub fn asks_maps(q: Query, i: usize, h: Head, chunk_size: u64) -> bool
+    requires { ⌜ (0 < «chunk_size») × («chunk_size» ≤ 4294967296) ⌝ }
+    ensures { λ r. ⌜ r ≡ asksMaps «chunk_size» q i h ⌝ }
+{
+    match q {
+        Query::Unsound => has_tail(h.base, h.chunks, chunk_size),
+        Query::Meets { .. } => false,
+        Query::Holds { .. } => false,
+        Query::Serves { id, .. } => may_serve(id, i, h),
+        Query::Grows { .. } => false,
+    }
+}
+
+// Whether the query, which asks no map, hits the record at id i.
+pub fn hit_head(q: Query, i: usize, h: Head, chunk_size: u64) -> bool
+    requires { ⌜ (0 < «chunk_size») × («chunk_size» ≤ 4294967296) ⌝ }
+    ensures { λ r. ⌜ r ≡ headHit «chunk_size» q i h ⌝ }
+{
+    match q {
+        Query::Unsound => !lookup::range_is_sound(h.base, h.chunks, chunk_size),
+        Query::Meets { base, bytes } => meets_range(headed(h), chunk_size, base, bytes),
+        Query::Holds { address } => holds(headed(h), chunk_size, address),
+        Query::Serves { .. } => false,
+        Query::Grows { address, n } => grows_at(headed(h), chunk_size, address, n),
     }
 }
 

@@ -1,5 +1,5 @@
 -- Functions that the crate above has no need of, each called in one step of a walk (`Calls.antt`):
---     load-pass (from a `&[Arena]`), store-step, found-step, nothing-step, hit-step, is-at-step, range-step, unsound-step, lent-step, asked-step, question-step
+--     load-pass (from a `&[Arena]`), store-step, found-step, nothing-step, hit-step, head-at-pass, no-head-step, head-or-pass, asks-step, hit-head-step, hits-at-pass, is-at-step, range-step, unsound-step, lent-step, asked-step, question-step
 -- Assumes `Given`, the callee's theorem, and that the table of calls is monotone under a frame.
 use mathlib.Core.Path.{_≡_, refl, sym, _∙_, ap, subst}
 use mathlib.Core.Bool.{Bool, true, _&&_}
@@ -39,12 +39,16 @@ use Rattle.arena.proofs.Arena.Laws as T′
 use Rattle.lookup.specs.Place.{bytesOf}
 use Rattle.layer.specs.World.{blank}
 use Rattle.layer.specs.declared.Question.{Question}
-use Rattle.layer.specs.Table.{isAt, askedId, soundQuestion}
+use Rattle.layer.specs.Table.{at, isAt, askedId, soundQuestion}
 use Rattle.layer.proofs.Question as N
 use Rattle.layer.proofs.Question.Laws as N′
 use Rattle.judge.specs.declared.Query.{Query}
 use Rattle.judge.specs.declared.Query.the-variants.{Unsound, Meets}
+use Rattle.judge.specs.declared.Head.{Head}
 use Rattle.judge.specs.Scan.{hit}
+use Rattle.judge.specs.Heads.{headOf, asksMaps, headHit}
+use Rattle.judge.proofs.Head as D
+use Rattle.judge.proofs.Head.Laws as D′
 use Rattle.judge.proofs.Query as Q
 use Rattle.judge.proofs.Query.Laws as Q′
 use Rattle.table.proofs.load as load′
@@ -69,6 +73,18 @@ use Rattle.judge.proofs.asked_id as asked′
 use Rattle.judge.proofs.asked_id.Symbol.{name as #judge·asked-id}
 use Rattle.judge.proofs.question_sound as question′
 use Rattle.judge.proofs.question_sound.Symbol.{name as #judge·question-sound}
+use Rattle.table.proofs.head_at as head-at′
+use Rattle.table.proofs.head_at.Symbol.{name as #table·head-at}
+use Rattle.table.proofs.no_head as no-head′
+use Rattle.table.proofs.no_head.Symbol.{name as #table·no-head}
+use Rattle.table.proofs.head_or as head-or′
+use Rattle.table.proofs.head_or.Symbol.{name as #table·head-or}
+use Rattle.table.proofs.hits_at as hits-at′
+use Rattle.table.proofs.hits_at.Symbol.{name as #table·hits-at}
+use Rattle.judge.proofs.asks_maps as asks′
+use Rattle.judge.proofs.asks_maps.Symbol.{name as #judge·asks-maps}
+use Rattle.judge.proofs.hit_head as hit-head′
+use Rattle.judge.proofs.hit_head.Symbol.{name as #judge·hit-head}
 use Rattle.table.proofs.Walk.{Loan, sliceOf, lent, shared}
 use Rattle.table.proofs.Calls.{Site, plain-call, pass-call, shr-call, mut-call}
 
@@ -88,6 +104,24 @@ module _ {M : Type 1} (𝓤 : URA M) (H : Heap 𝓤) (A : Atoms 𝓤) (mem : Mem
 
   abbrev pub Hits : Contract 𝓤
   Hits = tripleOf 𝓤 H A hit′.signature (hit′.spec 𝓤 H A mem run)
+
+  abbrev pub HeadAt : Contract 𝓤
+  HeadAt = tripleOf 𝓤 H A head-at′.signature (head-at′.spec 𝓤 H A mem run)
+
+  abbrev pub NoHead : Contract 𝓤
+  NoHead = tripleOf 𝓤 H A no-head′.signature (no-head′.spec 𝓤 H A mem run)
+
+  abbrev pub HeadOr : Contract 𝓤
+  HeadOr = tripleOf 𝓤 H A head-or′.signature (head-or′.spec 𝓤 H A mem run)
+
+  abbrev pub AsksMaps : Contract 𝓤
+  AsksMaps = tripleOf 𝓤 H A asks′.signature (asks′.spec 𝓤 H A mem run)
+
+  abbrev pub HitHead : Contract 𝓤
+  HitHead = tripleOf 𝓤 H A hit-head′.signature (hit-head′.spec 𝓤 H A mem run)
+
+  abbrev pub HitsAt : Contract 𝓤
+  HitsAt = tripleOf 𝓤 H A hits-at′.signature (hits-at′.spec 𝓤 H A mem run)
 
   abbrev pub IsAt : Contract 𝓤
   IsAt = tripleOf 𝓤 H A is-at′.signature (is-at′.spec 𝓤 H A mem run)
@@ -215,3 +249,62 @@ module _ {M : Type 1} {𝓤 : URA M} {H : Heap 𝓤} {A : Atoms 𝓤} {K : Type 
       plain-call t site bool (plain (λ _. T.the-row) ∷ plain (λ _. usize) ∷ plain (λ _. N.the-row) ∷ []) (yes, (yes, (yes, tt))) (question′.clauses 𝓤 H A mem run) known (a, (n, (q, tt))) (va ∷ [], (vint w64 n ∷ [], (vq ∷ [], tt)))
       (owns-make 𝓤 H A (T.the-row ∷ usize ∷ N.the-row ∷ []) (Ises (T.the-row ∷ usize ∷ N.the-row ∷ [])) (LL.makes T.the-type T′.the-plain 𝓤 H A, (uint-makes 𝓤 H A W w64, (EL.makes N.the-type N′.the-plain 𝓤 H A, tt))) (a, (n, (q, tt))) (va ∷ [], (vint w64 n ∷ [], (vq ∷ [], tt))) (ga, ((refl, fn), (gq, tt)))) tt (factI 𝓤 _ (emp 𝓤) (few, most))
       (λ r. r ≡ soundQuestion a n q) (λ r ws. id⊢ 𝓤 _) ops (λ v r is e. subst (λ (u : Val). Seq K W (i ∷ Γ) (after u)) (sym (ap only (bool-tells r (v ∷ []) is) ∙ ap vbool e)) k)
+
+  pub head-at-pass : K → Site K W Γ C E #table·head-at xs G after → (mem : Memory → SProp 𝓤) (run : Routine → Fun 𝓤) → Triple 𝓤 (C #table·head-at) (HeadAt 𝓤 H A mem run)
+      → (L : Loan) (ys : List Arena) → (j : ℕ) → j < 2 ^ 64 → j < length ys
+      → ((h : Item 𝓤) → Opds K W (h ∷ Γ) E xs (sliceOf L ∷ vint w64 j ∷ []))
+      → ((v : Val) → Is D.the-row (headOf (getD ys j blank)) (v ∷ []) → Seq K W ((‵ (shared T.the-row L ys) ⊛ i) ∷ Γ) (after v))
+      → Seq K W ((‵ (shared T.the-row L ys) ⊛ i) ∷ Γ) G
+  head-at-pass t site mem run known L ys j fj l ops k =
+      pass-call t site T.the-row L D.the-row (plain (λ _. usize) ∷ []) (yes, tt) (head-at′.clauses 𝓤 H A mem run) known ys (λ _. (j, tt)) (λ _. (vint w64 j ∷ [], tt))
+      (λ _. owns-make 𝓤 H A (usize ∷ []) (Ises (usize ∷ [])) (uint-makes 𝓤 H A W w64, tt) (j, tt) (vint w64 j ∷ [], tt) ((refl, fj), tt)) (λ _ _. tt) (λ _ _. factI 𝓤 _ (emp 𝓤) (l))
+      (λ r. r ≡ headOf (getD ys j blank)) (λ _ _ r ws. id⊢ 𝓤 _) (λ h _. ops h) (λ v r is e. k v (subst (λ (o : Head). Is D.the-row o (v ∷ [])) e is))
+
+  pub no-head-step : K → Site K W Γ C E #table·no-head xs G after → (mem : Memory → SProp 𝓤) (run : Routine → Fun 𝓤) → Triple 𝓤 (C #table·no-head) (NoHead 𝓤 H A mem run)
+      → ((h : Item 𝓤) → Opds K W (h ∷ Γ) E xs ([]))
+      → ((v : Val) → Is D.the-row (headOf blank) (v ∷ []) → Seq K W (i ∷ Γ) (after v))
+      → Seq K W (i ∷ Γ) G
+  no-head-step t site mem run known ops k =
+      plain-call t site D.the-row ([]) tt (no-head′.clauses 𝓤 H A mem run) known tt tt
+      (id⊢ 𝓤 _) tt (id⊢ 𝓤 _)
+      (λ r. r ≡ headOf blank) (λ r ws. id⊢ 𝓤 _) ops (λ v r is e. k v (subst (λ (o : Head). Is D.the-row o (v ∷ [])) e is))
+
+  pub head-or-pass : K → Site K W Γ C E #table·head-or xs G after → (mem : Memory → SProp 𝓤) (run : Routine → Fun 𝓤) → Triple 𝓤 (C #table·head-or) (HeadOr 𝓤 H A mem run)
+      → (L : Loan) (ys : List Arena) → (j : ℕ) → j < 2 ^ 64
+      → ((h : Item 𝓤) → Opds K W (h ∷ Γ) E xs (sliceOf L ∷ vint w64 j ∷ []))
+      → ((v : Val) → Is D.the-row (headOf (getD ys j blank)) (v ∷ []) → Seq K W ((‵ (shared T.the-row L ys) ⊛ i) ∷ Γ) (after v))
+      → Seq K W ((‵ (shared T.the-row L ys) ⊛ i) ∷ Γ) G
+  head-or-pass t site mem run known L ys j fj ops k =
+      pass-call t site T.the-row L D.the-row (plain (λ _. usize) ∷ []) (yes, tt) (head-or′.clauses 𝓤 H A mem run) known ys (λ _. (j, tt)) (λ _. (vint w64 j ∷ [], tt))
+      (λ _. owns-make 𝓤 H A (usize ∷ []) (Ises (usize ∷ [])) (uint-makes 𝓤 H A W w64, tt) (j, tt) (vint w64 j ∷ [], tt) ((refl, fj), tt)) (λ _ _. tt) (λ _ _. id⊢ 𝓤 _)
+      (λ r. r ≡ headOf (getD ys j blank)) (λ _ _ r ws. id⊢ 𝓤 _) (λ h _. ops h) (λ v r is e. k v (subst (λ (o : Head). Is D.the-row o (v ∷ [])) e is))
+
+  pub asks-step : K → Site K W Γ C E #judge·asks-maps xs G after → (mem : Memory → SProp 𝓤) (run : Routine → Fun 𝓤) → Triple 𝓤 (C #judge·asks-maps) (AsksMaps 𝓤 H A mem run)
+      → (q : Query) (vq : Val) → Is Q.the-row q (vq ∷ []) → (j : ℕ) → j < 2 ^ 64 → (d : Head) (vd : Val) → Is D.the-row d (vd ∷ []) → (S : ℕ) → S < 2 ^ 64 → 0 < S → S ≤ 4294967296
+      → ((h : Item 𝓤) → Opds K W (h ∷ Γ) E xs (vq ∷ vint w64 j ∷ vd ∷ vint w64 S ∷ []))
+      → Seq K W (i ∷ Γ) (after (vbool (asksMaps S q j d)))
+      → Seq K W (i ∷ Γ) G
+  asks-step t site mem run known q vq gq j fj d vd gd S fS pos most ops k =
+      plain-call t site bool (plain (λ _. Q.the-row) ∷ plain (λ _. usize) ∷ plain (λ _. D.the-row) ∷ plain (λ _. u64) ∷ []) (yes, (yes, (yes, (yes, tt)))) (asks′.clauses 𝓤 H A mem run) known (q, (j, (d, (S, tt)))) (vq ∷ [], (vint w64 j ∷ [], (vd ∷ [], (vint w64 S ∷ [], tt))))
+      (owns-make 𝓤 H A (Q.the-row ∷ usize ∷ D.the-row ∷ u64 ∷ []) (Ises (Q.the-row ∷ usize ∷ D.the-row ∷ u64 ∷ [])) (EL.makes Q.the-type Q′.the-plain 𝓤 H A, (uint-makes 𝓤 H A W w64, (LL.makes D.the-type D′.the-plain 𝓤 H A, (uint-makes 𝓤 H A W w64, tt)))) (q, (j, (d, (S, tt)))) (vq ∷ [], (vint w64 j ∷ [], (vd ∷ [], (vint w64 S ∷ [], tt)))) (gq, ((refl, fj), (gd, ((refl, fS), tt))))) tt (factI 𝓤 _ (emp 𝓤) (pos, most))
+      (λ r. r ≡ asksMaps S q j d) (λ r ws. id⊢ 𝓤 _) ops (λ v r is e. subst (λ (u : Val). Seq K W (i ∷ Γ) (after u)) (sym (ap only (bool-tells r (v ∷ []) is) ∙ ap vbool e)) k)
+
+  pub hit-head-step : K → Site K W Γ C E #judge·hit-head xs G after → (mem : Memory → SProp 𝓤) (run : Routine → Fun 𝓤) → Triple 𝓤 (C #judge·hit-head) (HitHead 𝓤 H A mem run)
+      → (q : Query) (vq : Val) → Is Q.the-row q (vq ∷ []) → (j : ℕ) → j < 2 ^ 64 → (d : Head) (vd : Val) → Is D.the-row d (vd ∷ []) → (S : ℕ) → S < 2 ^ 64 → 0 < S → S ≤ 4294967296
+      → ((h : Item 𝓤) → Opds K W (h ∷ Γ) E xs (vq ∷ vint w64 j ∷ vd ∷ vint w64 S ∷ []))
+      → Seq K W (i ∷ Γ) (after (vbool (headHit S q j d)))
+      → Seq K W (i ∷ Γ) G
+  hit-head-step t site mem run known q vq gq j fj d vd gd S fS pos most ops k =
+      plain-call t site bool (plain (λ _. Q.the-row) ∷ plain (λ _. usize) ∷ plain (λ _. D.the-row) ∷ plain (λ _. u64) ∷ []) (yes, (yes, (yes, (yes, tt)))) (hit-head′.clauses 𝓤 H A mem run) known (q, (j, (d, (S, tt)))) (vq ∷ [], (vint w64 j ∷ [], (vd ∷ [], (vint w64 S ∷ [], tt))))
+      (owns-make 𝓤 H A (Q.the-row ∷ usize ∷ D.the-row ∷ u64 ∷ []) (Ises (Q.the-row ∷ usize ∷ D.the-row ∷ u64 ∷ [])) (EL.makes Q.the-type Q′.the-plain 𝓤 H A, (uint-makes 𝓤 H A W w64, (LL.makes D.the-type D′.the-plain 𝓤 H A, (uint-makes 𝓤 H A W w64, tt)))) (q, (j, (d, (S, tt)))) (vq ∷ [], (vint w64 j ∷ [], (vd ∷ [], (vint w64 S ∷ [], tt)))) (gq, ((refl, fj), (gd, ((refl, fS), tt))))) tt (factI 𝓤 _ (emp 𝓤) (pos, most))
+      (λ r. r ≡ headHit S q j d) (λ r ws. id⊢ 𝓤 _) ops (λ v r is e. subst (λ (u : Val). Seq K W (i ∷ Γ) (after u)) (sym (ap only (bool-tells r (v ∷ []) is) ∙ ap vbool e)) k)
+
+  pub hits-at-pass : K → Site K W Γ C E #table·hits-at xs G after → (mem : Memory → SProp 𝓤) (run : Routine → Fun 𝓤) → Triple 𝓤 (C #table·hits-at) (HitsAt 𝓤 H A mem run)
+      → (L : Loan) (ys : List Arena) → (j : ℕ) → j < 2 ^ 64 → (q : Query) (vq : Val) → Is Q.the-row q (vq ∷ []) → (S : ℕ) → S < 2 ^ 64 → 0 < S → S ≤ 4294967296
+      → ((h : Item 𝓤) → Opds K W (h ∷ Γ) E xs (sliceOf L ∷ vint w64 j ∷ vq ∷ vint w64 S ∷ []))
+      → Seq K W ((‵ (shared T.the-row L ys) ⊛ i) ∷ Γ) (after (vbool (hit S q j (at ys j))))
+      → Seq K W ((‵ (shared T.the-row L ys) ⊛ i) ∷ Γ) G
+  hits-at-pass t site mem run known L ys j fj q vq gq S fS pos most ops k =
+      pass-call t site T.the-row L bool (plain (λ _. usize) ∷ plain (λ _. Q.the-row) ∷ plain (λ _. u64) ∷ []) (yes, (yes, (yes, tt))) (hits-at′.clauses 𝓤 H A mem run) known ys (λ _. (j, (q, (S, tt)))) (λ _. (vint w64 j ∷ [], (vq ∷ [], (vint w64 S ∷ [], tt))))
+      (λ _. owns-make 𝓤 H A (usize ∷ Q.the-row ∷ u64 ∷ []) (Ises (usize ∷ Q.the-row ∷ u64 ∷ [])) (uint-makes 𝓤 H A W w64, (EL.makes Q.the-type Q′.the-plain 𝓤 H A, (uint-makes 𝓤 H A W w64, tt))) (j, (q, (S, tt))) (vint w64 j ∷ [], (vq ∷ [], (vint w64 S ∷ [], tt))) ((refl, fj), (gq, ((refl, fS), tt)))) (λ _ _. tt) (λ _ _. factI 𝓤 _ (emp 𝓤) (pos, most))
+      (λ r. r ≡ hit S q j (at ys j)) (λ _ _ r ws. id⊢ 𝓤 _) (λ h _. ops h) (λ v r is e. subst (λ (u : Val). Seq K W ((‵ (shared T.the-row L ys) ⊛ i) ∷ Γ) (after u)) (sym (ap only (bool-tells r (v ∷ []) is) ∙ ap vbool e)) k)

@@ -1,11 +1,12 @@
 -- What row 1 says of the table, as the code tests it: by scans. S is the size of a chunk. Assumes nothing.
 use mathlib.Core.Path.{_≡_, refl, sym, ap, ap₂, _∙_}
 use mathlib.Core.Bool.{Bool, true, false, not, cond, _&&_}
-use mathlib.Core.List.{List}
+use mathlib.Core.List.{List, [], _∷_}
 use Prim.Native.Nat.{ℕ, zero, suc, _+_, _<_, _≤_}
 use native.Mathlib.Omega.{arith}
+use native.Mathlib.Nat.{not-suc-le-zero, le-of-suc-le-suc}
 use lib.Dec.{eqb, leb}
-use lib.ListN.{length}
+use lib.ListN.{length, getD}
 use Rattle.runs.specs.declared.Found.{Found}
 use Rattle.runs.specs.declared.Found.the-variants.{At, Nothing}
 use Rattle.runs.specs.Lowest.{all, least}
@@ -86,3 +87,9 @@ module _ (S : ℕ) (l : List Arena) where
       inside true true false d r = refl
       inside true false c d r = refl
       inside false b c d r = refl
+
+-- past the end of a list there is the default
+pub past : (l : List Arena) (i : ℕ) (d : Arena) → length l ≤ i → d ≡ getD l i d
+past [] i d h = refl
+past (x ∷ l) zero d h = absurd (not-suc-le-zero h)
+past (x ∷ l) (suc i) d h = past l i d (le-of-suc-le-suc h)

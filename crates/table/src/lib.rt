@@ -13,8 +13,10 @@ ghost use Rattle.lookup.specs.Soundness.{soundArena};
 ghost use Rattle.layer.specs.World.{blank};
 ghost use Rattle.layer.specs.Table.{at, isAt, apart, soundLent};
 ghost use Rattle.judge.specs.declared.Query.the-variants.{Unsound, Meets};
-ghost use Rattle.judge.specs.Scan.{scanOf};
+ghost use Rattle.judge.specs.Heads.{headOf};
+ghost use Rattle.judge.specs.Scan.{hit, scanOf};
 use arena::Arena;
+use judge::Head;
 use judge::Query;
 use layer::State;
 use runs::Found;
@@ -52,6 +54,19 @@ fn load(records: &[Arena], i: usize) -> Arena
     records[i]
 }
 
+// The head of the record at an id of the table, read where it lies.
+fn head_at(records: &[Arena], i: usize) -> Head
+    requires { ⌜ i < length (now records) ⌝ }
+    ensures { λ r. ⌜ r ≡ headOf (getD (now (records .entry)) i blank) ⌝ }
+{
+    Head {
+        base: records[i].base,
+        chunks: records[i].chunks,
+        exclusive: records[i].exclusive,
+        owned: records[i].owned,
+    }
+}
+
 // The record at an id of the table is written.
 fn store(records: &mut [Arena], i: usize, v: Arena)
     requires { ⌜ i < length (now records) ⌝ }
@@ -68,6 +83,28 @@ pub fn load_or(records: &[Arena], id: usize) -> Arena
         return load(records, id);
     }
     blank_arena()
+}
+
+// The head of a blank record.
+fn no_head() -> Head
+    ensures { λ r. ⌜ r ≡ headOf blank ⌝ }
+{
+    Head {
+        base: 0,
+        chunks: 0,
+        exclusive: false,
+        owned: false,
+    }
+}
+
+// The head of the record at an id; a blank one past the end.
+fn head_or(records: &[Arena], id: usize) -> Head
+    ensures { λ r. ⌜ r ≡ headOf (getD (now (records .entry)) id blank) ⌝ }
+{
+    if id < records.len() {
+        return head_at(records, id);
+    }
+    no_head()
 }
 
 // The record at an id is written; past the end nothing is.
@@ -94,6 +131,19 @@ fn nothing() -> Found
     Found::Nothing
 }
 
+// Whether the query hits the record at id i, which is copied only where the maps are asked.
+fn hits_at(records: &[Arena], i: usize, q: Query, chunk_size: u64) -> bool
+    requires { ⌜ (0 < «chunk_size») × («chunk_size» ≤ 4294967296) ⌝ }
+    ensures { λ r. ⌜ r ≡ hit «chunk_size» q i (at (now (records .entry)) i) ⌝ }
+{
+    let h = head_or(records, i);
+    if judge::asks_maps(q, i, h, chunk_size) {
+        let a = load_or(records, i);
+        return judge::hit(q, i, a, chunk_size);
+    }
+    judge::hit_head(q, i, h, chunk_size)
+}
+
 // The lowest id below k whose record the query hits.
 pub fn scan(records: &[Arena], k: usize, chunk_size: u64, q: Query) -> Found
     requires { ⌜ (0 < «chunk_size») × («chunk_size» ≤ 4294967296) ⌝ }
@@ -101,8 +151,7 @@ pub fn scan(records: &[Arena], k: usize, chunk_size: u64, q: Query) -> Found
 {
     let mut i = 0;
     while i < k {
-        let a = load_or(records, i);
-        if judge::hit(q, i, a, chunk_size) {
+        if hits_at(records, i, q, chunk_size) {
             return found(i);
         }
         i = i + 1;

@@ -1,8 +1,7 @@
 -- `table::load_or` meets its contract: a walk of its MIR, by hand. All that it knows of `load` and `blank_arena` is that each meets its contract.
 -- Assumes nothing.
 use mathlib.Core.Path.{_≡_, refl, sym, subst, _∙_}
-use Prim.Native.Nat.{ℕ, zero, suc, _<_, _≤_, _^_}
-use native.Mathlib.Nat.{not-suc-le-zero, le-of-suc-le-suc}
+use Prim.Native.Nat.{ℕ, _<_, _^_}
 use mathlib.Core.Bool.{Bool, true, false, not}
 use mathlib.Core.List.{List, [], _∷_}
 use lib.Dec.{T as Holds, ltb, ltb→lt, nltb→le, lit<}
@@ -41,6 +40,7 @@ use Rattle.table.proofs.Walk.{Loan, Known, shared, sliceOf}
 use Rattle.table.proofs.Locals.{enters, used, if-else}
 use Rattle.table.proofs.Calls.{in-seq}
 use Rattle.table.proofs.Frame.{DoneS, finishS, shr-meets}
+use Rattle.table.proofs.TableLaws.{past}
 use Rattle.table.proofs.Leaf.{Load, load-pass}
 use Rattle.table.proofs.Steps.{Blank, blank-step}
 use Rattle.table.proofs.load.Symbol as load-def
@@ -53,12 +53,6 @@ use Rattle.table.proofs.load_or.Key.{name as #table·load-or}
 use Rattle.table.proofs.load_or as load-or′
 use Rattle.table.proofs.load_or.Statement as stated
 use Rattle.table.proofs.load_or.Code as code
-
--- past the end of a list there is the default
-past : (l : List Arena) (i : ℕ) (d : Arena) → length l ≤ i → d ≡ getD l i d
-past [] i d h = refl
-past (x ∷ l) zero d h = absurd (not-suc-le-zero h)
-past (x ∷ l) (suc i) d h = past l i d (le-of-suc-le-suc h)
 
 module _ {M : Type 1} (𝓤 : URA M) (H : Heap 𝓤) (A : Atoms 𝓤) (W : Given 𝓤 H A) (mem : Memory → SProp 𝓤) (run : Routine → Fun 𝓤) (𝓣 : Tables 𝓤 H)
     (known-load : Triple 𝓤 (𝓣 .C #table·load) (Load 𝓤 H A mem run)) (known-blank : Triple 𝓤 (𝓣 .C #table·blank-arena) (Blank 𝓤 H A mem run)) where

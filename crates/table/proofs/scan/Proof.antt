@@ -31,7 +31,6 @@ use denote.Memory.{pointee}
 use denote.Plain.{uint-vals, uint-tells}
 use denote.Signature.{plain}
 use denote.Slice.{sliceTy}
-use denote.Struct.Laws as LL
 use denote.Triple.Spec.{Meets, tripleOf}
 use denote.Triple.Statement.{Triple}
 use denote.Triple.Table.{entered, cited}
@@ -42,24 +41,19 @@ use Rattle.runs.proofs.Found as F
 use Rattle.runs.proofs.Found.Laws as F′
 use Rattle.arena.specs.declared.Arena.{Arena}
 use Rattle.arena.proofs.Arena as T
-use Rattle.arena.proofs.Arena.Laws as T′
 use Rattle.layer.specs.Table.{at}
 use Rattle.judge.specs.declared.Query.{Query}
 use Rattle.judge.specs.Scan.{hit, scanOf}
 use Rattle.judge.proofs.Query as Q
 use Rattle.judge.proofs.Query.Laws as Q′
-use Rattle.judge.proofs.hit.Symbol as hit-def
-use Rattle.judge.proofs.hit.Symbol.{name as #judge·hit}
-use Rattle.judge.proofs.hit.Met as hit-thm
 use Rattle.table.proofs.Walk.{Loan, Known, shared, sliceOf}
 use Rattle.table.proofs.Locals.{Blocks, envOf, rooms, enters, used, room, if-else, tests, whiles}
 use Rattle.table.proofs.Calls.{in-seq}
 use Rattle.table.proofs.Frame.{DoneS, finishS, shr-meets}
-use Rattle.table.proofs.Leaf.{Find, Miss, Hits, found-step, nothing-step, hit-step}
-use Rattle.table.proofs.Steps.{LoadOr, load-or-pass}
-use Rattle.table.proofs.load_or.Symbol as load-def
-use Rattle.table.proofs.load_or.Symbol.{name as #table·load-or}
-use Rattle.table.proofs.load_or.Met as load-thm
+use Rattle.table.proofs.Leaf.{Find, Miss, HitsAt, found-step, nothing-step, hits-at-pass}
+use Rattle.table.proofs.hits_at.Symbol as hits-def
+use Rattle.table.proofs.hits_at.Symbol.{name as #table·hits-at}
+use Rattle.table.proofs.hits_at.Met as hits-thm
 use Rattle.table.proofs.found.Symbol as found-def
 use Rattle.table.proofs.found.Symbol.{name as #table·found}
 use Rattle.table.proofs.found.Met as found-thm
@@ -126,7 +120,7 @@ abbrev slice : Ty
 slice = sliceTy (tyRef (named 0) imm (pointee (T.the-row .written)))
 
 module _ {M : Type 1} (𝓤 : URA M) (H : Heap 𝓤) (A : Atoms 𝓤) (W : Given 𝓤 H A) (mem : Memory → SProp 𝓤) (run : Routine → Fun 𝓤) (𝓣 : Tables 𝓤 H)
-    (known-load : Triple 𝓤 (𝓣 .C #table·load-or) (LoadOr 𝓤 H A mem run)) (known-hit : Triple 𝓤 (𝓣 .C #judge·hit) (Hits 𝓤 H A mem run))
+    (known-hits : Triple 𝓤 (𝓣 .C #table·hits-at) (HitsAt 𝓤 H A mem run))
     (known-found : Triple 𝓤 (𝓣 .C #table·found) (Find 𝓤 H A mem run)) (known-nothing : Triple 𝓤 (𝓣 .C #table·nothing) (Miss 𝓤 H A mem run)) where
   module _ (κ : Lft) (q : Share) (γ : GName) (b o : ℕ) (ys : List Arena) (n S : ℕ) (query : Query) where
     abbrev L : Loan
@@ -158,28 +152,25 @@ module _ {M : Type 1} (𝓤 : URA M) (H : Heap 𝓤) (A : Atoms 𝓤) (W : Given
       turn : (s : State) → Sq W (I s) (runs (𝓣 .C) (𝓣 .Λ) En turn-1 (anyQ (afterTurn 𝓤 H (Below 𝓤 H A (λ (u v : State). u .k < v .k) I s) (afterBlock 𝓤 H (afterSeq 𝓤 H (Wp 𝓤 H (𝓣 .C) (𝓣 .Λ) En t-3 (atReturn 𝓤 H En Post)) (atReturn 𝓤 H En Post))))))
       unfolding afterTurn
       turn s =
-          let a : Arena = at ys (s .i) in
-          assigns ! (bin ! (load ! (from ! (stop !)) (look ! 11 refl)) (load ! (from ! (stop !)) (look ! 5 refl)) tt) (from ! (stop !)) (init ! 15 refl (tt, tt)) $
-          tests ! (load ! (from ! (stop !)) (look ! 15 refl))
+          assigns ! (bin ! (load ! (from ! (stop !)) (look ! 11 refl)) (load ! (from ! (stop !)) (look ! 5 refl)) tt) (from ! (stop !)) (init ! 13 refl (tt, tt)) $
+          tests ! (load ! (from ! (stop !)) (look ! 13 refl))
           (λ h. let lt : s .i < n = ltb→lt (s .i) n h in
           let fi : s .i < 2 ^ 64 = omega (arith, lt, fn) in
-          load-or-pass ! (in-seq ! (fmOf 𝓤 H (W .laws) 𝓣)) mem run known-load L ys (s .i) fi (λ _. and-then ! (load ! (from ! (stop !)) (look ! 3 refl)) (and-then ! (load ! (from ! (stop !)) (look ! 11 refl)) (no-more !))) (λ va ga.
-          land ! (from ! (stop !)) (init ! 13 refl (LL.lawful T.the-type T′.the-laws 𝓤 H A W .typed a (va ∷ []) ga .0)) $
-          hit-step ! (in-seq ! (fmOf 𝓤 H (W .laws) 𝓣)) mem run known-hit query mach gq (s .i) fi a va ga S fS lo hi
-          (λ _. and-then ! (load ! (from ! (stop !)) (look ! 9 refl)) (and-then ! (load ! (from ! (stop !)) (look ! 11 refl)) (and-then ! (load ! (from ! (stop !)) (look ! 13 refl)) (and-then ! (load ! (from ! (stop !)) (look ! 7 refl)) (no-more !))))) (
-          land ! (from ! (stop !)) (init ! 17 refl (tt, tt)) $
-          if-else ! (load ! (from ! (stop !)) (look ! 17 refl))
+          hits-at-pass ! (in-seq ! (fmOf 𝓤 H (W .laws) 𝓣)) mem run known-hits L ys (s .i) fi query mach gq S fS lo hi
+          (λ _. and-then ! (load ! (from ! (stop !)) (look ! 3 refl)) (and-then ! (load ! (from ! (stop !)) (look ! 11 refl)) (and-then ! (load ! (from ! (stop !)) (look ! 9 refl)) (and-then ! (load ! (from ! (stop !)) (look ! 7 refl)) (no-more !))))) (
+          land ! (from ! (stop !)) (init ! 15 refl (tt, tt)) $
+          if-else ! (load ! (from ! (stop !)) (look ! 15 refl))
           (λ w. found-step ! (in-seq ! (fmOf 𝓤 H (W .laws) 𝓣)) mem run known-found (s .i) fi (λ _. and-then ! (load ! (from ! (stop !)) (look ! 11 refl)) (no-more !)) (λ v g.
           land ! (from ! (stop !)) (init ! 1 refl (EL.lawful F.the-type F′.the-laws 𝓤 H A W tt .typed (At (s .i)) (v ∷ []) g .0)) $
-          returns-within ! Post refl (look ! 1 refl) $ used ! $ used ! $ used ! $ used ! $ used ! $ used ! $ used ! $ used ! $ used ! $ free0 ! $
+          returns-within ! Post refl (look ! 1 refl) $ used ! $ used ! $ used ! $ used ! $ used ! $ used ! $ used ! $ used ! $ free0 ! $
           finishS 𝓤 H A T.the-row L F.the-row ys χ W (‵ ftrue) v (At (s .i)) g (here S ys n query s lt w)))
           (λ w. assigns-last ! (bin ! (load ! (from ! (stop !)) (look ! 11 refl)) (lit ! tt) (record { fits = omega (arith, lt, fn) })) (from ! (stop !)) (store ! 11 refl (tt, record { fits = omega (arith, lt, fn) })) $
-          forget ! 13 refl $ forget ! 15 refl $ forget ! 17 refl $
-          again ! (λ (u v : State). u .k < v .k) I s (next S ys n query s lt w) (fewer S ys n query (s .k) (s .i) (s .ends) lt .0)))))
+          forget ! 13 refl $ forget ! 15 refl $
+          again ! (λ (u v : State). u .k < v .k) I s (next S ys n query s lt w) (fewer S ys n query (s .k) (s .i) (s .ends) lt .0))))
           (λ h. exec ! (𝓣 .C) (𝓣 .Λ) En t-3 (atRet En Post) $
           nothing-step ! (in-seq ! (fmOf 𝓤 H (W .laws) 𝓣)) mem run known-nothing (λ _. no-more !) (λ v g.
           land ! (from ! (stop !)) (init ! 1 refl (EL.lawful F.the-type F′.the-laws 𝓤 H A W tt .typed Nothing (v ∷ []) g .0)) $
-          returns ! (look ! 1 refl) $ used ! $ used ! $ used ! $ used ! $ used ! $ used ! $ room ! $ used ! $ room ! $ free0 ! $
+          returns ! (look ! 1 refl) $ used ! $ used ! $ used ! $ used ! $ used ! $ used ! $ used ! $ room ! $ free0 ! $
           finishS 𝓤 H A T.the-row L F.the-row ys χ W (‵ ftrue) v Nothing g (last S ys n query s h)))
 
     walk : Known T.the-row L ys → n < 2 ^ 64 → S < 2 ^ 64 → Is Q.the-row query (mach ∷ []) → 0 < S → S ≤ 4294967296
@@ -205,7 +196,6 @@ scan-spec 𝓤 H 𝓜 𝓖 𝓡 =
     entered 𝓤 H (tripleOf 𝓤 H (𝓖 .A) scan′.signature (scan′.spec 𝓤 H (𝓖 .A) (𝓜 .mem) (𝓡 .run)))
     (tables 𝓤 H 𝓜 𝓡 code.env .C) (tables 𝓤 H 𝓜 𝓡 code.env .Λ) #table·scan code.function (code.unfolded 𝓤 H 𝓜 𝓡)
     (scan-meets 𝓤 H (𝓖 .A) (givenOf 𝓤 H 𝓜 𝓖) (𝓜 .mem) (𝓡 .run) (tablesOf 𝓤 H 𝓜 (tables 𝓤 H 𝓜 𝓡 code.env))
-    (cited 𝓤 H (LoadOr 𝓤 H (𝓖 .A) (𝓜 .mem) (𝓡 .run)) 𝓜 𝓡 code.env #table·load-or load-def.routine code.calls-table·load-or (load-thm.met 𝓤 H 𝓜 𝓖 𝓡))
-    (cited 𝓤 H (Hits 𝓤 H (𝓖 .A) (𝓜 .mem) (𝓡 .run)) 𝓜 𝓡 code.env #judge·hit hit-def.routine code.calls-judge·hit (hit-thm.met 𝓤 H 𝓜 𝓖 𝓡))
+    (cited 𝓤 H (HitsAt 𝓤 H (𝓖 .A) (𝓜 .mem) (𝓡 .run)) 𝓜 𝓡 code.env #table·hits-at hits-def.routine code.calls-table·hits-at (hits-thm.met 𝓤 H 𝓜 𝓖 𝓡))
     (cited 𝓤 H (Find 𝓤 H (𝓖 .A) (𝓜 .mem) (𝓡 .run)) 𝓜 𝓡 code.env #table·found found-def.routine code.calls-table·found (found-thm.met 𝓤 H 𝓜 𝓖 𝓡))
     (cited 𝓤 H (Miss 𝓤 H (𝓖 .A) (𝓜 .mem) (𝓡 .run)) 𝓜 𝓡 code.env #table·nothing nothing-def.routine code.calls-table·nothing (nothing-thm.met 𝓤 H 𝓜 𝓖 𝓡)))

@@ -10,3 +10,4 @@ pub mod Keeps
 pub mod Outcomes
 pub mod Demand
 pub mod Consequences
+pub mod Opened

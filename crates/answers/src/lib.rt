@@ -179,12 +179,12 @@ pub fn commit_core(
             committed: true,
         };
         return Served {
-            arena: arena::finish_grant(a, s, n, true),
+            arena: arena_runs::finish_grant(a, s, n, true),
             reply: Reply { answer, state },
         };
     }
     Served {
-        arena: arena::give_back_run(a, s, n),
+        arena: arena_runs::give_back_run(a, s, n),
         reply: registers::turn_down(Refusal::CommitRefused, state),
     }
 }
@@ -219,7 +219,7 @@ pub fn purge_core(
     requires { ⌜ («chunk_size» ≤ 4294967296) × (a .chunks ≤ 1024) × (a .base + a .chunks * «chunk_size» < 2 ^ 64) × (id < 32) × (length (now stamps) ≡ 32768) × (j < 1024) × (w .purged ≤ 32768) ⌝ }
     ensures { λ r. ⌜ (r .arena ≡ stayArena (counted w granted) (returnChunk a j granted (w .decommit)) (stampsOf (now (stamps .entry)) id) (nextOf (counted w granted) (returnChunk a j granted (w .decommit)) (stampsOf (now (stamps .entry)) id) (j + 1))) × (r .asked ≡ isAsked (nextOf (counted w granted) (returnChunk a j granted (w .decommit)) (stampsOf (now (stamps .entry)) id) (j + 1))) × (r .reply ≡ stayReply «chunk_size» count mark (counted w granted) id (returnChunk a j granted (w .decommit)) (nextOf (counted w granted) (returnChunk a j granted (w .decommit)) (stampsOf (now (stamps .entry)) id) (j + 1))) ⌝ }
 {
-    let b = arena::return_chunk(a, j, granted, w.decommit);
+    let b = arena_sweeps::return_chunk(a, j, granted, w.decommit);
     let v = counted_sweep(w, granted);
     sweeps::go_on(b, stamps, id, v, j + 1, count, mark, chunk_size)
 }

@@ -1,14 +1,14 @@
 // A claim by value: what it answers, and what it makes of the record that the scan found. It knows no
 // table: the scan and the stores stand above.
 ghost use mathlib.Core.Path.{_≡_};
-ghost use mathlib.Core.Bool.{true, cond, not, _&&_};
+ghost use mathlib.Core.Bool.{true, cond, _&&_};
 ghost use Prim.Native.Nat.{ℕ, _+_, _*_, _^_, _<_, _≤_};
-ghost use lib.Dec.{eqb, leb};
+ghost use lib.Dec.{eqb};
 ghost use Rattle.refusals.specs.declared.Refusal.the-variants.{Zero, ArenasOff};
 ghost use Rattle.runs.specs.declared.Found.the-variants.{At};
 ghost use Rattle.lookup.specs.Soundness.{soundArena};
-ghost use Rattle.layer.specs.World.{stateOf, reply, turnDown, calm};
-ghost use Rattle.layer.specs.Claiming.{isNegative, grantArena, grantReply, missReply};
+ghost use Rattle.layer.specs.World.{reply, turnDown, calm};
+ghost use Rattle.layer.specs.Claiming.{grantArena, grantReply};
 ghost use Rattle.claims.specs.Core.{claimCount, searchArena, searchReply, claimReply};
 use arena::Arena;
 use layer::Answer;
@@ -25,25 +25,6 @@ use runs::Found;
 pub struct Served {
     pub arena: Arena,
     pub reply: Reply,
-}
-
-// An answer, and the state with the question that it leaves.
-fn answered(answer: Answer, k: usize, mark: bool, question: Question) -> Reply
-    ensures { λ r. ⌜ r ≡ reply answer (stateOf k mark question) ⌝ }
-{
-    let state = State {
-        count: k,
-        mark,
-        question,
-    };
-    Reply { answer, state }
-}
-
-// Turned down, with no question open.
-fn refuse(why: Refusal, k: usize, mark: bool) -> Reply
-    ensures { λ r. ⌜ r ≡ turnDown why (calm k mark) ⌝ }
-{
-    answered(Answer::Refused(why), k, mark, Question::Idle)
 }
 
 // ---- a grant
@@ -66,12 +47,12 @@ pub fn grant(
     let address = a.base + (s as u64) * chunk_size;
     let committed = lookup::run_committed(a, s, n);
     let fresh = lookup::run_fresh(a, s, n);
-    let taken = arena::take_run(a, s, n);
+    let taken = arena_runs::take_run(a, s, n);
     if commits && !committed {
         let bytes = (n as u64) * chunk_size;
         let ask = Ask::AskCommit { address, bytes };
         let question = Question::Committing { id, start: s, n };
-        let reply = answered(Answer::Asks(ask), k, mark, question);
+        let reply = claim_miss::answered(Answer::Asks(ask), k, mark, question);
         return Served {
             arena: taken,
             reply,
@@ -83,61 +64,9 @@ pub fn grant(
         committed,
     };
     Served {
-        arena: arena::dirty_run(taken, s, n),
-        reply: answered(answer, k, mark, Question::Idle),
+        arena: arena_runs::dirty_run(taken, s, n),
+        reply: claim_miss::answered(answer, k, mark, Question::Idle),
     }
-}
-
-// ---- a miss
-
-// Whether a miss may reserve: the claim names no arena, the default reserve is a chunk at least, and
-// reserves were not given up.
-fn may_reserve(id: i32, reserve: u64, mark: bool, chunk_size: u64) -> bool
-    ensures { λ r. ⌜ r ≡ (isNegative id && (leb «chunk_size» reserve && not mark)) ⌝ }
-{
-    if id >= 0 {
-        return false;
-    }
-    if reserve < chunk_size {
-        return false;
-    }
-    !mark
-}
-
-// No arena serves the claim: it waits for the default reserve, or there is no such run. A reserve that
-// cannot be asked for has failed, and is given up.
-pub fn miss(
-    id: i32,
-    n: usize,
-    commits: bool,
-    settings: Settings,
-    k: usize,
-    mark: bool,
-    chunk_size: u64,
-) -> Reply
-    requires { ⌜ (0 < «chunk_size») × («chunk_size» ≤ 4294967296) ⌝ }
-    ensures { λ r. ⌜ r ≡ missReply «chunk_size» k mark id n commits settings ⌝ }
-{
-    let reserve = settings.reserve;
-    let page = settings.page;
-    if !may_reserve(id, reserve, mark, chunk_size) {
-        return refuse(Refusal::NoRun, k, mark);
-    }
-    if reserving::too_large(reserve, chunk_size) {
-        return refuse(Refusal::NoRun, k, true);
-    }
-    let waiting = Waiting::Claim { n, commits };
-    reserving::ask_memory(
-        k,
-        mark,
-        reserve,
-        page,
-        false,
-        false,
-        false,
-        waiting,
-        chunk_size,
-    )
 }
 
 // ---- a claim
@@ -168,7 +97,7 @@ pub fn search_end(
                 Found::At(s) => grant(a, i, s, n, commits, k, mark, chunk_size),
                 Found::Nothing => Served {
                     arena: a,
-                    reply: refuse(Refusal::NoRun, k, mark),
+                    reply: claim_miss::refuse(Refusal::NoRun, k, mark),
                 },
             }
         }
@@ -200,10 +129,10 @@ fn own_reply(n: usize, allowed: bool, found: Reply, k: usize, mark: bool) -> Rep
     ensures { λ r. ⌜ r ≡ cond (eqb n 0) (turnDown Zero (calm k mark)) (cond allowed found (turnDown ArenasOff (calm k mark))) ⌝ }
 {
     if n == 0 {
-        return refuse(Refusal::Zero, k, mark);
+        return claim_miss::refuse(Refusal::Zero, k, mark);
     }
     if !allowed {
-        return refuse(Refusal::ArenasOff, k, mark);
+        return claim_miss::refuse(Refusal::ArenasOff, k, mark);
     }
     found
 }
@@ -226,7 +155,7 @@ pub fn claim_core(
     let k = state.count;
     let mark = state.mark;
     let allowed = options::arena_allowed(settings.off, id);
-    let missed = miss(id, n, commits, settings, k, mark, chunk_size);
+    let missed = claim_miss::miss(id, n, commits, settings, k, mark, chunk_size);
     let end = search_end(state, a, n, commits, missed, f, chunk_size);
     let arena = end.arena;
     let found = end.reply;

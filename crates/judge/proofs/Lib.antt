@@ -1,4 +1,3 @@
-pub mod RangeLaws
 pub mod ClaimLaws
 pub mod QuestionLaws
 pub mod HeadLaws

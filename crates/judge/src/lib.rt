@@ -1,5 +1,5 @@
 // What is judged of one record, by value: the queries of a scan over the table, and the open question.
-// The records may be any at all, so no sum or product that could wrap is taken over one.
+// The records may be any at all.
 ghost use mathlib.Core.Path.{_≡_};
 ghost use mathlib.Core.Bool.{_&&_};
 ghost use Prim.Native.Nat.{_+_, _*_, _<_, _≤_};
@@ -7,10 +7,8 @@ ghost use lib.Dec.{leb, ltb};
 ghost use Rattle.words.specs.Bits.{bitAt};
 ghost use Rattle.runs.specs.Lowest.{all};
 ghost use Rattle.arena.specs.Claiming.{findRun};
-ghost use Rattle.lookup.specs.Place.{isInside};
 ghost use Rattle.lookup.specs.Soundness.{soundRange};
-ghost use Rattle.layer.specs.Table.{isAt, meets, askedId, soundQuestion};
-ghost use Rattle.layer.specs.Registering.{grows};
+ghost use Rattle.layer.specs.Table.{isAt, askedId, soundQuestion};
 ghost use Rattle.layer.specs.Claiming.{eligible};
 ghost use Rattle.judge.specs.Scan.{hit};
 ghost use Rattle.judge.specs.Heads.{headed, asksMaps, headHit};
@@ -40,75 +38,6 @@ pub struct Head {
     pub chunks: usize,
     pub exclusive: bool,
     pub owned: bool,
-}
-
-// ---- ranges
-
-// Whether an address lies before the end of so many chunks from base on. The end is never computed.
-fn before_end(base: u64, chunks: usize, chunk_size: u64, address: u64) -> bool
-    requires { ⌜ 0 < «chunk_size» ⌝ }
-    ensures { λ r. ⌜ r ≡ ltb address (base + chunks * «chunk_size») ⌝ }
-{
-    if address < base {
-        return true;
-    }
-    (address - base) / chunk_size < (chunks as u64)
-}
-
-// Whether the arena shares an address with the range of so many bytes from base on.
-fn meets_range(a: Arena, chunk_size: u64, base: u64, bytes: u64) -> bool
-    requires { ⌜ (0 < «chunk_size») × («chunk_size» ≤ 4294967296) ⌝ }
-    ensures { λ r. ⌜ r ≡ meets «chunk_size» a base bytes ⌝ }
-{
-    let start = a.base;
-    if bytes == 0 {
-        return false;
-    }
-    if !before_end(start, a.chunks, chunk_size, base) {
-        return false;
-    }
-    if start < base {
-        return true;
-    }
-    start - base < bytes
-}
-
-// Whether an address lies in the arena.
-fn holds(a: Arena, chunk_size: u64, address: u64) -> bool
-    requires { ⌜ (0 < «chunk_size») × («chunk_size» ≤ 4294967296) ⌝ }
-    ensures { λ r. ⌜ r ≡ isInside «chunk_size» a address ⌝ }
-{
-    let base = a.base;
-    if address < base {
-        return false;
-    }
-    before_end(base, a.chunks, chunk_size, address)
-}
-
-// Whether a block of n chunks at an address continues the arena.
-fn grows_at(a: Arena, chunk_size: u64, address: u64, n: u64) -> bool
-    requires { ⌜ (0 < «chunk_size») × («chunk_size» ≤ 4294967296) ⌝ }
-    ensures { λ r. ⌜ r ≡ grows «chunk_size» a address n ⌝ }
-{
-    let base = a.base;
-    let chunks = a.chunks;
-    let exclusive = a.exclusive;
-    if !a.owned {
-        return false;
-    }
-    if exclusive {
-        return false;
-    }
-    if MOST_CHUNKS < chunks {
-        return false;
-    }
-    if ((MOST_CHUNKS - chunks) as u64) < n {
-        return false;
-    }
-    if address < base {
-        return false;
-    }
-    address - base == (chunks as u64) * chunk_size
 }
 
 // ---- claims
@@ -159,11 +88,11 @@ pub fn hit(q: Query, i: usize, a: Arena, chunk_size: u64) -> bool
     ensures { λ r. ⌜ r ≡ hit «chunk_size» q i a ⌝ }
 {
     match q {
-        Query::Unsound => !lookup::is_sound(a, chunk_size),
-        Query::Meets { base, bytes } => meets_range(a, chunk_size, base, bytes),
-        Query::Holds { address } => holds(a, chunk_size, address),
+        Query::Unsound => !soundness::is_sound(a, chunk_size),
+        Query::Meets { base, bytes } => ranges::meets_range(a, chunk_size, base, bytes),
+        Query::Holds { address } => ranges::holds(a, chunk_size, address),
         Query::Serves { id, n } => serves_claim(id, n, i, a),
-        Query::Grows { address, n } => grows_at(a, chunk_size, address, n),
+        Query::Grows { address, n } => ranges::grows_at(a, chunk_size, address, n),
     }
 }
 
@@ -192,7 +121,7 @@ fn has_tail(base: u64, chunks: usize, chunk_size: u64) -> bool
     requires { ⌜ (0 < «chunk_size») × («chunk_size» ≤ 4294967296) ⌝ }
     ensures { λ r. ⌜ r ≡ (soundRange «chunk_size» base chunks && ltb chunks 1024) ⌝ }
 {
-    if !lookup::range_is_sound(base, chunks, chunk_size) {
+    if !soundness::range_is_sound(base, chunks, chunk_size) {
         return false;
     }
     chunks < MOST_CHUNKS
@@ -228,11 +157,11 @@ pub fn hit_head(q: Query, i: usize, h: Head, chunk_size: u64) -> bool
     ensures { λ r. ⌜ r ≡ headHit «chunk_size» q i h ⌝ }
 {
     match q {
-        Query::Unsound => !lookup::range_is_sound(h.base, h.chunks, chunk_size),
-        Query::Meets { base, bytes } => meets_range(headed(h), chunk_size, base, bytes),
-        Query::Holds { address } => holds(headed(h), chunk_size, address),
+        Query::Unsound => !soundness::range_is_sound(h.base, h.chunks, chunk_size),
+        Query::Meets { base, bytes } => ranges::meets_range(headed(h), chunk_size, base, bytes),
+        Query::Holds { address } => ranges::holds(headed(h), chunk_size, address),
         Query::Serves { .. } => false,
-        Query::Grows { address, n } => grows_at(headed(h), chunk_size, address, n),
+        Query::Grows { address, n } => ranges::grows_at(headed(h), chunk_size, address, n),
     }
 }
 
@@ -263,7 +192,7 @@ fn run_is_used(a: Arena, start: usize, n: usize) -> bool
     if chunks - n < start {
         return false;
     }
-    runs::row_is_free(&a.used, false, start, n)
+    row_scans::row_is_free(&a.used, false, start, n)
 }
 
 // Whether the open question is one that can be open. The record is the asked arena's: sound, if it is

@@ -1,19 +1,11 @@
 // What one arena's record says, by value: the lowest run of free chunks, where an address lies, and
 // whether the record is sound. It knows no table and no other arena.
 ghost use mathlib.Core.Path.{_≡_};
-ghost use Prim.Native.Nat.{ℕ, _+_, _<_, _≤_};
+ghost use Prim.Native.Nat.{_+_, _<_, _≤_};
 ghost use Rattle.arena.specs.Claiming.{findRun, runCommitted, runFresh};
 ghost use Rattle.lookup.specs.Place.{placeOf, areaOf};
-ghost use Rattle.lookup.specs.Soundness.{soundRange, soundArena};
 use arena::Arena;
 use runs::Found;
-
-// The last address of all.
-const LAST: u64 = 18446744073709551615;
-
-const MOST_CHUNKS: usize = 1024;
-
-const WORDS: usize = 32;
 
 // Where an address lies to an arena: so many bytes past its base, or outside.
 pub enum Place {
@@ -43,7 +35,7 @@ pub fn run_committed(a: Arena, s: usize, n: usize) -> bool
     requires { ⌜ s + n ≤ 1024 ⌝ }
     ensures { λ r. ⌜ r ≡ runCommitted a s n ⌝ }
 {
-    runs::row_is_free(&a.committed, false, s, n)
+    row_scans::row_is_free(&a.committed, false, s, n)
 }
 
 // Whether no chunk of the run was dirty before.
@@ -51,7 +43,7 @@ pub fn run_fresh(a: Arena, s: usize, n: usize) -> bool
     requires { ⌜ s + n ≤ 1024 ⌝ }
     ensures { λ r. ⌜ r ≡ runFresh a s n ⌝ }
 {
-    runs::row_is_free(&a.dirty, true, s, n)
+    row_scans::row_is_free(&a.dirty, true, s, n)
 }
 
 // ---- the range
@@ -84,48 +76,3 @@ pub fn area_of(a: Arena, chunk_size: u64) -> Area
 }
 
 // ---- soundness
-
-// Whether an arena can have this range.
-pub fn range_is_sound(base: u64, chunks: usize, chunk_size: u64) -> bool
-    requires { ⌜ (0 < «chunk_size») × («chunk_size» ≤ 4294967296) ⌝ }
-    ensures { λ r. ⌜ r ≡ soundRange «chunk_size» base chunks ⌝ }
-{
-    if base == 0 {
-        return false;
-    }
-    if base % chunk_size != 0 {
-        return false;
-    }
-    if chunks < 1 {
-        return false;
-    }
-    if MOST_CHUNKS < chunks {
-        return false;
-    }
-    // The last byte lies before the last address, so the end is an address too.
-    (chunks as u64) * chunk_size - 1 < LAST - base
-}
-
-// Whether the record is sound by itself: its range, and no bit of a map at or past the last chunk. The
-// words from the last chunk's on are ored together, with no branch in the loop.
-pub fn is_sound(a: Arena, chunk_size: u64) -> bool
-    requires { ⌜ (0 < «chunk_size») × («chunk_size» ≤ 4294967296) ⌝ }
-    ensures { λ r. ⌜ r ≡ soundArena «chunk_size» a ⌝ }
-{
-    let chunks = a.chunks;
-    if !range_is_sound(a.base, chunks, chunk_size) {
-        return false;
-    }
-    let k = chunks / 32;
-    if k == WORDS {
-        return true;
-    }
-    let lo = (chunks % 32) as u32;
-    let mut acc = (a.used[k] | a.dirty[k] | a.committed[k] | a.pending[k]) >> lo;
-    let mut i = k + 1;
-    while i < WORDS {
-        acc = acc | a.used[i] | a.dirty[i] | a.committed[i] | a.pending[i];
-        i = i + 1;
-    }
-    acc == 0
-}

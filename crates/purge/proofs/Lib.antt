@@ -1,2 +1,2 @@
 pub mod StampLaws
-pub mod PurgeLaws
+pub mod DueLaws

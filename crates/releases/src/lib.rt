@@ -145,7 +145,7 @@ pub fn release_arena(
 {
     if is_granted(a, address, n, f, chunk_size) {
         let start = (offset_of(a, address) / chunk_size) as usize;
-        return arena::release_run(a, start, n, told, pending, ms, delay);
+        return arena_runs::release_run(a, start, n, told, pending, ms, delay);
     }
     a
 }

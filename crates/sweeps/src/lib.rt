@@ -82,7 +82,7 @@ pub fn go_on(
     let f = purge::next_asked_of(a, stamps, id, w.force, w.now, w.delay, from);
     match f {
         Found::At(j) => Stay {
-            arena: arena::borrow_chunk(a, j),
+            arena: arena_sweeps::borrow_chunk(a, j),
             asked: true,
             reply: purge_reply(count, mark, w, id, a, j, chunk_size),
         },
@@ -109,7 +109,7 @@ pub fn arrive(
 {
     if purge::sweep_due(a, w.force, w.now) {
         return go_on(
-            arena::disarm_arena(a),
+            arena_sweeps::disarm_arena(a),
             stamps,
             id,
             w,

@@ -55,18 +55,18 @@ use Rattle.table.proofs.load as load′
 use Rattle.table.proofs.load.Symbol.{name as #table·load}
 use Rattle.table.proofs.store as store′
 use Rattle.table.proofs.store.Symbol.{name as #table·store}
-use Rattle.table.proofs.found as found′
-use Rattle.table.proofs.found.Symbol.{name as #table·found}
-use Rattle.table.proofs.nothing as nothing′
-use Rattle.table.proofs.nothing.Symbol.{name as #table·nothing}
-use Rattle.table.proofs.is_at as is-at′
-use Rattle.table.proofs.is_at.Symbol.{name as #table·is-at}
-use Rattle.table.proofs.range_query as range′
-use Rattle.table.proofs.range_query.Symbol.{name as #table·range-query}
-use Rattle.table.proofs.unsound_query as unsound′
-use Rattle.table.proofs.unsound_query.Symbol.{name as #table·unsound-query}
-use Rattle.table.proofs.lent_sound as lent′
-use Rattle.table.proofs.lent_sound.Symbol.{name as #table·lent-sound}
+use Rattle.row_parts.proofs.found as found′
+use Rattle.row_parts.proofs.found.Symbol.{name as #row-parts·found}
+use Rattle.row_parts.proofs.nothing as nothing′
+use Rattle.row_parts.proofs.nothing.Symbol.{name as #row-parts·nothing}
+use Rattle.row_parts.proofs.is_at as is-at′
+use Rattle.row_parts.proofs.is_at.Symbol.{name as #row-parts·is-at}
+use Rattle.row_parts.proofs.range_query as range′
+use Rattle.row_parts.proofs.range_query.Symbol.{name as #row-parts·range-query}
+use Rattle.row_parts.proofs.unsound_query as unsound′
+use Rattle.row_parts.proofs.unsound_query.Symbol.{name as #row-parts·unsound-query}
+use Rattle.row_parts.proofs.lent_sound as lent′
+use Rattle.row_parts.proofs.lent_sound.Symbol.{name as #row-parts·lent-sound}
 use Rattle.judge.proofs.hit as hit′
 use Rattle.judge.proofs.hit.Symbol.{name as #judge·hit}
 use Rattle.judge.proofs.asked_id as asked′
@@ -162,7 +162,7 @@ module _ {M : Type 1} {𝓤 : URA M} {H : Heap 𝓤} {A : Atoms 𝓤} {K : Type 
       (λ _. owns-make 𝓤 H A (usize ∷ T.the-row ∷ []) (Ises (usize ∷ T.the-row ∷ [])) (uint-makes 𝓤 H A W w64, (LL.makes T.the-type T′.the-plain 𝓤 H A, tt)) (j, (a, tt)) (vint w64 j ∷ [], (va ∷ [], tt)) ((refl, fj), (ga, tt))) (λ _ _. tt) (λ _ _. factI 𝓤 _ (emp 𝓤) l)
       (λ r zs. zs ≡ set ys j a) (λ _ _ r ws. id⊢ 𝓤 _) (λ h _. ops h) (λ v r zs is e _. subst (λ (us : List Arena). Seq K W ((‵ (lent T.the-row L us) ⊛ i) ∷ Γ) (after v)) (sym e) (k v is))
 
-  pub found-step : K → Site K W Γ C E #table·found xs G after → (mem : Memory → SProp 𝓤) (run : Routine → Fun 𝓤) → Triple 𝓤 (C #table·found) (Find 𝓤 H A mem run)
+  pub found-step : K → Site K W Γ C E #row-parts·found xs G after → (mem : Memory → SProp 𝓤) (run : Routine → Fun 𝓤) → Triple 𝓤 (C #row-parts·found) (Find 𝓤 H A mem run)
       → (j : ℕ) → j < 2 ^ 64
       → ((h : Item 𝓤) → Opds K W (h ∷ Γ) E xs (vint w64 j ∷ []))
       → ((v : Val) → Is F.the-row (At j) (v ∷ []) → Seq K W (i ∷ Γ) (after v))
@@ -172,7 +172,7 @@ module _ {M : Type 1} {𝓤 : URA M} {H : Heap 𝓤} {A : Atoms 𝓤} {K : Type 
       (owns-make 𝓤 H A (usize ∷ []) (Ises (usize ∷ [])) (uint-makes 𝓤 H A W w64, tt) (j, tt) (vint w64 j ∷ [], tt) ((refl, fj), tt)) tt (id⊢ 𝓤 _)
       (λ r. r ≡ At j) (λ r ws. id⊢ 𝓤 _) ops (λ v r is e. k v (subst (λ (o : Found). Is F.the-row o (v ∷ [])) e is))
 
-  pub nothing-step : K → Site K W Γ C E #table·nothing xs G after → (mem : Memory → SProp 𝓤) (run : Routine → Fun 𝓤) → Triple 𝓤 (C #table·nothing) (Miss 𝓤 H A mem run)
+  pub nothing-step : K → Site K W Γ C E #row-parts·nothing xs G after → (mem : Memory → SProp 𝓤) (run : Routine → Fun 𝓤) → Triple 𝓤 (C #row-parts·nothing) (Miss 𝓤 H A mem run)
       → ((h : Item 𝓤) → Opds K W (h ∷ Γ) E xs ([]))
       → ((v : Val) → Is F.the-row (None) (v ∷ []) → Seq K W (i ∷ Γ) (after v))
       → Seq K W (i ∷ Γ) G
@@ -191,7 +191,7 @@ module _ {M : Type 1} {𝓤 : URA M} {H : Heap 𝓤} {A : Atoms 𝓤} {K : Type 
       (owns-make 𝓤 H A (Q.the-row ∷ usize ∷ T.the-row ∷ u64 ∷ []) (Ises (Q.the-row ∷ usize ∷ T.the-row ∷ u64 ∷ [])) (EL.makes Q.the-type Q′.the-plain 𝓤 H A, (uint-makes 𝓤 H A W w64, (LL.makes T.the-type T′.the-plain 𝓤 H A, (uint-makes 𝓤 H A W w64, tt)))) (q, (j, (a, (S, tt)))) (vq ∷ [], (vint w64 j ∷ [], (va ∷ [], (vint w64 S ∷ [], tt)))) (gq, ((refl, fj), (ga, ((refl, fS), tt))))) tt (factI 𝓤 _ (emp 𝓤) (pos, most))
       (λ r. r ≡ hit S q j a) (λ r ws. id⊢ 𝓤 _) ops (λ v r is e. subst (λ (u : Val). Seq K W (i ∷ Γ) (after u)) (sym (ap only (bool-tells r (v ∷ []) is) ∙ ap vbool e)) k)
 
-  pub is-at-step : K → Site K W Γ C E #table·is-at xs G after → (mem : Memory → SProp 𝓤) (run : Routine → Fun 𝓤) → Triple 𝓤 (C #table·is-at) (IsAt 𝓤 H A mem run)
+  pub is-at-step : K → Site K W Γ C E #row-parts·is-at xs G after → (mem : Memory → SProp 𝓤) (run : Routine → Fun 𝓤) → Triple 𝓤 (C #row-parts·is-at) (IsAt 𝓤 H A mem run)
       → (f : Found) (vf : Val) → Is F.the-row f (vf ∷ [])
       → ((h : Item 𝓤) → Opds K W (h ∷ Γ) E xs (vf ∷ []))
       → Seq K W (i ∷ Γ) (after (vbool (isAt f)))
@@ -201,7 +201,7 @@ module _ {M : Type 1} {𝓤 : URA M} {H : Heap 𝓤} {A : Atoms 𝓤} {K : Type 
       (owns-make 𝓤 H A (F.the-row ∷ []) (Ises (F.the-row ∷ [])) (EL.makes F.the-type F′.the-plain 𝓤 H A, tt) (f, tt) (vf ∷ [], tt) (gf, tt)) tt (id⊢ 𝓤 _)
       (λ r. r ≡ isAt f) (λ r ws. id⊢ 𝓤 _) ops (λ v r is e. subst (λ (u : Val). Seq K W (i ∷ Γ) (after u)) (sym (ap only (bool-tells r (v ∷ []) is) ∙ ap vbool e)) k)
 
-  pub range-step : K → Site K W Γ C E #table·range-query xs G after → (mem : Memory → SProp 𝓤) (run : Routine → Fun 𝓤) → Triple 𝓤 (C #table·range-query) (Range 𝓤 H A mem run)
+  pub range-step : K → Site K W Γ C E #row-parts·range-query xs G after → (mem : Memory → SProp 𝓤) (run : Routine → Fun 𝓤) → Triple 𝓤 (C #row-parts·range-query) (Range 𝓤 H A mem run)
       → (a : Arena) (va : Val) → Is T.the-row a (va ∷ []) → (S : ℕ) → S < 2 ^ 64 → a .chunks ≤ 1024 → S ≤ 4294967296
       → ((h : Item 𝓤) → Opds K W (h ∷ Γ) E xs (va ∷ vint w64 S ∷ []))
       → ((v : Val) → Is Q.the-row (Meets (a .base) (bytesOf S a)) (v ∷ []) → Seq K W (i ∷ Γ) (after v))
@@ -211,7 +211,7 @@ module _ {M : Type 1} {𝓤 : URA M} {H : Heap 𝓤} {A : Atoms 𝓤} {K : Type 
       (owns-make 𝓤 H A (T.the-row ∷ u64 ∷ []) (Ises (T.the-row ∷ u64 ∷ [])) (LL.makes T.the-type T′.the-plain 𝓤 H A, (uint-makes 𝓤 H A W w64, tt)) (a, (S, tt)) (va ∷ [], (vint w64 S ∷ [], tt)) (ga, ((refl, fS), tt))) tt (factI 𝓤 _ (emp 𝓤) (few, most))
       (λ r. r ≡ Meets (a .base) (bytesOf S a)) (λ r ws. id⊢ 𝓤 _) ops (λ v r is e. k v (subst (λ (o : Query). Is Q.the-row o (v ∷ [])) e is))
 
-  pub unsound-step : K → Site K W Γ C E #table·unsound-query xs G after → (mem : Memory → SProp 𝓤) (run : Routine → Fun 𝓤) → Triple 𝓤 (C #table·unsound-query) (Unsounds 𝓤 H A mem run)
+  pub unsound-step : K → Site K W Γ C E #row-parts·unsound-query xs G after → (mem : Memory → SProp 𝓤) (run : Routine → Fun 𝓤) → Triple 𝓤 (C #row-parts·unsound-query) (Unsounds 𝓤 H A mem run)
       → ((h : Item 𝓤) → Opds K W (h ∷ Γ) E xs ([]))
       → ((v : Val) → Is Q.the-row (Unsound) (v ∷ []) → Seq K W (i ∷ Γ) (after v))
       → Seq K W (i ∷ Γ) G
@@ -220,7 +220,7 @@ module _ {M : Type 1} {𝓤 : URA M} {H : Heap 𝓤} {A : Atoms 𝓤} {K : Type 
       (id⊢ 𝓤 _) tt (id⊢ 𝓤 _)
       (λ r. r ≡ Unsound) (λ r ws. id⊢ 𝓤 _) ops (λ v r is e. k v (subst (λ (o : Query). Is Q.the-row o (v ∷ [])) e is))
 
-  pub lent-step : K → Site K W Γ C E #table·lent-sound xs G after → (mem : Memory → SProp 𝓤) (run : Routine → Fun 𝓤) → Triple 𝓤 (C #table·lent-sound) (Lent 𝓤 H A mem run)
+  pub lent-step : K → Site K W Γ C E #row-parts·lent-sound xs G after → (mem : Memory → SProp 𝓤) (run : Routine → Fun 𝓤) → Triple 𝓤 (C #row-parts·lent-sound) (Lent 𝓤 H A mem run)
       → (len : ℕ) → len < 2 ^ 64 → (stamps : ℕ) → stamps < 2 ^ 64 → (page : ℕ) → page < 2 ^ 64 → (n : ℕ) → n < 2 ^ 64
       → ((h : Item 𝓤) → Opds K W (h ∷ Γ) E xs (vint w64 len ∷ vint w64 stamps ∷ vint w64 page ∷ vint w64 n ∷ []))
       → Seq K W (i ∷ Γ) (after (vbool (eqb len 32 && (eqb stamps 32768 && (pageSizeSound page && leb n 32)))))

@@ -1,14 +1,13 @@
 -- What row 1 says of the table, as the code tests it: by scans. S is the size of a chunk. Assumes nothing.
-use mathlib.Core.Path.{_≡_, refl, sym, ap, ap₂, _∙_}
+use mathlib.Core.Path.{_≡_, refl, sym, ap, _∙_}
 use mathlib.Core.Bool.{Bool, true, false, not, cond, _&&_}
 use mathlib.Core.List.{List, [], _∷_}
-use Prim.Native.Nat.{ℕ, zero, suc, _+_, _<_, _≤_}
+use Prim.Native.Nat.{ℕ, zero, suc, _<_, _≤_}
 use native.Mathlib.Omega.{arith}
 use native.Mathlib.Nat.{not-suc-le-zero, le-of-suc-le-suc}
 use lib.Dec.{eqb, leb}
 use lib.ListN.{length, getD}
-use Rattle.runs.specs.declared.Found.{Found}
-use Rattle.runs.specs.declared.Found.the-variants.{At, Nothing}
+use Rattle.runs.specs.declared.Found.the-variants.{At}
 use Rattle.runs.specs.Lowest.{all, least}
 use Rattle.runs.proofs.LowestLaws.{all-free-of}
 use Rattle.options.specs.Options.{pageSizeSound}
@@ -21,20 +20,6 @@ use Rattle.layer.specs.Table.{at, isAt, overlaps, apart, askedId, soundQuestion
 use Rattle.judge.specs.declared.Query.{Query}
 use Rattle.judge.specs.declared.Query.the-variants.{Unsound, Meets}
 use Rattle.judge.specs.Scan.{hit, scanOf}
-
--- ---- four tests in a row
-
-pub and-1 : (a b c d : Bool) → a ≡ false → false ≡ a && (b && (c && d))
-and-1 a b c d p = sym (ap (λ (t : Bool). t && (b && (c && d))) p)
-
-pub and-2 : (a b c d : Bool) → a ≡ true → b ≡ false → false ≡ a && (b && (c && d))
-and-2 a b c d p q = sym (ap₂ (λ (s t : Bool). s && (t && (c && d))) p q)
-
-pub and-3 : (a b c d : Bool) → a ≡ true → b ≡ true → c ≡ false → false ≡ a && (b && (c && d))
-and-3 a b c d p q r = sym (ap₂ (λ (s t : Bool). s && (t && (c && d))) p q ∙ ap (λ (t : Bool). t && d) r)
-
-pub and-4 : (a b c d : Bool) → a ≡ true → b ≡ true → c ≡ true → d ≡ a && (b && (c && d))
-and-4 a b c d p q r = sym (ap₂ (λ (s t : Bool). s && (t && (c && d))) p q ∙ ap (λ (t : Bool). t && d) r)
 
 -- ---- sound records
 

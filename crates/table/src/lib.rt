@@ -1,18 +1,13 @@
 // The lent table of records: the few functions that reach into the slice, and the one scan over it that
 // serves every question. All decisions on one record are made by value, in the crates below.
 ghost use mathlib.Core.Path.{_≡_};
-ghost use mathlib.Core.Bool.{true, _&&_};
-ghost use Prim.Native.Nat.{ℕ, _<_, _≤_};
-ghost use lib.Dec.{eqb, leb};
+ghost use mathlib.Core.Bool.{true};
+ghost use Prim.Native.Nat.{_<_, _≤_};
 ghost use lib.ListN.{length, getD, set};
-ghost use Rattle.runs.specs.declared.Found.the-variants.{At, Nothing};
 ghost use Rattle.runs.specs.Lowest.{all};
-ghost use Rattle.options.specs.Options.{pageSizeSound};
-ghost use Rattle.lookup.specs.Place.{bytesOf};
 ghost use Rattle.lookup.specs.Soundness.{soundArena};
 ghost use Rattle.layer.specs.World.{blank};
-ghost use Rattle.layer.specs.Table.{at, isAt, apart, soundLent};
-ghost use Rattle.judge.specs.declared.Query.the-variants.{Unsound, Meets};
+ghost use Rattle.layer.specs.Table.{at, apart, soundLent};
 ghost use Rattle.judge.specs.Heads.{headOf};
 ghost use Rattle.judge.specs.Scan.{hit, scanOf};
 use arena::Arena;
@@ -118,19 +113,6 @@ pub fn store_if(records: &mut [Arena], id: usize, a: Arena)
 
 // ---- the scan
 
-// The answers of a scan.
-fn found(i: usize) -> Found
-    ensures { λ r. ⌜ r ≡ At i ⌝ }
-{
-    Found::At(i)
-}
-
-fn nothing() -> Found
-    ensures { λ r. ⌜ r ≡ Nothing ⌝ }
-{
-    Found::Nothing
-}
-
 // Whether the query hits the record at id i, which is copied only where the maps are asked.
 fn hits_at(records: &[Arena], i: usize, q: Query, chunk_size: u64) -> bool
     requires { ⌜ (0 < «chunk_size») × («chunk_size» ≤ 4294967296) ⌝ }
@@ -152,36 +134,14 @@ pub fn scan(records: &[Arena], k: usize, chunk_size: u64, q: Query) -> Found
     let mut i = 0;
     while i < k {
         if hits_at(records, i, q, chunk_size) {
-            return found(i);
+            return row_parts::found(i);
         }
         i = i + 1;
     }
-    nothing()
+    row_parts::nothing()
 }
 
 // ---- row 1
-
-// Whether a scan found a record.
-fn is_at(f: Found) -> bool
-    ensures { λ r. ⌜ r ≡ isAt f ⌝ }
-{
-    match f {
-        Found::At(_) => true,
-        Found::Nothing => false,
-    }
-}
-
-// What meets the range of a record.
-fn range_query(a: Arena, chunk_size: u64) -> Query
-    requires { ⌜ (a .chunks ≤ 1024) × («chunk_size» ≤ 4294967296) ⌝ }
-    ensures { λ r. ⌜ r ≡ Meets (a .base) (bytesOf «chunk_size» a) ⌝ }
-{
-    let area = lookup::area_of(a, chunk_size);
-    Query::Meets {
-        base: area.base,
-        bytes: area.bytes,
-    }
-}
 
 // Whether the first k arenas, each sound by itself, share no address.
 pub fn apart_table(records: &[Arena], k: usize, chunk_size: u64) -> bool
@@ -191,9 +151,9 @@ pub fn apart_table(records: &[Arena], k: usize, chunk_size: u64) -> bool
     let mut j = 0;
     while j < k {
         let a = load_or(records, j);
-        let q = range_query(a, chunk_size);
+        let q = row_parts::range_query(a, chunk_size);
         let f = scan(records, j, chunk_size, q);
-        if is_at(f) {
+        if row_parts::is_at(f) {
             return false;
         }
         j = j + 1;
@@ -201,40 +161,17 @@ pub fn apart_table(records: &[Arena], k: usize, chunk_size: u64) -> bool
     true
 }
 
-// What is not sound by itself.
-fn unsound_query() -> Query
-    ensures { λ r. ⌜ r ≡ Unsound ⌝ }
-{
-    Query::Unsound
-}
-
-// Whether the lengths, the page size and the count are sound.
-fn lent_sound(len: usize, stamps: usize, page: u64, count: usize) -> bool
-    ensures { λ r. ⌜ r ≡ (eqb len 32 && (eqb stamps 32768 && (pageSizeSound page && leb count 32))) ⌝ }
-{
-    if len != 32 {
-        return false;
-    }
-    if stamps != 32768 {
-        return false;
-    }
-    if !options::page_size_sound(page) {
-        return false;
-    }
-    count <= 32
-}
-
 // What row 1 lets pass, of so many stamps.
 pub fn row_one(records: &[Arena], stamps: usize, state: State, page: u64, chunk_size: u64) -> bool
     requires { ⌜ (0 < «chunk_size») × («chunk_size» ≤ 4294967296) ⌝ }
     ensures { λ r. ⌜ r ≡ soundLent «chunk_size» (now (records .entry)) stamps state page ⌝ }
 {
-    if !lent_sound(records.len(), stamps, page, state.count) {
+    if !row_parts::lent_sound(records.len(), stamps, page, state.count) {
         return false;
     }
-    let q = unsound_query();
+    let q = row_parts::unsound_query();
     let f = scan(records, state.count, chunk_size, q);
-    if is_at(f) {
+    if row_parts::is_at(f) {
         return false;
     }
     if !apart_table(records, state.count, chunk_size) {

@@ -1,7 +1,7 @@
 -- `purge::sweep_due` meets its contract. Assumes nothing.
 use mathlib.Core.Path.{_∙_}
 use borrow.Author.Needs.{needs}
-use Rattle.purge.proofs.PurgeLaws.{due-never, due-forced, due-by-clock}
+use Rattle.purge.proofs.DueLaws.{due-never, due-forced, due-by-clock}
 use Rattle.purge.proofs.sweep_due.Statement.{statement}
 use Rattle.purge.proofs.sweep_due.Tie as tie
 

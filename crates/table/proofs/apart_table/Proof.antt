@@ -57,15 +57,15 @@ use Rattle.judge.specs.Scan.{scanOf}
 use Rattle.table.proofs.TableLaws.{few-at, meeting, clears, apart-is}
 use Rattle.table.proofs.Leaf.{Range, IsAt, range-step, is-at-step}
 use Rattle.table.proofs.Steps.{LoadOr, Scan, load-or-pass, scan-pass}
-use Rattle.table.proofs.range_query.Symbol as range-def
-use Rattle.table.proofs.range_query.Symbol.{name as #table·range-query}
-use Rattle.table.proofs.range_query.Met as range-thm
+use Rattle.row_parts.proofs.range_query.Symbol as range-def
+use Rattle.row_parts.proofs.range_query.Symbol.{name as #row-parts·range-query}
+use Rattle.row_parts.proofs.range_query.Met as range-thm
 use Rattle.table.proofs.scan.Symbol as scan-def
 use Rattle.table.proofs.scan.Symbol.{name as #table·scan}
 use Rattle.table.proofs.scan.Met as scan-thm
-use Rattle.table.proofs.is_at.Symbol as is-at-def
-use Rattle.table.proofs.is_at.Symbol.{name as #table·is-at}
-use Rattle.table.proofs.is_at.Met as is-at-thm
+use Rattle.row_parts.proofs.is_at.Symbol as is-at-def
+use Rattle.row_parts.proofs.is_at.Symbol.{name as #row-parts·is-at}
+use Rattle.row_parts.proofs.is_at.Met as is-at-thm
 use Rattle.table.proofs.apart_table.Key.{name as #table·apart-table}
 use Rattle.table.proofs.apart_table as apart′
 use Rattle.table.proofs.apart_table.Statement as stated
@@ -122,8 +122,8 @@ abbrev slice : Ty
 slice = sliceTy (tyRef (named 0) imm (pointee (T.the-row .written)))
 
 module _ {M : Type 1} (𝓤 : URA M) (H : Heap 𝓤) (A : Atoms 𝓤) (W : Given 𝓤 H A) (mem : Memory → SProp 𝓤) (run : Routine → Fun 𝓤) (𝓣 : Tables 𝓤 H)
-    (known-load : Triple 𝓤 (𝓣 .C #table·load-or) (LoadOr 𝓤 H A mem run)) (known-range : Triple 𝓤 (𝓣 .C #table·range-query) (Range 𝓤 H A mem run))
-    (known-scan : Triple 𝓤 (𝓣 .C #table·scan) (Scan 𝓤 H A mem run)) (known-is-at : Triple 𝓤 (𝓣 .C #table·is-at) (IsAt 𝓤 H A mem run)) where
+    (known-load : Triple 𝓤 (𝓣 .C #table·load-or) (LoadOr 𝓤 H A mem run)) (known-range : Triple 𝓤 (𝓣 .C #row-parts·range-query) (Range 𝓤 H A mem run))
+    (known-scan : Triple 𝓤 (𝓣 .C #table·scan) (Scan 𝓤 H A mem run)) (known-is-at : Triple 𝓤 (𝓣 .C #row-parts·is-at) (IsAt 𝓤 H A mem run)) where
   module _ (κ : Lft) (q : Share) (γ : GName) (b o : ℕ) (ys : List Arena) (n S : ℕ) where
     abbrev L : Loan
     L = record { κ = κ; q = q; γ = γ; b = b; o = o; n = length ys }
@@ -202,6 +202,6 @@ apart-table-spec 𝓤 H 𝓜 𝓖 𝓡 =
     (tables 𝓤 H 𝓜 𝓡 code.env .C) (tables 𝓤 H 𝓜 𝓡 code.env .Λ) #table·apart-table code.function (code.unfolded 𝓤 H 𝓜 𝓡)
     (apart-meets 𝓤 H (𝓖 .A) (givenOf 𝓤 H 𝓜 𝓖) (𝓜 .mem) (𝓡 .run) (tablesOf 𝓤 H 𝓜 (tables 𝓤 H 𝓜 𝓡 code.env))
     (cited 𝓤 H (LoadOr 𝓤 H (𝓖 .A) (𝓜 .mem) (𝓡 .run)) 𝓜 𝓡 code.env #table·load-or load-def.routine code.calls-table·load-or (load-thm.met 𝓤 H 𝓜 𝓖 𝓡))
-    (cited 𝓤 H (Range 𝓤 H (𝓖 .A) (𝓜 .mem) (𝓡 .run)) 𝓜 𝓡 code.env #table·range-query range-def.routine code.calls-table·range-query (range-thm.met 𝓤 H 𝓜 𝓖 𝓡))
+    (cited 𝓤 H (Range 𝓤 H (𝓖 .A) (𝓜 .mem) (𝓡 .run)) 𝓜 𝓡 code.env #row-parts·range-query range-def.routine code.calls-row-parts·range-query (range-thm.met 𝓤 H 𝓜 𝓖 𝓡))
     (cited 𝓤 H (Scan 𝓤 H (𝓖 .A) (𝓜 .mem) (𝓡 .run)) 𝓜 𝓡 code.env #table·scan scan-def.routine code.calls-table·scan (scan-thm.met 𝓤 H 𝓜 𝓖 𝓡))
-    (cited 𝓤 H (IsAt 𝓤 H (𝓖 .A) (𝓜 .mem) (𝓡 .run)) 𝓜 𝓡 code.env #table·is-at is-at-def.routine code.calls-table·is-at (is-at-thm.met 𝓤 H 𝓜 𝓖 𝓡)))
+    (cited 𝓤 H (IsAt 𝓤 H (𝓖 .A) (𝓜 .mem) (𝓡 .run)) 𝓜 𝓡 code.env #row-parts·is-at is-at-def.routine code.calls-row-parts·is-at (is-at-thm.met 𝓤 H 𝓜 𝓖 𝓡)))

@@ -49,9 +49,9 @@ use Rattle.table.proofs.load_or.Met as load-thm
 use Rattle.table.proofs.scan.Symbol as scan-def
 use Rattle.table.proofs.scan.Symbol.{name as #table·scan}
 use Rattle.table.proofs.scan.Met as scan-thm
-use Rattle.table.proofs.is_at.Symbol as is-at-def
-use Rattle.table.proofs.is_at.Symbol.{name as #table·is-at}
-use Rattle.table.proofs.is_at.Met as is-at-thm
+use Rattle.row_parts.proofs.is_at.Symbol as is-at-def
+use Rattle.row_parts.proofs.is_at.Symbol.{name as #row-parts·is-at}
+use Rattle.row_parts.proofs.is_at.Met as is-at-thm
 use Rattle.runs.specs.declared.Found.{Found}
 use Rattle.runs.specs.Lowest.{all}
 use Rattle.options.specs.Options.{pageSizeSound}
@@ -66,12 +66,12 @@ use Rattle.table.proofs.Locals.{enters, used, room, if-else}
 use Rattle.table.proofs.TableLaws.{sounds-scan, few-at, row-is}
 use Rattle.table.proofs.Leaf.{IsAt, Unsounds, Lent, Asked, Questions, is-at-step, unsound-step, lent-step, asked-step, question-step}
 use Rattle.table.proofs.Steps.{LoadOr, Scan, Apart, load-or-pass, scan-pass, apart-pass}
-use Rattle.table.proofs.unsound_query.Symbol as unsound-def
-use Rattle.table.proofs.unsound_query.Symbol.{name as #table·unsound-query}
-use Rattle.table.proofs.unsound_query.Met as unsound-thm
-use Rattle.table.proofs.lent_sound.Symbol as lent-def
-use Rattle.table.proofs.lent_sound.Symbol.{name as #table·lent-sound}
-use Rattle.table.proofs.lent_sound.Met as lent-thm
+use Rattle.row_parts.proofs.unsound_query.Symbol as unsound-def
+use Rattle.row_parts.proofs.unsound_query.Symbol.{name as #row-parts·unsound-query}
+use Rattle.row_parts.proofs.unsound_query.Met as unsound-thm
+use Rattle.row_parts.proofs.lent_sound.Symbol as lent-def
+use Rattle.row_parts.proofs.lent_sound.Symbol.{name as #row-parts·lent-sound}
+use Rattle.row_parts.proofs.lent_sound.Met as lent-thm
 use Rattle.table.proofs.apart_table.Symbol as apart-def
 use Rattle.table.proofs.apart_table.Symbol.{name as #table·apart-table}
 use Rattle.table.proofs.apart_table.Met as apart-thm
@@ -124,8 +124,8 @@ goes-4 true false false r h i j = absurd j
 goes-4 false b c r h i j = absurd h
 
 module _ {M : Type 1} (𝓤 : URA M) (H : Heap 𝓤) (A : Atoms 𝓤) (W : Given 𝓤 H A) (mem : Memory → SProp 𝓤) (run : Routine → Fun 𝓤) (𝓣 : Tables 𝓤 H)
-    (known-lent : Triple 𝓤 (𝓣 .C #table·lent-sound) (Lent 𝓤 H A mem run)) (known-unsound : Triple 𝓤 (𝓣 .C #table·unsound-query) (Unsounds 𝓤 H A mem run))
-    (known-scan : Triple 𝓤 (𝓣 .C #table·scan) (Scan 𝓤 H A mem run)) (known-is-at : Triple 𝓤 (𝓣 .C #table·is-at) (IsAt 𝓤 H A mem run))
+    (known-lent : Triple 𝓤 (𝓣 .C #row-parts·lent-sound) (Lent 𝓤 H A mem run)) (known-unsound : Triple 𝓤 (𝓣 .C #row-parts·unsound-query) (Unsounds 𝓤 H A mem run))
+    (known-scan : Triple 𝓤 (𝓣 .C #table·scan) (Scan 𝓤 H A mem run)) (known-is-at : Triple 𝓤 (𝓣 .C #row-parts·is-at) (IsAt 𝓤 H A mem run))
     (known-apart : Triple 𝓤 (𝓣 .C #table·apart-table) (Apart 𝓤 H A mem run)) (known-asked : Triple 𝓤 (𝓣 .C #judge·asked-id) (Asked 𝓤 H A mem run))
     (known-load : Triple 𝓤 (𝓣 .C #table·load-or) (LoadOr 𝓤 H A mem run)) (known-question : Triple 𝓤 (𝓣 .C #judge·question-sound) (Questions 𝓤 H A mem run)) where
   module _ (κ : Lft) (q : Share) (γ : GName) (b o : ℕ) (ys : List Arena) (stamps : ℕ) (state : State) (page S : ℕ) where
@@ -218,10 +218,10 @@ row-one-spec 𝓤 H 𝓜 𝓖 𝓡 =
     entered 𝓤 H (tripleOf 𝓤 H (𝓖 .A) row′.signature (row′.spec 𝓤 H (𝓖 .A) (𝓜 .mem) (𝓡 .run)))
     (tables 𝓤 H 𝓜 𝓡 code.env .C) (tables 𝓤 H 𝓜 𝓡 code.env .Λ) #table·row-one code.function (code.unfolded 𝓤 H 𝓜 𝓡)
     (row-meets 𝓤 H (𝓖 .A) (givenOf 𝓤 H 𝓜 𝓖) (𝓜 .mem) (𝓡 .run) (tablesOf 𝓤 H 𝓜 (tables 𝓤 H 𝓜 𝓡 code.env))
-    (cited 𝓤 H (Lent 𝓤 H (𝓖 .A) (𝓜 .mem) (𝓡 .run)) 𝓜 𝓡 code.env #table·lent-sound lent-def.routine code.calls-table·lent-sound (lent-thm.met 𝓤 H 𝓜 𝓖 𝓡))
-    (cited 𝓤 H (Unsounds 𝓤 H (𝓖 .A) (𝓜 .mem) (𝓡 .run)) 𝓜 𝓡 code.env #table·unsound-query unsound-def.routine code.calls-table·unsound-query (unsound-thm.met 𝓤 H 𝓜 𝓖 𝓡))
+    (cited 𝓤 H (Lent 𝓤 H (𝓖 .A) (𝓜 .mem) (𝓡 .run)) 𝓜 𝓡 code.env #row-parts·lent-sound lent-def.routine code.calls-row-parts·lent-sound (lent-thm.met 𝓤 H 𝓜 𝓖 𝓡))
+    (cited 𝓤 H (Unsounds 𝓤 H (𝓖 .A) (𝓜 .mem) (𝓡 .run)) 𝓜 𝓡 code.env #row-parts·unsound-query unsound-def.routine code.calls-row-parts·unsound-query (unsound-thm.met 𝓤 H 𝓜 𝓖 𝓡))
     (cited 𝓤 H (Scan 𝓤 H (𝓖 .A) (𝓜 .mem) (𝓡 .run)) 𝓜 𝓡 code.env #table·scan scan-def.routine code.calls-table·scan (scan-thm.met 𝓤 H 𝓜 𝓖 𝓡))
-    (cited 𝓤 H (IsAt 𝓤 H (𝓖 .A) (𝓜 .mem) (𝓡 .run)) 𝓜 𝓡 code.env #table·is-at is-at-def.routine code.calls-table·is-at (is-at-thm.met 𝓤 H 𝓜 𝓖 𝓡))
+    (cited 𝓤 H (IsAt 𝓤 H (𝓖 .A) (𝓜 .mem) (𝓡 .run)) 𝓜 𝓡 code.env #row-parts·is-at is-at-def.routine code.calls-row-parts·is-at (is-at-thm.met 𝓤 H 𝓜 𝓖 𝓡))
     (cited 𝓤 H (Apart 𝓤 H (𝓖 .A) (𝓜 .mem) (𝓡 .run)) 𝓜 𝓡 code.env #table·apart-table apart-def.routine code.calls-table·apart-table (apart-thm.met 𝓤 H 𝓜 𝓖 𝓡))
     (cited 𝓤 H (Asked 𝓤 H (𝓖 .A) (𝓜 .mem) (𝓡 .run)) 𝓜 𝓡 code.env #judge·asked-id asked-def.routine code.calls-judge·asked-id (asked-thm.met 𝓤 H 𝓜 𝓖 𝓡))
     (cited 𝓤 H (LoadOr 𝓤 H (𝓖 .A) (𝓜 .mem) (𝓡 .run)) 𝓜 𝓡 code.env #table·load-or load-def.routine code.calls-table·load-or (load-thm.met 𝓤 H 𝓜 𝓖 𝓡))

@@ -14,12 +14,9 @@ use Rattle.runs.proofs.LowestLaws.{lowest-is}
 use Rattle.arena.specs.declared.Arena.{Arena}
 use Rattle.arena.specs.Claiming.{free, findRun}
 use Rattle.layer.specs.Claiming.{eligible}
+use Rattle.open_question.proofs.QuestionLaws.{no-first}
 
 -- ---- three tests, one after the other
-
-pub no-first : (x y : Bool) → x ≡ false → false ≡ x && y
-no-first true y e = absurd (true≢false e)
-no-first false y e = refl
 
 pub no-second : (x y z : Bool) → x ≡ true → y ≡ false → false ≡ x && (y && z)
 no-second true y z e f = no-first y z f

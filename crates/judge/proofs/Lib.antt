@@ -1,3 +1,2 @@
 pub mod ClaimLaws
-pub mod QuestionLaws
 pub mod HeadLaws

@@ -1,14 +1,13 @@
-// What is judged of one record, by value: the queries of a scan over the table, and the open question.
+// What is judged of one record, by value: the queries of a scan over the table.
 // The records may be any at all.
 ghost use mathlib.Core.Path.{_≡_};
 ghost use mathlib.Core.Bool.{_&&_};
-ghost use Prim.Native.Nat.{_+_, _*_, _<_, _≤_};
+ghost use Prim.Native.Nat.{_<_, _≤_};
 ghost use lib.Dec.{leb, ltb};
-ghost use Rattle.words.specs.Bits.{bitAt};
 ghost use Rattle.runs.specs.Lowest.{all};
 ghost use Rattle.arena.specs.Claiming.{findRun};
 ghost use Rattle.lookup.specs.Soundness.{soundRange};
-ghost use Rattle.layer.specs.Table.{isAt, askedId, soundQuestion};
+ghost use Rattle.layer.specs.Table.{isAt};
 ghost use Rattle.layer.specs.Claiming.{eligible};
 ghost use Rattle.judge.specs.Scan.{hit};
 ghost use Rattle.judge.specs.Heads.{headed, asksMaps, headHit};
@@ -162,63 +161,5 @@ pub fn hit_head(q: Query, i: usize, h: Head, chunk_size: u64) -> bool
         Query::Holds { address } => ranges::holds(headed(h), chunk_size, address),
         Query::Serves { .. } => false,
         Query::Grows { address, n } => ranges::grows_at(headed(h), chunk_size, address, n),
-    }
-}
-
-// ---- the open question
-
-// The arena that the question is about; 0 where it is about none.
-pub fn asked_id(q: Question) -> usize
-    ensures { λ r. ⌜ r ≡ askedId q ⌝ }
-{
-    match q {
-        Question::Idle => 0,
-        Question::Committing { id, .. } => id,
-        Question::Purging { id, .. } => id,
-        Question::Reserving { .. } => 0,
-        Question::GivingBack { .. } => 0,
-    }
-}
-
-// Whether the run lies in the arena, and each chunk of it is used.
-fn run_is_used(a: Arena, start: usize, n: usize) -> bool
-    requires { ⌜ a .chunks ≤ 1024 ⌝ }
-    ensures { λ r. ⌜ r ≡ (leb (start + n) (a .chunks) && all (bitAt (a .used)) start n) ⌝ }
-{
-    let chunks = a.chunks;
-    if chunks < n {
-        return false;
-    }
-    if chunks - n < start {
-        return false;
-    }
-    row_scans::row_is_free(&a.used, false, start, n)
-}
-
-// Whether the open question is one that can be open. The record is the asked arena's: sound, if it is
-// registered.
-pub fn question_sound(a: Arena, k: usize, q: Question) -> bool
-    requires { ⌜ (askedId q < k → a .chunks ≤ 1024) × (k ≤ 32) ⌝ }
-    ensures { λ r. ⌜ r ≡ soundQuestion a k q ⌝ }
-{
-    match q {
-        Question::Idle => true,
-        Question::Committing { id, start, n } => {
-            if k <= id {
-                return false;
-            }
-            run_is_used(a, start, n)
-        }
-        Question::Purging { id, chunk, sweep } => {
-            if k <= id {
-                return false;
-            }
-            if !run_is_used(a, chunk, 1) {
-                return false;
-            }
-            sweep.purged <= 1024 * id + chunk
-        }
-        Question::Reserving { .. } => true,
-        Question::GivingBack { .. } => true,
     }
 }

@@ -69,10 +69,10 @@ use Rattle.row_parts.proofs.lent_sound as lent′
 use Rattle.row_parts.proofs.lent_sound.Symbol.{name as #row-parts·lent-sound}
 use Rattle.judge.proofs.hit as hit′
 use Rattle.judge.proofs.hit.Symbol.{name as #judge·hit}
-use Rattle.judge.proofs.asked_id as asked′
-use Rattle.judge.proofs.asked_id.Symbol.{name as #judge·asked-id}
-use Rattle.judge.proofs.question_sound as question′
-use Rattle.judge.proofs.question_sound.Symbol.{name as #judge·question-sound}
+use Rattle.open_question.proofs.asked_id as asked′
+use Rattle.open_question.proofs.asked_id.Symbol.{name as #open-question·asked-id}
+use Rattle.open_question.proofs.question_sound as question′
+use Rattle.open_question.proofs.question_sound.Symbol.{name as #open-question·question-sound}
 use Rattle.table.proofs.head_at as head-at′
 use Rattle.table.proofs.head_at.Symbol.{name as #table·head-at}
 use Rattle.table.proofs.no_head as no-head′
@@ -230,7 +230,7 @@ module _ {M : Type 1} {𝓤 : URA M} {H : Heap 𝓤} {A : Atoms 𝓤} {K : Type 
       (owns-make 𝓤 H A (usize ∷ usize ∷ u64 ∷ usize ∷ []) (Ises (usize ∷ usize ∷ u64 ∷ usize ∷ [])) (uint-makes 𝓤 H A W w64, (uint-makes 𝓤 H A W w64, (uint-makes 𝓤 H A W w64, (uint-makes 𝓤 H A W w64, tt)))) (len, (stamps, (page, (n, tt)))) (vint w64 len ∷ [], (vint w64 stamps ∷ [], (vint w64 page ∷ [], (vint w64 n ∷ [], tt)))) ((refl, flen), ((refl, fstamps), ((refl, fpage), ((refl, fn), tt))))) tt (id⊢ 𝓤 _)
       (λ r. r ≡ eqb len 32 && (eqb stamps 32768 && (pageSizeSound page && leb n 32))) (λ r ws. id⊢ 𝓤 _) ops (λ v r is e. subst (λ (u : Val). Seq K W (i ∷ Γ) (after u)) (sym (ap only (bool-tells r (v ∷ []) is) ∙ ap vbool e)) k)
 
-  pub asked-step : K → Site K W Γ C E #judge·asked-id xs G after → (mem : Memory → SProp 𝓤) (run : Routine → Fun 𝓤) → Triple 𝓤 (C #judge·asked-id) (Asked 𝓤 H A mem run)
+  pub asked-step : K → Site K W Γ C E #open-question·asked-id xs G after → (mem : Memory → SProp 𝓤) (run : Routine → Fun 𝓤) → Triple 𝓤 (C #open-question·asked-id) (Asked 𝓤 H A mem run)
       → (q : Question) (vq : Val) → Is N.the-row q (vq ∷ [])
       → ((h : Item 𝓤) → Opds K W (h ∷ Γ) E xs (vq ∷ []))
       → (askedId q < 2 ^ 64 → Seq K W (i ∷ Γ) (after (vint w64 (askedId q))))
@@ -240,7 +240,7 @@ module _ {M : Type 1} {𝓤 : URA M} {H : Heap 𝓤} {A : Atoms 𝓤} {K : Type 
       (owns-make 𝓤 H A (N.the-row ∷ []) (Ises (N.the-row ∷ [])) (EL.makes N.the-type N′.the-plain 𝓤 H A, tt) (q, tt) (vq ∷ [], tt) (gq, tt)) tt (id⊢ 𝓤 _)
       (λ r. r ≡ askedId q) (λ r ws. id⊢ 𝓤 _) ops (λ v r is e. subst (λ (u : Val). Seq K W (i ∷ Γ) (after u)) (sym (ap only (is .0) ∙ ap (vint w64) e)) (k (subst (λ (m : ℕ). m < 2 ^ 64) e (is .1))))
 
-  pub question-step : K → Site K W Γ C E #judge·question-sound xs G after → (mem : Memory → SProp 𝓤) (run : Routine → Fun 𝓤) → Triple 𝓤 (C #judge·question-sound) (Questions 𝓤 H A mem run)
+  pub question-step : K → Site K W Γ C E #open-question·question-sound xs G after → (mem : Memory → SProp 𝓤) (run : Routine → Fun 𝓤) → Triple 𝓤 (C #open-question·question-sound) (Questions 𝓤 H A mem run)
       → (a : Arena) (va : Val) → Is T.the-row a (va ∷ []) → (n : ℕ) → n < 2 ^ 64 → (q : Question) (vq : Val) → Is N.the-row q (vq ∷ []) → (askedId q < n → a .chunks ≤ 1024) → n ≤ 32
       → ((h : Item 𝓤) → Opds K W (h ∷ Γ) E xs (va ∷ vint w64 n ∷ vq ∷ []))
       → Seq K W (i ∷ Γ) (after (vbool (soundQuestion a n q)))

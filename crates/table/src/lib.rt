@@ -177,7 +177,7 @@ pub fn row_one(records: &[Arena], stamps: usize, state: State, page: u64, chunk_
     if !apart_table(records, state.count, chunk_size) {
         return false;
     }
-    let id = judge::asked_id(state.question);
+    let id = open_question::asked_id(state.question);
     let a = load_or(records, id);
-    judge::question_sound(a, state.count, state.question)
+    open_question::question_sound(a, state.count, state.question)
 }

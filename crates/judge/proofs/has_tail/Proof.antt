@@ -4,7 +4,8 @@ use borrow.Author.Needs.{needs}
 use borrow.Author.Tests.{not-true, not-false}
 use lib.Dec.{ltb}
 use Rattle.lookup.specs.Soundness.{soundRange}
-use Rattle.judge.proofs.ClaimLaws.{no-first, only-second}
+use Rattle.open_question.proofs.QuestionLaws.{no-first}
+use Rattle.judge.proofs.ClaimLaws.{only-second}
 use Rattle.judge.proofs.has_tail.Statement.{statement}
 use Rattle.judge.proofs.has_tail.Tie as tie
 

@@ -8,7 +8,8 @@ use mir.Facts.{toZ-ofZ}
 use Rattle.arena.specs.declared.Arena.{Arena}
 use Rattle.layer.specs.Claiming.{eligible}
 use Rattle.judge.specs.Heads.{headed}
-use Rattle.judge.proofs.ClaimLaws.{no-first, only-second}
+use Rattle.open_question.proofs.QuestionLaws.{no-first}
+use Rattle.judge.proofs.ClaimLaws.{only-second}
 use Rattle.judge.proofs.may_serve.Statement.{statement}
 use Rattle.judge.proofs.may_serve.Tie as tie
 

@@ -9,7 +9,8 @@ use mir.Facts.{toZ-ofZ}
 use Rattle.arena.specs.Claiming.{findRun}
 use Rattle.layer.specs.Table.{isAt}
 use Rattle.layer.specs.Claiming.{eligible}
-use Rattle.judge.proofs.ClaimLaws.{no-first, no-second, only-third}
+use Rattle.open_question.proofs.QuestionLaws.{no-first}
+use Rattle.judge.proofs.ClaimLaws.{no-second, only-third}
 use Rattle.judge.proofs.serves_claim.Statement.{statement}
 use Rattle.judge.proofs.serves_claim.Tie as tie
 

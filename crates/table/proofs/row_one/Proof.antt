@@ -75,12 +75,12 @@ use Rattle.row_parts.proofs.lent_sound.Met as lent-thm
 use Rattle.table.proofs.apart_table.Symbol as apart-def
 use Rattle.table.proofs.apart_table.Symbol.{name as #table·apart-table}
 use Rattle.table.proofs.apart_table.Met as apart-thm
-use Rattle.judge.proofs.asked_id.Symbol as asked-def
-use Rattle.judge.proofs.asked_id.Symbol.{name as #judge·asked-id}
-use Rattle.judge.proofs.asked_id.Met as asked-thm
-use Rattle.judge.proofs.question_sound.Symbol as question-def
-use Rattle.judge.proofs.question_sound.Symbol.{name as #judge·question-sound}
-use Rattle.judge.proofs.question_sound.Met as question-thm
+use Rattle.open_question.proofs.asked_id.Symbol as asked-def
+use Rattle.open_question.proofs.asked_id.Symbol.{name as #open-question·asked-id}
+use Rattle.open_question.proofs.asked_id.Met as asked-thm
+use Rattle.open_question.proofs.question_sound.Symbol as question-def
+use Rattle.open_question.proofs.question_sound.Symbol.{name as #open-question·question-sound}
+use Rattle.open_question.proofs.question_sound.Met as question-thm
 use Rattle.table.proofs.row_one.Key.{name as #table·row-one}
 use Rattle.table.proofs.row_one as row′
 use Rattle.table.proofs.row_one.Statement as stated
@@ -126,8 +126,8 @@ goes-4 false b c r h i j = absurd h
 module _ {M : Type 1} (𝓤 : URA M) (H : Heap 𝓤) (A : Atoms 𝓤) (W : Given 𝓤 H A) (mem : Memory → SProp 𝓤) (run : Routine → Fun 𝓤) (𝓣 : Tables 𝓤 H)
     (known-lent : Triple 𝓤 (𝓣 .C #row-parts·lent-sound) (Lent 𝓤 H A mem run)) (known-unsound : Triple 𝓤 (𝓣 .C #row-parts·unsound-query) (Unsounds 𝓤 H A mem run))
     (known-scan : Triple 𝓤 (𝓣 .C #table·scan) (Scan 𝓤 H A mem run)) (known-is-at : Triple 𝓤 (𝓣 .C #row-parts·is-at) (IsAt 𝓤 H A mem run))
-    (known-apart : Triple 𝓤 (𝓣 .C #table·apart-table) (Apart 𝓤 H A mem run)) (known-asked : Triple 𝓤 (𝓣 .C #judge·asked-id) (Asked 𝓤 H A mem run))
-    (known-load : Triple 𝓤 (𝓣 .C #table·load-or) (LoadOr 𝓤 H A mem run)) (known-question : Triple 𝓤 (𝓣 .C #judge·question-sound) (Questions 𝓤 H A mem run)) where
+    (known-apart : Triple 𝓤 (𝓣 .C #table·apart-table) (Apart 𝓤 H A mem run)) (known-asked : Triple 𝓤 (𝓣 .C #open-question·asked-id) (Asked 𝓤 H A mem run))
+    (known-load : Triple 𝓤 (𝓣 .C #table·load-or) (LoadOr 𝓤 H A mem run)) (known-question : Triple 𝓤 (𝓣 .C #open-question·question-sound) (Questions 𝓤 H A mem run)) where
   module _ (κ : Lft) (q : Share) (γ : GName) (b o : ℕ) (ys : List Arena) (stamps : ℕ) (state : State) (page S : ℕ) where
     abbrev L : Loan
     L = record { κ = κ; q = q; γ = γ; b = b; o = o; n = length ys }
@@ -223,6 +223,6 @@ row-one-spec 𝓤 H 𝓜 𝓖 𝓡 =
     (cited 𝓤 H (Scan 𝓤 H (𝓖 .A) (𝓜 .mem) (𝓡 .run)) 𝓜 𝓡 code.env #table·scan scan-def.routine code.calls-table·scan (scan-thm.met 𝓤 H 𝓜 𝓖 𝓡))
     (cited 𝓤 H (IsAt 𝓤 H (𝓖 .A) (𝓜 .mem) (𝓡 .run)) 𝓜 𝓡 code.env #row-parts·is-at is-at-def.routine code.calls-row-parts·is-at (is-at-thm.met 𝓤 H 𝓜 𝓖 𝓡))
     (cited 𝓤 H (Apart 𝓤 H (𝓖 .A) (𝓜 .mem) (𝓡 .run)) 𝓜 𝓡 code.env #table·apart-table apart-def.routine code.calls-table·apart-table (apart-thm.met 𝓤 H 𝓜 𝓖 𝓡))
-    (cited 𝓤 H (Asked 𝓤 H (𝓖 .A) (𝓜 .mem) (𝓡 .run)) 𝓜 𝓡 code.env #judge·asked-id asked-def.routine code.calls-judge·asked-id (asked-thm.met 𝓤 H 𝓜 𝓖 𝓡))
+    (cited 𝓤 H (Asked 𝓤 H (𝓖 .A) (𝓜 .mem) (𝓡 .run)) 𝓜 𝓡 code.env #open-question·asked-id asked-def.routine code.calls-open-question·asked-id (asked-thm.met 𝓤 H 𝓜 𝓖 𝓡))
     (cited 𝓤 H (LoadOr 𝓤 H (𝓖 .A) (𝓜 .mem) (𝓡 .run)) 𝓜 𝓡 code.env #table·load-or load-def.routine code.calls-table·load-or (load-thm.met 𝓤 H 𝓜 𝓖 𝓡))
-    (cited 𝓤 H (Questions 𝓤 H (𝓖 .A) (𝓜 .mem) (𝓡 .run)) 𝓜 𝓡 code.env #judge·question-sound question-def.routine code.calls-judge·question-sound (question-thm.met 𝓤 H 𝓜 𝓖 𝓡)))
+    (cited 𝓤 H (Questions 𝓤 H (𝓖 .A) (𝓜 .mem) (𝓡 .run)) 𝓜 𝓡 code.env #open-question·question-sound question-def.routine code.calls-open-question·question-sound (question-thm.met 𝓤 H 𝓜 𝓖 𝓡)))

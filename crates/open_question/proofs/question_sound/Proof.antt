@@ -1,13 +1,13 @@
--- `judge::question_sound` meets its contract. Assumes nothing.
+-- `open_question::question_sound` meets its contract. Assumes nothing.
 use mathlib.Core.Path.{sym, ap, _∙_}
 use mathlib.Core.Bool.{true, false}
 use native.Mathlib.Omega.{arith}
 use borrow.Author.Needs.{needs}
 use borrow.Author.Tests.{not-true, not-false}
 use Rattle.layer.specs.Table.{askedId, soundQuestion}
-use Rattle.judge.proofs.QuestionLaws.{commit-unregistered, commit-registered, purge-unregistered, purge-registered, used-inside}
-use Rattle.judge.proofs.question_sound.Statement.{statement}
-use Rattle.judge.proofs.question_sound.Tie as tie
+use Rattle.open_question.proofs.QuestionLaws.{commit-unregistered, commit-registered, purge-unregistered, purge-registered, used-inside}
+use Rattle.open_question.proofs.question_sound.Statement.{statement}
+use Rattle.open_question.proofs.question_sound.Tie as tie
 
 enum-told : tie.Need-enum-told
 enum-told c = search needs

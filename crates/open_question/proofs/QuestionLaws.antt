@@ -1,6 +1,6 @@
 -- The open question, case by case: what is left of its test once the tests before it are known. Assumes nothing.
-use mathlib.Core.Path.{_≡_, sym, ap, ap₂, _∙_}
-use mathlib.Core.Bool.{Bool, true, false, _&&_}
+use mathlib.Core.Path.{_≡_, refl, sym, ap, ap₂, _∙_}
+use mathlib.Core.Bool.{Bool, true, false, _&&_, true≢false}
 use Prim.Native.Nat.{ℕ, _+_, _*_, _≤_, _<_}
 use native.Mathlib.Numerals.{add-one}
 use borrow.Author.Tests.{lt-ltb, le-ltb, leb-true}
@@ -12,7 +12,10 @@ use Rattle.arena.specs.declared.Arena.{Arena}
 use Rattle.layer.specs.declared.Sweep.{Sweep}
 use Rattle.layer.specs.declared.Question.the-variants.{Committing, Purging}
 use Rattle.layer.specs.Table.{soundQuestion}
-use Rattle.judge.proofs.ClaimLaws.{no-first}
+
+pub no-first : (x y : Bool) → x ≡ false → false ≡ x && y
+no-first true y e = absurd (true≢false e)
+no-first false y e = refl
 
 -- the run lies in the arena, and each chunk of it is used
 abbrev pub usedRun : Arena → ℕ → ℕ → Bool

@@ -1,4 +1,4 @@
--- `judge::run_is_used` meets its contract. Assumes nothing.
+-- `open_question::run_is_used` meets its contract. Assumes nothing.
 use mathlib.Core.Path.{sym, ap, _∙_}
 use mathlib.Core.Bool.{Bool, _&&_}
 use Prim.Native.Nat.{_+_}
@@ -8,9 +8,9 @@ use borrow.Author.Tests.{le-leb, lt-leb}
 use lib.Dec.{leb}
 use Rattle.words.specs.Bits.{bitAt}
 use Rattle.runs.specs.Lowest.{all}
-use Rattle.judge.proofs.ClaimLaws.{no-first}
-use Rattle.judge.proofs.run_is_used.Statement.{statement}
-use Rattle.judge.proofs.run_is_used.Tie as tie
+use Rattle.open_question.proofs.QuestionLaws.{no-first}
+use Rattle.open_question.proofs.run_is_used.Statement.{statement}
+use Rattle.open_question.proofs.run_is_used.Tie as tie
 
 returns : tie.Need-returns
 returns c = let a = c .before .args in no-first (leb (a .start + a .n) (a .t1 .chunks)) _ (lt-leb (a .start + a .n) (a .t1 .chunks) (omega arith))

@@ -1,9 +1,9 @@
--- `judge::asked_id` meets its contract. Assumes nothing.
+-- `open_question::asked_id` meets its contract. Assumes nothing.
 use mathlib.Core.Path.{sym, ap}
 use borrow.Author.Needs.{needs}
 use Rattle.layer.specs.Table.{askedId}
-use Rattle.judge.proofs.asked_id.Statement.{statement}
-use Rattle.judge.proofs.asked_id.Tie as tie
+use Rattle.open_question.proofs.asked_id.Statement.{statement}
+use Rattle.open_question.proofs.asked_id.Tie as tie
 
 enum-told : tie.Need-enum-told
 enum-told c = search needs

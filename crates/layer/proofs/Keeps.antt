@@ -53,6 +53,7 @@ use Rattle.layer.specs.Answering.{isFor, counted, failReply, resume, ans
 use Rattle.layer.specs.Step.{Call, reserve, manage, adopt, claim, release, sweep, answer, owns, area, gate, stepOn}
 use Rattle.layer.proofs.Tools.{at-same, at-other}
 use Rattle.layer.proofs.Facts.{SoundTable, SoundQuestion}
+use Rattle.layer.proofs.Rules.{not-shared, served-named, grows-facts}
 use Rattle.layer.proofs.Registered.{meets-false}
 use Rattle.layer.specs.Book.{Book, Fed, claims, releases, Say, refused, granted, released, Turn, turn, claimed, unhold, enter}
 use Rattle.layer.specs.Sequence.{isIdle, Role, feeds, closes, aside, inRange, ends, role, said, View, calm, committing, purging, viewOf, owedIn, isAnswer, declines}
@@ -165,17 +166,12 @@ module _ (S p id b n : ℕ) where
           → Leaves B [] y (searchOf S l stamps k mark at-id m commits missed)
       seeks at-id m commits missed d e = search-cases S l stamps k mark (Leaves B [] y) at-id m commits missed (λ f. e) (λ i u f. grants i m commits (d i f))
 
-      -- an id that is negative passes an exclusive arena over
+      -- an id that is negative passes an exclusive arena over, and one that is not names one arena
       not-exclusive : (j m i : ℕ) → serves (negsuc j) m l i ≡ true → i ≡ id → ⊥
-      unfolding serves eligible
-      not-exclusive j m i f e =
-          true≢false (sym (h .stays .exclusive) ∙ ap (λ (x : ℕ). at l x .exclusive) (sym e)
-          ∙ not-true (at l i .exclusive) (and-both (not (at l i .exclusive)) (isAt (findRun (at l i) m)) f .0))
+      not-exclusive j m i f e = not-shared j m l i id (h .stays .exclusive) f e
 
-      -- and one that is not names one arena
       not-named : (j m i : ℕ) → (j ≡ id → ⊥) → serves (pos j) m l i ≡ true → i ≡ id → ⊥
-      unfolding serves eligible
-      not-named j m i d f e = d (sym (eqb-true i j (and-both (eqb i j) (isAt (findRun (at l i) m)) f .0)) ∙ e)
+      not-named j m i d f e = d (sym (served-named j m l i f) ∙ e)
 
       asks-memory : (size page : ℕ) (commit large exclusive : Bool) (waiting : Waiting) → Leaves B [] y (after (askMemory S k mark size page commit large exclusive waiting) l stamps)
       unfolding askMemory
@@ -210,10 +206,8 @@ module _ (S p id b n : ℕ) where
 
       -- an arena that grows is not exclusive
       not-grown : (i address m : ℕ) → grows S (at l i) address m ≡ true → i ≡ id → ⊥
-      unfolding grows
       not-grown i address m f e =
-          true≢false (sym (h .stays .exclusive) ∙ ap (λ (x : ℕ). at l x .exclusive) (sym e)
-          ∙ not-true (at l i .exclusive) (and-both (not (at l i .exclusive)) _ (and-both (at l i .owned) _ f .1) .0))
+          true≢false (sym (h .stays .exclusive) ∙ ap (λ (x : ℕ). at l x .exclusive) (sym e) ∙ grows-facts S (at l i) address m f .0)
 
     -- ---- answers to a memory question
 
@@ -361,7 +355,7 @@ module _ (S p id b n : ℕ) where
           (sym (named i f)) run)
         where
           named : (i : ℕ) → serves (pos id) m l i ≡ true → i ≡ id
-          named i f = unfold serves eligible in eqb-true i id (and-both (eqb i id) (isAt (findRun (at l i) m)) f .0)
+          named i f = served-named id m l i f
 
           run : Match who (claimed S (shown l Idle) m (findRun (at l id) m)) (grantFound S l stamps k mark id m commits (findRun (at l id) m))
           run =

@@ -51,6 +51,7 @@ use Rattle.layer.specs.Answering.{isFor, causeRefusal, counted, failRepl
 use Rattle.layer.specs.Step.{Call, reserve, manage, adopt, claim, release, sweep, answer, owns, area, sweepOf, gate, stepOn, step}
 use Rattle.layer.proofs.Tools.{or-false, at-same, at-other}
 use Rattle.layer.proofs.Facts.{SoundTable, SoundQuestion, question-facts}
+use Rattle.layer.proofs.Rules.{not-shared, served-named, grows-facts}
 use Rattle.layer.proofs.Registered.{good-range, new-table, reserved-rows, reserved-sound, reserved-range}
 use Rattle.layer.specs.Book.{opened}
 use Rattle.layer.specs.Sequence.{isBroken, calm, asksIn, asksFor}
@@ -122,16 +123,6 @@ module _ (S : ℕ) (l : List Arena) (k : ℕ) where
 
 -- ---- claims
 
--- which arenas of an id are not j
-named-not : (x n i j : ℕ) (l : List Arena) → serves (pos x) n l i ≡ true → eqb x j ≡ false → i ≡ j → ⊥
-unfolding serves eligible
-named-not x n i j l e f d = eqb-false x j f (sym (eqb-true i x (and-both (eqb i x) (isAt (findRun (at l i) n)) e .0)) ∙ d)
-
-shared-not : (x n i j : ℕ) (l : List Arena) → serves (negsuc x) n l i ≡ true → at l j .exclusive ≡ true → i ≡ j → ⊥
-unfolding serves eligible
-shared-not x n i j l e f d =
-    not-both (at l i .exclusive) (not-true (at l i .exclusive) (and-both (not (at l i .exclusive)) (isAt (findRun (at l i) n)) e .0)) (ap (λ (z : ℕ). at l z .exclusive) d ∙ f)
-
 module _ (S : ℕ) (l : List Arena) (stamps : List ℕ) (k : ℕ) (mark : Bool) where
   asks-memory : (n : ℕ) (named : ℕ → Bool) (size page : ℕ) (commit large exclusive : Bool) (waiting : Waiting)
       → TellsOf S l k n named (after (askMemory S k mark size page commit large exclusive waiting) l stamps)
@@ -148,8 +139,8 @@ module _ (S : ℕ) (l : List Arena) (stamps : List ℕ) (k : ℕ) (mark : Bool) 
       (λ s r t j u x z. elsewhere S l k i j s n t h u (other id i j g x z) (found-inside (at l i) n s r)) (λ s _. tt)))
     where
       other : (id : ℤ) (i j : ℕ) → serves id n l i ≡ true → at l j .exclusive ≡ true → names Idle (claim id n commits) j ≡ false → i ≡ j → ⊥
-      other (pos x) i j e f g = named-not x n i j l e g
-      other (negsuc x) i j e f g = shared-not x n i j l e f
+      other (pos x) i j e f g d = eqb-false x j g (sym (served-named x n l i e) ∙ d)
+      other (negsuc x) i j e f g d = not-shared x n l i j f e d
 
   -- ---- registering
 
@@ -179,9 +170,8 @@ module _ (S : ℕ) (l : List Arena) (stamps : List ℕ) (k : ℕ) (mark : Bool) 
   adopted-shows base n x = absurd (true≢false (sym x))
 
   grown-shows : (i address n : ℕ) → grows S (at l i) address n ≡ true → Shows (grownArena (at l i) n)
-  unfolding grows grownArena
-  grown-shows i address n e x =
-      absurd (not-both (at l i .exclusive) (not-true (at l i .exclusive) (and-both (not (at l i .exclusive)) _ (and-both (at l i .owned) _ e .1) .0)) x)
+  unfolding grownArena
+  grown-shows i address n e x = absurd (not-both (at l i .exclusive) (grows-facts S (at l i) address n e .0) x)
 
   -- ---- answers
 
@@ -201,7 +191,7 @@ module _ (S : ℕ) (l : List Arena) (stamps : List ℕ) (k : ℕ) (mark : Bool) 
       search-cases S m (withStamps stamps k) (suc k) mark (TellsOf S l k n (λ j. false)) (negsuc 0) n commits _ (λ _. refl)
       (λ i u v. grant-cases S m (withStamps stamps k) (suc k) mark (TellsOf S l k n (λ j. false)) i n commits (λ _. refl)
       (λ s r t j w x z y lo hi. subst (λ (a : Arena). isInside S a y ≡ false) (kept j w)
-      (elsewhere S m (suc k) i j s n (made t) u (omega arith) (shared-not 0 n i j m v (ap (λ (a : Arena). a .exclusive) (kept j w) ∙ x)) (found-inside (at m i) n s r) y lo hi))
+      (elsewhere S m (suc k) i j s n (made t) u (omega arith) (not-shared 0 n m i j (ap (λ (a : Arena). a .exclusive) (kept j w) ∙ x) v) (found-inside (at m i) n s r) y lo hi))
       (λ s _. tt))
     where
       m : List Arena

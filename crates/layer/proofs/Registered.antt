@@ -34,6 +34,7 @@ use Rattle.layer.specs.Table.{at, isAt, meets, overlaps, badRange}
 use Rattle.layer.specs.Registering.{chunksFor, tooLarge, askMemory, reserveReply, badCount, registerReply, registers, withRecord, withStamps, register, firstWhole, pastWhole, noWholeChunk, grows, reserveOf, manageOf, adoptAt, adoptOf}
 use Rattle.layer.proofs.Tools.{or-false, at-same, at-other, by-set}
 use Rattle.layer.proofs.Facts.{SoundTable, SoundQuestion, overlaps-none}
+use Rattle.layer.proofs.Rules.{grows-facts}
 use Rattle.layer.proofs.Kept.{SoundWorld, Kept, calm-kept, stamp-length}
 
 -- ---- what row 6 lets pass
@@ -243,12 +244,7 @@ module _ (S : ℕ) (l : List Arena) (stamps : List ℕ) (k : ℕ) (mark : Bool) 
     -- the block of n chunks at the end of arena i, which meets no arena
     module _ (i address n : ℕ) (h : i < k) (grow : grows S (at l i) address n ≡ true) (some : 0 < n) (good : GoodRange S l k address (n * S)) where
       facts : (endOf S (at l i) ≡ address) × (at l i .chunks + n ≤ 1024)
-      unfolding grows
-      facts =
-          let p = and-both (at l i .owned) _ grow in
-          let q = and-both (not (at l i .exclusive)) _ (p .1) in
-          let r = and-both (eqb (endOf S (at l i)) address) _ (q .1) in
-          (eqb-true (endOf S (at l i)) address (r .0), leb-true (at l i .chunks + n) 1024 (r .1))
+      facts = let f = grows-facts S (at l i) address n grow in (f .1, f .2)
 
       -- the range after: the old one and the block
       longer : (at l i .chunks + n) * S ≡ bytesOf S (at l i) + n * S

@@ -4,7 +4,7 @@ use mathlib.Core.Bool.{Bool, true, false, cond, not, _&&_, _||_}
 use mathlib.Core.List.{List}
 use Prim.Native.Nat.{ℕ, suc, _+_, _-_, _*_, _/_, _%_, _<_}
 use native.Mathlib.Omega.{arith}
-use borrow.Author.Tests.{leb-false, eqb-true}
+use borrow.Author.Tests.{leb-false, eqb-true, eqb-false}
 use lib.Dec.{eqb, leb}
 use lib.IntN.{ℤ}
 use lib.ListN.{set}
@@ -15,6 +15,7 @@ use Rattle.runs.specs.declared.Found.{Found}
 use Rattle.runs.specs.declared.Found.the-variants.{At, Nothing}
 use Rattle.runs.specs.Lowest.{least}
 use Rattle.runs.proofs.LowestLaws.{First, first-says}
+use Rattle.runs.proofs.SearchLaws.{and-both}
 use Rattle.options.specs.Options.{arenaAllowed}
 use Rattle.arena.specs.declared.Arena.{Arena}
 use Rattle.arena.specs.declared.Commitment.{Commitment}
@@ -143,29 +144,36 @@ module _ (S : ℕ) (l : List Arena) (stamps : List ℕ) (k : ℕ) (mark : Bool) 
       go false e false f = rw e (rw f (new e (leb-false 32 k f)))
 
   pub manage-cases : (start size : ℕ) (exclusive : Bool) (node : ℤ) (mapped reserved : Bool) → P (down S l stamps k mark NoWholeChunk) → P (down S l stamps k mark HostRefused) → P (down S l stamps k mark Range)
-      → (let chunks = (pastWhole S start size - firstWhole S start) / S in P (register l stamps k mark chunks (managedArena (firstWhole S start) chunks exclusive node)))
+      → (badRange S l k (firstWhole S start) (pastWhole S start size - firstWhole S start) ≡ false
+      → let chunks = (pastWhole S start size - firstWhole S start) / S in P (register l stamps k mark chunks (managedArena (firstWhole S start) chunks exclusive node)))
       → P (manageOf S l stamps k mark start size exclusive node mapped reserved)
   unfolding manageOf
   manage-cases start size exclusive node mapped reserved part host range add =
       by-cond P (noWholeChunk S start size) _ _ (λ e. part)
       (λ e. by-cond P (mapped || not reserved) _ _ (λ f. host)
-      (λ f. by-cond P (badRange S l k (firstWhole S start) (pastWhole S start size - firstWhole S start)) _ _ (λ g. range) (λ g. add)))
+      (λ f. by-cond P (badRange S l k (firstWhole S start) (pastWhole S start size - firstWhole S start)) _ _ (λ g. range) add))
+
+  -- the block is of whole chunks, and row 6 lets it pass
+  abbrev pub Whole : ℕ → ℕ → Type 0
+  Whole address size = (size ≡ 0 → ⊥) × (address % S ≡ 0) × (size % S ≡ 0) × (badRange S l k address size ≡ false)
 
   pub adopt-cases : (address size : ℕ) → P (down S l stamps k mark Zero) → P (down S l stamps k mark NotWhole) → P (down S l stamps k mark Range)
-      → ((i : ℕ) → i < k → grows S (at l i) address (size / S) ≡ true → P (after (reply (Registered i) (calm k mark)) (set l i (grownArena (at l i) (size / S))) stamps))
-      → P (register l stamps k mark (size / S) (adoptedArena address (size / S)))
+      → ((i : ℕ) → Whole address size → i < k → grows S (at l i) address (size / S) ≡ true → P (after (reply (Registered i) (calm k mark)) (set l i (grownArena (at l i) (size / S))) stamps))
+      → (Whole address size → P (register l stamps k mark (size / S) (adoptedArena address (size / S))))
       → P (adoptOf S l stamps k mark address size)
   unfolding adoptOf
   adopt-cases address size zero part range grow add =
       by-cond P (eqb size 0) _ _ (λ e. zero)
       (λ e. by-cond P (eqb (address % S) 0 && eqb (size % S) 0) _ _
       (λ f. by-cond P (badRange S l k address size) _ _ (λ g. range)
-      (λ g. go (least (λ i. grows S (at l i) address (size / S)) 0 k) (first-says (λ i. grows S (at l i) address (size / S)) 0 k)))
+      (λ g. let w = and-both (eqb (address % S) 0) _ f in
+      go (eqb-false size 0 e, eqb-true (address % S) 0 (w .0), eqb-true (size % S) 0 (w .1), g)
+      (least (λ i. grows S (at l i) address (size / S)) 0 k) (first-says (λ i. grows S (at l i) address (size / S)) 0 k)))
       (λ f. part))
     where
-      go : (f : Found) → First (λ i. grows S (at l i) address (size / S)) 0 k f → P (adoptAt S l stamps k mark address (size / S) f)
-      go (At i) h = grow i (omega (arith, h .1)) (h .2)
-      go Nothing h = add
+      go : Whole address size → (f : Found) → First (λ i. grows S (at l i) address (size / S)) 0 k f → P (adoptAt S l stamps k mark address (size / S) f)
+      go w (At i) h = grow i w (omega (arith, h .1)) (h .2)
+      go w Nothing h = add w
 
   -- memory came
   pub memory-cases : (chunks bytes : ℕ) (commit exclusive : Bool) (waiting : Waiting) (base : ℕ)

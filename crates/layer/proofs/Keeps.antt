@@ -544,15 +544,15 @@ module _ (S p id b n : ℕ) where
         gated q aside _ v
         (λ u. let x = holds l k Idle z refl u in
         quiet l Idle who z _ refl (manage-cases S l stamps k mark (Leaves _ [] who) start size exclusive node mapped reserved
-        (rests _ who l k Idle _ stamps mark refl x) (rests _ who l k Idle _ stamps mark refl x) (rests _ who l k Idle _ stamps mark refl x) (registers-one _ who l stamps k mark x _ _)))
+        (rests _ who l k Idle _ stamps mark refl x) (rests _ who l k Idle _ stamps mark refl x) (rests _ who l k Idle _ stamps mark refl x) (λ g. registers-one _ who l stamps k mark x _ _)))
         (λ e. refl)
     keeps q ns settings (adopt address size) h v alone idle agrees =
         gated q aside _ v
         (λ u. let x = holds l k Idle z refl u in
         quiet l Idle who z _ refl (adopt-cases S l stamps k mark (Leaves _ [] who) address size
         (rests _ who l k Idle _ stamps mark refl x) (rests _ who l k Idle _ stamps mark refl x) (rests _ who l k Idle _ stamps mark refl x)
-        (λ i j e. rests _ who _ k Idle _ stamps mark refl (elsewhere _ who l k k i _ (omega arith) (not-grown _ who l stamps k mark x i address (size / S) e) x))
-        (registers-one _ who l stamps k mark x _ _)))
+        (λ i w j e. rests _ who _ k Idle _ stamps mark refl (elsewhere _ who l k k i _ (omega arith) (not-grown _ who l stamps k mark x i address (size / S) e) x))
+        (λ w. registers-one _ who l stamps k mark x _ _)))
         (λ e. refl)
     keeps q ns settings (claim (pos i) m commits) h v alone idle agrees =
         gated q (cond (eqb i id) (feeds (claims m)) aside) _ v (λ u. go (ℕ-discrete i id) u) (busy q (eqb i id) (claims m) (alone (claims m)) (λ w. idle w refl))

@@ -51,7 +51,7 @@ use Rattle.layer.specs.Answering.{isFor, causeRefusal, counted, failRepl
 use Rattle.layer.specs.Step.{Call, reserve, manage, adopt, claim, release, sweep, answer, owns, area, sweepOf, gate, stepOn, step}
 use Rattle.layer.proofs.Tools.{or-false, at-same, at-other}
 use Rattle.layer.proofs.Facts.{SoundTable, SoundQuestion, question-facts}
-use Rattle.layer.proofs.Rules.{not-shared, served-named, grows-facts}
+use Rattle.layer.proofs.Rules.{not-shared, served-named, grows-facts, count-facts}
 use Rattle.layer.proofs.Registered.{good-range, new-table, reserved-rows, reserved-sound, reserved-range}
 use Rattle.layer.specs.Book.{opened}
 use Rattle.layer.specs.Sequence.{isBroken, calm, asksIn, asksFor}
@@ -144,19 +144,11 @@ module _ (S : ℕ) (l : List Arena) (stamps : List ℕ) (k : ℕ) (mark : Bool) 
 
   -- ---- registering
 
-  few : (chunks : ℕ) → badCount chunks ≡ false → (1 ≤ chunks) × (chunks ≤ 1024)
-  unfolding badCount
-  few chunks f = let c = or-false (eqb chunks 0) _ f in (some chunks (eqb-false chunks 0 (c .0)), ltb-false 1024 chunks (c .1))
-    where
-      some : (n : ℕ) → (n ≡ 0 → ⊥) → 1 ≤ n
-      some zero h = absurd (h refl)
-      some (suc n) h = omega arith
-
   new : (a : Arena) → Shows a → k < 32 → SoundTable S l k → New k (worldOf (withRecord l k a) (withStamps stamps k) (stateOf (suc k) mark Idle))
   new a shows h t = record { low = omega arith; idle = refl; shows = subst Shows (sym (at-same l k a (omega (arith, t .long)))) shows }
 
   register-tells : (m : ℕ) (named : ℕ → Bool) (chunks : ℕ) (a : Arena) → (chunks ≤ 1024 → Shows a) → TellsOf S l k m named (register l stamps k mark chunks a)
-  register-tells m named chunks a shows = register-cases S l stamps k mark (TellsOf S l k m named) chunks a refl refl (λ f h. new a (shows (few chunks f .1)) h)
+  register-tells m named chunks a shows = register-cases S l stamps k mark (TellsOf S l k m named) chunks a refl refl (λ f h. new a (shows (count-facts chunks f .1)) h)
 
   managed-shows : (base n : ℕ) (exclusive : Bool) (node : ℤ) → n ≤ 1024 → Shows (managedArena base n exclusive node)
   managed-shows base n exclusive node h x = book-managed base n exclusive node h ∙ (unfold managedArena newArena in refl)
@@ -186,7 +178,7 @@ module _ (S : ℕ) (l : List Arena) (stamps : List ℕ) (k : ℕ) (mark : Bool) 
   -- the reserved range is registered, and who waits goes on
   resume-tells : (base chunks bytes : ℕ) (commit exclusive : Bool) (waiting : Waiting) → badRange S l k base (chunks * S) ≡ false → badCount chunks ≡ false → base % S ≡ 0 → k < 32
       → TellsOf S l k (asksIn (Reserving chunks bytes commit exclusive waiting)) (λ j. false) (resume S l stamps k mark (reservedArena base chunks commit exclusive) waiting)
-  resume-tells base chunks bytes commit exclusive Reserve e f g h = new (reservedArena base chunks commit exclusive) (reserved-shows base chunks commit exclusive (few chunks f .1)) h
+  resume-tells base chunks bytes commit exclusive Reserve e f g h = new (reservedArena base chunks commit exclusive) (reserved-shows base chunks commit exclusive (count-facts chunks f .1)) h
   resume-tells base chunks bytes commit exclusive (Claim n commits) e f g h =
       search-cases S m (withStamps stamps k) (suc k) mark (TellsOf S l k n (λ j. false)) (negsuc 0) n commits _ (λ _. refl)
       (λ i u v. grant-cases S m (withStamps stamps k) (suc k) mark (TellsOf S l k n (λ j. false)) i n commits (λ _. refl)
@@ -205,7 +197,7 @@ module _ (S : ℕ) (l : List Arena) (stamps : List ℕ) (k : ℕ) (mark : Bool) 
           let x = good-range S l k base (chunks * S) e in
           let z = reserved-range S base chunks commit exclusive in
           new-table S l k (reservedArena base chunks commit exclusive) t h (reserved-rows base chunks commit exclusive)
-          (reserved-sound S base chunks commit exclusive (record { somewhere = x .somewhere; aligned = g; some = few chunks f .0; few = few chunks f .1; ends = x .ends }))
+          (reserved-sound S base chunks commit exclusive (record { somewhere = x .somewhere; aligned = g; some = count-facts chunks f .0; few = count-facts chunks f .1; ends = x .ends }))
           (λ i u. ap₂ (meets S (at l i)) (z .0) (z .1) ∙ x .alone i u)
 
   memory-tells : (chunks bytes : ℕ) (commit exclusive : Bool) (waiting : Waiting) (accepted : Bool) (base : ℕ)
@@ -268,12 +260,12 @@ module _ (S : ℕ) (l : List Arena) (stamps : List ℕ) (k : ℕ) (mark : Bool) 
   step-tells q ns settings (manage start size exclusive node mapped reserved) h =
       gated 0 _ q _ _
       (manage-cases S l stamps k mark (TellsOf S l k 0 (λ j. false)) start size exclusive node mapped reserved refl refl refl
-      (register-tells S l stamps k mark 0 (λ j. false) _ _ (managed-shows S l stamps k mark _ _ exclusive node))) refl
+      (λ g. register-tells S l stamps k mark 0 (λ j. false) _ _ (managed-shows S l stamps k mark _ _ exclusive node))) refl
   step-tells q ns settings (adopt address size) h =
       gated 0 _ q _ _
       (adopt-cases S l stamps k mark (TellsOf S l k 0 (λ j. false)) address size refl refl refl
-      (λ i u g t. record { low = u; idle = refl; shows = subst Shows (sym (at-same l i (grownArena (at l i) (size / S)) (omega (arith, u, t .long, t .few)))) (grown-shows S l stamps k mark i address (size / S) g) })
-      (register-tells S l stamps k mark 0 (λ j. false) (size / S) _ (λ _. adopted-shows S l stamps k mark address (size / S)))) refl
+      (λ i w u g t. record { low = u; idle = refl; shows = subst Shows (sym (at-same l i (grownArena (at l i) (size / S)) (omega (arith, u, t .long, t .few)))) (grown-shows S l stamps k mark i address (size / S) g) })
+      (λ w. register-tells S l stamps k mark 0 (λ j. false) (size / S) _ (λ _. adopted-shows S l stamps k mark address (size / S)))) refl
   step-tells q ns settings (claim (pos i) n commits) h = gated n _ q _ _ (claim-tells S l stamps k mark (pos i) n commits settings) refl
   step-tells q ns settings (claim (negsuc i) n commits) h = gated n _ q _ _ (claim-tells S l stamps k mark (negsuc i) n commits settings) refl
   step-tells q ns settings (release x n told pending) h =

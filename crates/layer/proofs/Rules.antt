@@ -2,8 +2,9 @@
 use mathlib.Core.Path.{_≡_, refl, sym, ap, _∙_}
 use mathlib.Core.Bool.{Bool, true, false, not, _&&_, true≢false}
 use mathlib.Core.List.{List}
-use Prim.Native.Nat.{ℕ, _+_, _≤_}
-use borrow.Author.Tests.{eqb-true, leb-true}
+use Prim.Native.Nat.{ℕ, zero, suc, _+_, _≤_}
+use native.Mathlib.Omega.{arith}
+use borrow.Author.Tests.{eqb-true, eqb-false, leb-true, ltb-false}
 use lib.Dec.{eqb, leb}
 use lib.IntN.{ℤ, pos, negsuc}
 use Rattle.runs.proofs.SearchLaws.{and-both}
@@ -11,8 +12,9 @@ use Rattle.arena.specs.declared.Arena.{Arena}
 use Rattle.arena.specs.Claiming.{findRun}
 use Rattle.lookup.specs.Place.{endOf}
 use Rattle.layer.specs.Table.{at, isAt}
-use Rattle.layer.specs.Registering.{grows}
+use Rattle.layer.specs.Registering.{grows, badCount}
 use Rattle.layer.specs.Claiming.{eligible, serves}
+use Rattle.layer.proofs.Tools.{or-false}
 
 -- ---- claims
 
@@ -53,3 +55,14 @@ grows-facts S a address n g =
     go true false p q = rw p (rw q (λ g. (refl, g)))
     go true true p q = rw p (rw q (λ g. absurd (true≢false (sym g))))
     go false x p q = rw p (λ g. absurd (true≢false (sym g)))
+
+-- ---- registering
+
+-- what row 12 lets pass
+pub count-facts : (chunks : ℕ) → badCount chunks ≡ false → (1 ≤ chunks) × (chunks ≤ 1024)
+unfolding badCount
+count-facts chunks e = let c = or-false (eqb chunks 0) _ e in (some chunks (eqb-false chunks 0 (c .0)), ltb-false 1024 chunks (c .1))
+  where
+    some : (n : ℕ) → (n ≡ 0 → ⊥) → 1 ≤ n
+    some zero h = absurd (h refl)
+    some (suc n) h = omega arith

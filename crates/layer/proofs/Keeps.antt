@@ -6,7 +6,7 @@ use mathlib.Core.Logic.{⊎-elim}
 use Prim.Native.Nat.{ℕ, zero, suc, _+_, _-_, _*_, _/_, _%_, _≤_, _<_}
 use native.Mathlib.Omega.{arith}
 use native.Mathlib.Decide.{ℕ-discrete}
-use borrow.Author.Tests.{eqb-true, eq-eqb, ne-eqb, leb-true, not-true}
+use borrow.Author.Tests.{eq-eqb, ne-eqb, leb-true, not-true}
 use lib.IntN.{ℤ, pos, negsuc}
 use lib.Dec.{eqb, leb, ltb}
 use lib.ListN.{length, set, length-set}
@@ -59,7 +59,7 @@ use Rattle.layer.specs.Book.{Book, Fed, claims, releases, Say, refused, 
 use Rattle.layer.specs.Sequence.{isIdle, Role, feeds, closes, aside, inRange, ends, role, said, View, calm, committing, purging, viewOf, owedIn, isAnswer, declines}
 use Rattle.layer.proofs.Shown.{bookIn, Mine, Stays, bookAt, owedAt, Inv, Fits}
 use Rattle.layer.proofs.View.{view-commit, view-purge, view-commit-other, view-purge-other, book-granted, book-taken, book-committed, book-released, say-fresh, owed-taken, book-disarmed, book-rearmed, book-borrowed, book-returned, take-stays, dirty-stays, finish-stays, release-stays, disarm-stays, borrow-stays, return-stays, rearm-stays}
-use Rattle.layer.proofs.Cases.{down, granting, asking, grant-cases, search-cases, miss-cases, claim-cases, release-in-cases, release-cases, reserve-cases, register-cases, manage-cases, adopt-cases, memory-cases}
+use Rattle.layer.proofs.Cases.{granting, asking, grant-cases, search-cases, miss-cases, claim-cases, release-in-cases, release-cases, reserve-cases, register-cases, manage-cases, adopt-cases, memory-cases}
 
 -- an address lies in one arena at most
 pub only-one : (S : ℕ) (l : List Arena) (k i j x : ℕ) → SoundTable S l k → i < k → j < k → isInside S (at l i) x ≡ true → isInside S (at l j) x ≡ true → i ≡ j

@@ -6,7 +6,7 @@ use mathlib.Core.List.{List}
 use Prim.Native.Nat.{ℕ, zero, suc, _+_, _-_, _*_, _/_, _%_, _<_, _≤_}
 use native.Mathlib.Nat.{add-mul, mul-le-mul-right}
 use native.Mathlib.Omega.{arith}
-use borrow.Author.Tests.{not-true, ltb-false, eqb-true, eqb-false}
+use borrow.Author.Tests.{eqb-false}
 use lib.Dec.{leb, ltb, eqb}
 use lib.IntN.{ℤ, pos, negsuc}
 use lib.ListN.{length}
@@ -22,7 +22,6 @@ use Rattle.refusals.specs.declared.Refusal.the-variants.{Broken}
 use Rattle.refusals.specs.Number.{number}
 use Rattle.arena.specs.declared.Arena.{Arena}
 use Rattle.arena.specs.Registering.{newArena, reservedArena, managedArena, adoptedArena, grownArena}
-use Rattle.arena.specs.Claiming.{findRun}
 use Rattle.arena.specs.Sweeping.{sweepDue, disarm, returnChunk, nextAsked}
 use Rattle.lookup.specs.Place.{isInside}
 use Rattle.lookup.specs.Soundness.{soundArena}
@@ -43,13 +42,13 @@ use Rattle.layer.specs.declared.Ask.{Ask}
 use Rattle.layer.specs.declared.Answer.{Answer}
 use Rattle.layer.specs.declared.Answer.the-variants.{Refused, Asks, Registered, Claimed, Released, Swept, Owns, Area}
 use Rattle.layer.specs.World.{World, Outcome, stateOf, worldOf, after, turnDown, outcome}
-use Rattle.layer.specs.Table.{at, isAt, meets, badRange, apart, soundTable, soundLent, sound}
+use Rattle.layer.specs.Table.{at, meets, badRange, apart, soundTable, soundLent, sound}
 use Rattle.layer.specs.Registering.{askMemory, badCount, withRecord, withStamps, register, grows}
-use Rattle.layer.specs.Claiming.{eligible, serves, claimOf}
+use Rattle.layer.specs.Claiming.{serves, claimOf}
 use Rattle.layer.specs.Sweeping.{purgeReply, sweptReply, visitAt, visit, sweepFrom}
 use Rattle.layer.specs.Answering.{isFor, causeRefusal, counted, failReply, answerCommit, resume, answerMemory, answerTo, answerOf}
 use Rattle.layer.specs.Step.{Call, reserve, manage, adopt, claim, release, sweep, answer, owns, area, sweepOf, gate, stepOn, step}
-use Rattle.layer.proofs.Tools.{or-false, at-same, at-other}
+use Rattle.layer.proofs.Tools.{at-same, at-other}
 use Rattle.layer.proofs.Facts.{SoundTable, SoundQuestion, question-facts}
 use Rattle.layer.proofs.Rules.{not-shared, served-named, grows-facts, count-facts}
 use Rattle.layer.proofs.Registered.{good-range, new-table, reserved-rows, reserved-sound, reserved-range}

@@ -56,7 +56,7 @@ use Rattle.layer.proofs.Facts.{SoundTable, SoundQuestion}
 use Rattle.layer.proofs.Rules.{not-shared, served-named, grows-facts}
 use Rattle.layer.proofs.Registered.{meets-false}
 use Rattle.layer.specs.Book.{Book, Fed, claims, releases, Say, refused, granted, released, Turn, turn, claimed, unhold, enter}
-use Rattle.layer.specs.Sequence.{isIdle, Role, feeds, closes, aside, inRange, ends, role, said, View, calm, committing, purging, viewOf, owedIn, isAnswer, declines}
+use Rattle.layer.specs.Sequence.{isIdle, askerAfter, Role, feeds, closes, aside, inRange, ends, role, said, View, calm, committing, purging, viewOf, owedIn, isAnswer, declines}
 use Rattle.layer.proofs.Shown.{bookIn, Mine, Stays, bookAt, owedAt, Inv, Fits}
 use Rattle.layer.proofs.View.{view-commit, view-purge, view-commit-other, view-purge-other, book-granted, book-taken, book-committed, book-released, say-fresh, owed-taken, book-disarmed, book-rearmed, book-borrowed, book-returned, take-stays, dirty-stays, finish-stays, release-stays, disarm-stays, borrow-stays, return-stays, rearm-stays}
 use Rattle.layer.proofs.Cases.{granting, asking, grant-cases, search-cases, miss-cases, claim-cases, release-in-cases, release-cases, reserve-cases, register-cases, manage-cases, adopt-cases, memory-cases}
@@ -103,12 +103,12 @@ module _ (S p id b n : ℕ) where
     book : shown (o .world .records) (o .world .state .question) ≡ B
     owed : owing (o .world .records) (o .world .state .question) ≡ ws
 
-  left : (l : List Arena) (q : Question) (who z : ℕ) (o : Outcome) → Leaves (shown l q) (owing l q) (cond (isIdle q) who z) o
+  left : (l : List Arena) (q : Question) (who z : ℕ) (o : Outcome) → Leaves (shown l q) (owing l q) (askerAfter q who z) o
       → Does l q who z aside o
   left l q who z o h = record { inv = h .inv; book = h .book; says = append-nil (owing l q) ∙ sym (h .owed) }
 
   -- where nothing is owed
-  quiet : (l : List Arena) (q : Question) (who z : ℕ) (o : Outcome) → owing l q ≡ [] → Leaves (shown l q) [] (cond (isIdle q) who z) o
+  quiet : (l : List Arena) (q : Question) (who z : ℕ) (o : Outcome) → owing l q ≡ [] → Leaves (shown l q) [] (askerAfter q who z) o
       → Does l q who z aside o
   quiet l q who z o e h = left l q who z o (record { inv = h .inv; book = h .book; owed = h .owed ∙ sym e })
 
@@ -117,7 +117,7 @@ module _ (S p id b n : ℕ) where
       → Does l q who z aside (after (reply r (stateOf k mark q)) l stamps)
   same l k q who z r stamps mark v = left l q who z _ (record { inv = record { low = v .low; stays = v .stays; mine = go q (v .mine) }; book = refl; owed = refl })
     where
-      go : (q : Question) → Mine p z (viewOf id q) → Mine p (cond (isIdle q) who z) (viewOf id q)
+      go : (q : Question) → Mine p z (viewOf id q) → Mine p (askerAfter q who z) (viewOf id q)
       go Idle m = tt
       go (Committing i s c) m = m
       go (Purging i j w) m = m
@@ -216,7 +216,7 @@ module _ (S p id b n : ℕ) where
     resumes l stamps k mark h c Reserve = rests (withRecord l k c) (suc k) Idle _ _ mark refl (added l stamps k mark h c)
     resumes l stamps k mark h c (Claim m commits) =
         let u : Holds B (withRecord l k c) (suc k) = added l stamps k mark h c in
-        seeks (withRecord l k c) _ (suc k) mark u (negsuc 0) m commits _ (not-exclusive (withRecord l k c) stamps (suc k) mark u 0 m) (rests (withRecord l k c) (suc k) Idle _ _ mark refl u)
+        seeks (withRecord l k c) _ (suc k) mark u _ m commits _ (not-exclusive (withRecord l k c) stamps (suc k) mark u 0 m) (rests (withRecord l k c) (suc k) Idle _ _ mark refl u)
 
     fails : (l : List Arena) (stamps : List ℕ) (k : ℕ) (mark : Bool) (h : Holds B l k) (why : Refusal) (waiting : Waiting) → Leaves B [] y (after (failReply k mark why waiting) l stamps)
     fails l stamps k mark h why Reserve = rests l k Idle _ stamps mark refl h
@@ -444,13 +444,22 @@ module _ (S p id b n : ℕ) where
         go true = rests _ z _ k Idle _ stamps mark refl (elsewhere _ z l k k i _ (omega arith) d (holds l k (Committing i s m) z e v))
         go false = rests _ z _ k Idle _ stamps mark refl (elsewhere _ z l k k i _ (omega arith) d (holds l k (Committing i s m) z e v))
 
+    -- a record whose chunk j is borrowed, once the chunk came back
+    returned : (B : Book) (a : Arena) (j : ℕ) (agreed decommit : Bool) → Rows a → Stays b n a → j < 1024 → bookIn (purging j) a ≡ B → Ready B z (returnChunk a j agreed decommit)
+    returned B a j agreed decommit r x h e = record {
+      rows = return-rows a j agreed decommit r;
+      stays = return-stays b n a x j agreed decommit;
+      shows = book-returned a j agreed decommit r h ∙ e;
+    }
+
     -- the chunk comes back, and the sweep goes on
     purge-answer : (i j : ℕ) (w : Sweep) (agreed : Bool) → SoundQuestion l k (Purging i j w) → Invariant l k (Purging i j w) z
         → Does l (Purging i j w) who z aside (answerPurge S l stamps k mark i j w agreed)
     purge-answer i j w agreed h v =
         quiet l (Purging i j w) who z _ (none (eqb i id))
-        (visits B z stamps k mark (counted w agreed) (v .low) (t .few) small l i (returnChunk (at l i) j agreed (w .decommit)) (j + 1) _ (t .long) own other
-        (λ m u r. sweeps B z stamps k mark (counted w agreed) (v .low) (t .few) small _ _ m u r))
+        (visits B z stamps k mark _ (v .low) (t .few) small l i _ _ _ (t .long)
+        (λ e. returned B (at l i) j agreed (w .decommit) (t .rows i (h .0)) (subst (λ (x : ℕ). Stays b n (at l x)) (sym e) (v .stays)) (omega (arith, h .1, t .each i (h .0) .range .few)) (borrowed e))
+        other (λ m u r. sweeps B z stamps k mark _ (v .low) (t .few) small _ _ m u r))
       where
         B : Book
         B = shown l (Purging i j w)
@@ -462,13 +471,8 @@ module _ (S p id b n : ℕ) where
         none true = refl
         none false = refl
 
-        own : i ≡ id → Ready B z (returnChunk (at l i) j agreed (w .decommit))
-        own e = subst (λ (x : ℕ). Ready B z (returnChunk (at l x) j agreed (w .decommit))) (sym e) (record {
-          rows = return-rows (at l id) j agreed (w .decommit) (t .rows id (v .low));
-          stays = return-stays b n (at l id) (v .stays) j agreed (w .decommit);
-          shows = book-returned (at l id) j agreed (w .decommit) (t .rows id (v .low)) (omega (arith, h .1, t .each i (h .0) .range .few))
-              ∙ ap (λ (x : View). bookIn x (at l id)) (sym (view-purge id j w) ∙ ap (λ (x : ℕ). viewOf id (Purging x j w)) (sym e));
-        })
+        borrowed : i ≡ id → bookIn (purging j) (at l i) ≡ B
+        borrowed e = ap₂ (λ (x : View) (y : ℕ). bookIn x (at l y)) (sym (ap (λ (x : ℕ). viewOf id (Purging x j w)) e ∙ view-purge id j w)) e
 
         other : (i ≡ id → ⊥) → Ready B z (at l id)
         other d = record { rows = t .rows id (v .low); stays = v .stays; shows = ap (λ (x : View). bookIn x (at l id)) (sym (view-purge-other id i j w d)) }

@@ -435,7 +435,7 @@ module _ (S p id b n : ℕ) where
     other-commit : (i s m : ℕ) (agreed : Bool) → (i ≡ id → ⊥) → Invariant l k (Committing i s m) z
         → Does l (Committing i s m) who z aside (answerCommit S l stamps k mark i s m agreed)
     other-commit i s m agreed d v =
-        quiet l (Committing i s m) who z _ (ap (λ (x : View). owedIn S x (at l id)) (view-commit-other id i s m d)) (go agreed)
+        quiet l (Committing i s m) who z (answerCommit S l stamps k mark i s m agreed) (ap (λ (x : View). owedIn S x (at l id)) (view-commit-other id i s m d)) (go agreed)
       where
         e : viewOf id (Committing i s m) ≡ calm
         e = view-commit-other id i s m d
@@ -456,7 +456,7 @@ module _ (S p id b n : ℕ) where
     purge-answer : (i j : ℕ) (w : Sweep) (agreed : Bool) → SoundQuestion l k (Purging i j w) → Invariant l k (Purging i j w) z
         → Does l (Purging i j w) who z aside (answerPurge S l stamps k mark i j w agreed)
     purge-answer i j w agreed h v =
-        quiet l (Purging i j w) who z _ (none (eqb i id))
+        quiet l (Purging i j w) who z (answerPurge S l stamps k mark i j w agreed) (none (eqb i id))
         (visits B z stamps k mark _ (v .low) (t .few) small l i _ _ _ (t .long)
         (λ e. returned B (at l i) j agreed (w .decommit) (t .rows i (h .0)) (subst (λ (x : ℕ). Stays b n (at l x)) (sym e) (v .stays)) (omega (arith, h .1, t .each i (h .0) .range .few)) (borrowed e))
         other (λ m u r. sweeps B z stamps k mark _ (v .low) (t .few) small _ _ m u r))

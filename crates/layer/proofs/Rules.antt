@@ -1,6 +1,6 @@
 -- What single rules say of an exclusive arena. Demand 3 stands or falls with these facts. Assumes nothing.
 use mathlib.Core.Path.{_≡_, refl, sym, ap, _∙_}
-use mathlib.Core.Bool.{Bool, true, false, _&&_, true≢false}
+use mathlib.Core.Bool.{Bool, true, false, not, _&&_, true≢false}
 use mathlib.Core.List.{List}
 use Prim.Native.Nat.{ℕ, zero, suc, _+_, _≤_}
 use native.Mathlib.Omega.{arith}
@@ -21,7 +21,7 @@ use Rattle.layer.proofs.Tools.{or-false}
 -- a negative id passes an exclusive arena over
 pub shared-only : (x i : ℕ) (a : Arena) → a .exclusive ≡ true → eligible (negsuc x) i a ≡ false
 unfolding eligible
-shared-only x i a e = rw e refl
+shared-only x i a e = ap not e
 
 -- another id names one arena
 pub named-only : (x i : ℕ) (a : Arena) → eligible (pos x) i a ≡ true → i ≡ x

@@ -49,7 +49,7 @@ use Rattle.layer.specs.Registering.{askMemory, withRecord, register, gro
 use Rattle.layer.specs.Claiming.{eligible, serves, missReply, grantFound, searchOf, claimOf}
 use Rattle.layer.specs.Releasing.{releaseIn, releaseOf}
 use Rattle.layer.specs.Sweeping.{purgeReply, sweptReply, visitAt, visit, sweepFrom}
-use Rattle.layer.specs.Answering.{isFor, counted, failReply, resume, answerCommit, answerPurge, answerMemory, answerOf}
+use Rattle.layer.specs.Answering.{isFor, failReply, resume, answerCommit, answerPurge, answerMemory, answerOf}
 use Rattle.layer.specs.Step.{Call, reserve, manage, adopt, claim, release, sweep, answer, owns, area, gate, stepOn}
 use Rattle.layer.proofs.Tools.{at-same, at-other}
 use Rattle.layer.proofs.Facts.{SoundTable, SoundQuestion}

@@ -1,7 +1,7 @@
 -- The share book that a record and what is open about it show; the invariant of a sequence, and what one call does to it. The book shown knows no id and no
 -- table. Assumes nothing.
 use mathlib.Core.Path.{_≡_}
-use mathlib.Core.Bool.{Bool, true, cond, not, _&&_, _||_}
+use mathlib.Core.Bool.{Bool, true, not, _&&_, _||_}
 use mathlib.Core.List.{List, _++_}
 use Prim.Native.Nat.{ℕ, _<_}
 use Rattle.words.specs.Bits.{bitAt, within}

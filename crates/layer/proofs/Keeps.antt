@@ -27,7 +27,7 @@ use Rattle.arena.specs.declared.Arena.{Arena}
 use Rattle.arena.specs.declared.Commitment.{Commitment}
 use Rattle.arena.specs.Claiming.{findRun, takeRun, dirtyRun, finishGrant}
 use Rattle.arena.specs.Releasing.{releaseRun}
-use Rattle.arena.specs.Sweeping.{sweepDue, disarm, toAsk, young, nextAsked, borrowChunk, returnChunk, rearm}
+use Rattle.arena.specs.Sweeping.{sweepDue, disarm, toAsk, young, nextAsked, borrowChunk, rearm}
 use Rattle.lookup.specs.Place.{bytesOf, endOf, isInside}
 use Rattle.lookup.proofs.PlaceLaws.{Within, inside-facts}
 use Rattle.purge.specs.Stamps.{stampsOf}
@@ -49,11 +49,11 @@ use Rattle.layer.specs.Registering.{askMemory, withRecord, register, gro
 use Rattle.layer.specs.Claiming.{eligible, serves, missReply, grantFound, searchOf, claimOf}
 use Rattle.layer.specs.Releasing.{releaseIn, releaseOf}
 use Rattle.layer.specs.Sweeping.{purgeReply, sweptReply, visitAt, visit, sweepFrom}
-use Rattle.layer.specs.Answering.{isFor, failReply, resume, answerCommit, answerPurge, answerMemory, answerOf}
+use Rattle.layer.specs.Answering.{isFor, counted, failReply, resume, answerCommit, answerPurge, answerMemory, answerOf}
 use Rattle.layer.specs.Step.{Call, reserve, manage, adopt, claim, release, sweep, answer, owns, area, gate, stepOn}
 use Rattle.layer.proofs.Tools.{at-same, at-other}
 use Rattle.layer.proofs.Facts.{SoundTable, SoundQuestion}
-use Rattle.layer.proofs.Rules.{not-shared, served-named, grows-facts}
+use Rattle.layer.proofs.Rules.{not-shared, served-named, grows-facts, others-left, Again, again}
 use Rattle.layer.proofs.Registered.{meets-false}
 use Rattle.layer.specs.Book.{Book, Fed, claims, releases, Say, refused, granted, released, Turn, turn, claimed, unhold, enter}
 use Rattle.layer.specs.Sequence.{isIdle, askerAfter, Role, feeds, closes, aside, inRange, ends, role, said, View, calm, committing, purging, viewOf, owedIn, isAnswer, declines}
@@ -82,6 +82,24 @@ only-one S l k i j x t u v e f = go (ℕ-discrete i j)
     go : Dec (i ≡ j) → i ≡ j
     go (yes d) = d
     go (no d) = ⊎-elim (λ (m : i < j). absurd (apart i j m v e f)) (λ (m : j ≤ i). absurd (apart j i (omega (arith, d)) u f e)) (lt-or-le i j)
+
+-- an answer to a purge question: the sweep goes on from a record that shows the book without the borrowed chunk
+record Returned (S : ℕ) (l : List Arena) (stamps : List ℕ) (k : ℕ) (mark : Bool) (i j : ℕ) (w : Sweep) (agreed : Bool) : Type 0 where
+  back : Arena
+  is : answerPurge S l stamps k mark i j w agreed ≡ visit S stamps k mark (counted w agreed) l i back (j + 1) (sweepFrom S stamps k mark (counted w agreed) (k - (i + 1)) (i + 1))
+  shows : bookIn calm back ≡ bookIn (purging j) (at l i)
+  rows : Rows back
+  stays : (b n : ℕ) → Stays b n (at l i) → Stays b n back
+
+returned : (S : ℕ) (l : List Arena) (stamps : List ℕ) (k : ℕ) (mark : Bool) → SoundTable S l k → (i j : ℕ) (w : Sweep) (agreed : Bool) → SoundQuestion l k (Purging i j w)
+    → Returned S l stamps k mark i j w agreed
+returned S l stamps k mark t i j w agreed h = record {
+  back = _;
+  is = refl;
+  shows = book-returned (at l i) j agreed (w .decommit) (t .rows i (h .0)) (omega (arith, h .1, t .each i (h .0) .range .few));
+  rows = return-rows (at l i) j agreed (w .decommit) (t .rows i (h .0));
+  stays = λ b n x. return-stays b n (at l i) x j agreed (w .decommit);
+}
 
 module _ (S p id b n : ℕ) where
   -- the book shown, what is owed, the invariant and what one call does, at this arena
@@ -142,16 +160,17 @@ module _ (S p id b n : ℕ) where
       owed = ap (λ (x : View). owedIn S x (at l id)) e;
     }
 
-    -- another record is stored
-    elsewhere : (l : List Arena) (k k′ i : ℕ) (c : Arena) → k ≤ k′ → (i ≡ id → ⊥) → Holds B l k → Holds B (set l i c) k′
-    elsewhere l k k′ i c u d h = record {
+    -- the arena's record is as it was
+    unmoved : (l l′ : List Arena) (k k′ : ℕ) → k ≤ k′ → at l′ id ≡ at l id → Holds B l k → Holds B l′ k′
+    unmoved l l′ k k′ u there h = record {
       low = omega (arith, h .low);
       stays = subst (Stays b n) (sym there) (h .stays);
       shows = ap (bookIn calm) there ∙ h .shows;
     }
-      where
-        there : at (set l i c) id ≡ at l id
-        there = at-other l i id c (λ e. d (sym e))
+
+    -- another record is stored
+    elsewhere : (l : List Arena) (k k′ i : ℕ) (c : Arena) → k ≤ k′ → (i ≡ id → ⊥) → Holds B l k → Holds B (set l i c) k′
+    elsewhere l k k′ i c u d h = unmoved l (set l i c) k k′ u (at-other l i id c (λ e. d (sym e))) h
 
     module _ (l : List Arena) (stamps : List ℕ) (k : ℕ) (mark : Bool) (h : Holds B l k) where
       -- ---- claims that do not find the arena
@@ -216,7 +235,9 @@ module _ (S p id b n : ℕ) where
     resumes l stamps k mark h c Reserve = rests (withRecord l k c) (suc k) Idle _ _ mark refl (added l stamps k mark h c)
     resumes l stamps k mark h c (Claim m commits) =
         let u : Holds B (withRecord l k c) (suc k) = added l stamps k mark h c in
-        seeks (withRecord l k c) _ (suc k) mark u _ m commits _ (not-exclusive (withRecord l k c) stamps (suc k) mark u 0 m) (rests (withRecord l k c) (suc k) Idle _ _ mark refl u)
+        let g : Again S l stamps k mark c m commits = again S l stamps k mark c m commits in
+        subst (Leaves B [] y) (sym (g .is))
+        (seeks (withRecord l k c) _ (suc k) mark u (g .id) m commits _ (λ i. g .passes-over i id (u .stays .exclusive)) (rests (withRecord l k c) (suc k) Idle _ _ mark refl u))
 
     fails : (l : List Arena) (stamps : List ℕ) (k : ℕ) (mark : Bool) (h : Holds B l k) (why : Refusal) (waiting : Waiting) → Leaves B [] y (after (failReply k mark why waiting) l stamps)
     fails l stamps k mark h why Reserve = rests l k Idle _ stamps mark refl h
@@ -440,29 +461,28 @@ module _ (S p id b n : ℕ) where
         e : viewOf id (Committing i s m) ≡ calm
         e = view-commit-other id i s m d
 
-        go : (agreed : Bool) → Leaves (shown l (Committing i s m)) [] z (answerCommit S l stamps k mark i s m agreed)
-        go true = rests _ z _ k Idle _ stamps mark refl (elsewhere _ z l k k i _ (omega arith) d (holds l k (Committing i s m) z e v))
-        go false = rests _ z _ k Idle _ stamps mark refl (elsewhere _ z l k k i _ (omega arith) d (holds l k (Committing i s m) z e v))
+        left-alone : (agreed : Bool) → Holds (shown l (Committing i s m)) (answerCommit S l stamps k mark i s m agreed .world .records) k
+        left-alone agreed = unmoved _ z l _ k k (omega arith) (others-left S l stamps k mark i s m agreed id (λ c. d (sym c))) (holds l k (Committing i s m) z e v)
 
-    -- a record whose chunk j is borrowed, once the chunk came back
-    returned : (B : Book) (a : Arena) (j : ℕ) (agreed decommit : Bool) → Rows a → Stays b n a → j < 1024 → bookIn (purging j) a ≡ B → Ready B z (returnChunk a j agreed decommit)
-    returned B a j agreed decommit r x h e = record {
-      rows = return-rows a j agreed decommit r;
-      stays = return-stays b n a x j agreed decommit;
-      shows = book-returned a j agreed decommit r h ∙ e;
-    }
+        go : (agreed : Bool) → Leaves (shown l (Committing i s m)) [] z (answerCommit S l stamps k mark i s m agreed)
+        go true = rests _ z _ k Idle _ stamps mark refl (left-alone true)
+        go false = rests _ z _ k Idle _ stamps mark refl (left-alone false)
 
     -- the chunk comes back, and the sweep goes on
     purge-answer : (i j : ℕ) (w : Sweep) (agreed : Bool) → SoundQuestion l k (Purging i j w) → Invariant l k (Purging i j w) z
         → Does l (Purging i j w) who z aside (answerPurge S l stamps k mark i j w agreed)
     purge-answer i j w agreed h v =
-        quiet l (Purging i j w) who z (answerPurge S l stamps k mark i j w agreed) (none (eqb i id))
-        (visits B z stamps k mark _ (v .low) (t .few) small l i _ _ _ (t .long)
-        (λ e. returned B (at l i) j agreed (w .decommit) (t .rows i (h .0)) (subst (λ (x : ℕ). Stays b n (at l x)) (sym e) (v .stays)) (omega (arith, h .1, t .each i (h .0) .range .few)) (borrowed e))
-        other (λ m u r. sweeps B z stamps k mark _ (v .low) (t .few) small _ _ m u r))
+        quiet l (Purging i j w) who z _ (none (eqb i id))
+        (subst (Leaves B [] z) (sym (r .is))
+        (visits B z stamps k mark _ (v .low) (t .few) small l i (r .back) _ _ (t .long)
+        (λ e. record { rows = r .rows; stays = r .stays b n (subst (λ (x : ℕ). Stays b n (at l x)) (sym e) (v .stays)); shows = r .shows ∙ borrowed e })
+        other (λ m u x. sweeps B z stamps k mark _ (v .low) (t .few) small _ _ m u x)))
       where
         B : Book
         B = shown l (Purging i j w)
+
+        r : Returned S l stamps k mark i j w agreed
+        r = returned S l stamps k mark t i j w agreed h
 
         small : n ≤ 1024
         small = omega (arith, v .stays .chunks, t .each id (v .low) .range .few)

@@ -22,7 +22,7 @@ use Rattle.refusals.specs.declared.Refusal.the-variants.{Broken}
 use Rattle.refusals.specs.Number.{number}
 use Rattle.arena.specs.declared.Arena.{Arena}
 use Rattle.arena.specs.Registering.{newArena, reservedArena, managedArena, adoptedArena, grownArena}
-use Rattle.arena.specs.Sweeping.{sweepDue, disarm, returnChunk, nextAsked}
+use Rattle.arena.specs.Sweeping.{sweepDue, disarm, nextAsked}
 use Rattle.lookup.specs.Place.{isInside}
 use Rattle.lookup.specs.Soundness.{soundArena}
 use Rattle.lookup.proofs.SoundLaws.{never}
@@ -50,7 +50,7 @@ use Rattle.layer.specs.Answering.{isFor, causeRefusal, counted, failRepl
 use Rattle.layer.specs.Step.{Call, reserve, manage, adopt, claim, release, sweep, answer, owns, area, sweepOf, gate, stepOn, step}
 use Rattle.layer.proofs.Tools.{at-same, at-other}
 use Rattle.layer.proofs.Facts.{SoundTable, SoundQuestion, question-facts}
-use Rattle.layer.proofs.Rules.{not-shared, served-named, grows-facts, count-facts}
+use Rattle.layer.proofs.Rules.{not-shared, served-named, grows-facts, Again, again, count-facts}
 use Rattle.layer.proofs.Registered.{good-range, new-table, reserved-rows, reserved-sound, reserved-range}
 use Rattle.layer.specs.Book.{opened}
 use Rattle.layer.specs.Sequence.{isBroken, calm, asksIn, asksFor}
@@ -179,14 +179,18 @@ module _ (S : ℕ) (l : List Arena) (stamps : List ℕ) (k : ℕ) (mark : Bool) 
       → TellsOf S l k (asksIn (Reserving chunks bytes commit exclusive waiting)) (λ j. false) (resume S l stamps k mark (reservedArena base chunks commit exclusive) waiting)
   resume-tells base chunks bytes commit exclusive Reserve e f g h = new (reservedArena base chunks commit exclusive) (reserved-shows base chunks commit exclusive (count-facts chunks f .1)) h
   resume-tells base chunks bytes commit exclusive (Claim n commits) e f g h =
-      search-cases S m (withStamps stamps k) (suc k) mark (TellsOf S l k n (λ j. false)) (negsuc 0) n commits _ (λ _. refl)
+      subst (TellsOf S l k n (λ j. false)) (sym (once .is))
+      (search-cases S m (withStamps stamps k) (suc k) mark (TellsOf S l k n (λ j. false)) (once .id) n commits _ (λ _. refl)
       (λ i u v. grant-cases S m (withStamps stamps k) (suc k) mark (TellsOf S l k n (λ j. false)) i n commits (λ _. refl)
       (λ s r t j w x z y lo hi. subst (λ (a : Arena). isInside S a y ≡ false) (kept j w)
-      (elsewhere S m (suc k) i j s n (made t) u (omega arith) (not-shared 0 n m i j (ap (λ (a : Arena). a .exclusive) (kept j w) ∙ x) v) (found-inside (at m i) n s r) y lo hi))
-      (λ s _. tt))
+      (elsewhere S m (suc k) i j s n (made t) u (omega arith) (once .passes-over i j (ap (λ (a : Arena). a .exclusive) (kept j w) ∙ x) v) (found-inside (at m i) n s r) y lo hi))
+      (λ s _. tt)))
     where
       m : List Arena
       m = withRecord l k (reservedArena base chunks commit exclusive)
+
+      once : Again S l stamps k mark (reservedArena base chunks commit exclusive) n commits
+      once = again S l stamps k mark (reservedArena base chunks commit exclusive) n commits
 
       kept : (j : ℕ) → j < k → at m j ≡ at l j
       kept j u = at-other l k j (reservedArena base chunks commit exclusive) (λ d. omega arith)
@@ -239,7 +243,7 @@ module _ (S : ℕ) (l : List Arena) (stamps : List ℕ) (k : ℕ) (mark : Bool) 
       go Idle x = refl
       go (Committing i s n) x = commit-tells S l stamps k mark i s n accepted x
       go (Purging i j w) x =
-          visit-cases S stamps k mark (counted w accepted) (TellsOf S l k 0 (λ u. false)) (λ ask v. tt) (λ n v. tt) l i (returnChunk (at l i) j accepted (w .decommit)) (j + 1) _
+          visit-cases S stamps k mark (counted w accepted) (TellsOf S l k 0 (λ u. false)) (λ ask v. tt) (λ n v. tt) l i _ _ _
           (λ m. sweep-cases S stamps k mark (counted w accepted) (TellsOf S l k 0 (λ u. false)) (λ ask v. tt) (λ n v. tt) (k - (i + 1)) (i + 1) m)
       go (Reserving chunks bytes commit exclusive waiting) x = memory-tells S l stamps k mark chunks bytes commit exclusive waiting accepted base
       go (GivingBack c waiting) x = fail-tells S l stamps k mark _ _ _ waiting (cause c)

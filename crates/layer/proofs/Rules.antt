@@ -7,6 +7,7 @@ use native.Mathlib.Omega.{arith}
 use borrow.Author.Tests.{eqb-true, eqb-false, leb-true, ltb-false}
 use lib.Dec.{eqb, leb}
 use lib.IntN.{ℤ, pos, negsuc}
+use Rattle.refusals.specs.declared.Refusal.the-variants.{NoRun}
 use Rattle.words.proofs.Tests.{when}
 use Rattle.runs.proofs.SearchLaws.{and-both}
 use Rattle.arena.specs.declared.Arena.{Arena}
@@ -15,15 +16,16 @@ use Rattle.lookup.specs.Place.{endOf}
 use Rattle.layer.specs.declared.Settings.{Settings}
 use Rattle.layer.specs.declared.Question.the-variants.{Reserving}
 use Rattle.layer.specs.declared.Waiting.{Waiting}
+use Rattle.layer.specs.declared.Waiting.the-variants.{Claim}
 use Rattle.layer.specs.declared.Kind.the-variants.{ForCommit, ForPurge, ForMemory, ForGiveBack, ForNone}
-use Rattle.layer.specs.World.{World, Outcome}
+use Rattle.layer.specs.World.{World, Outcome, turnDown, calm}
 use Rattle.layer.specs.Table.{at, isAt, badRange}
-use Rattle.layer.specs.Registering.{grows, badCount}
-use Rattle.layer.specs.Claiming.{eligible, serves}
-use Rattle.layer.specs.Answering.{isFor, answerOf}
+use Rattle.layer.specs.Registering.{grows, badCount, withRecord, withStamps}
+use Rattle.layer.specs.Claiming.{eligible, serves, searchOf}
+use Rattle.layer.specs.Answering.{isFor, answerCommit, resume, answerOf}
 use Rattle.layer.specs.Step.{Call, reserve, manage, adopt, claim, release, sweep, answer, owns, area, stepOn}
 use Rattle.layer.specs.Demand.{leavesOpen}
-use Rattle.layer.proofs.Tools.{or-false}
+use Rattle.layer.proofs.Tools.{or-false, at-other}
 
 -- ---- claims
 
@@ -96,6 +98,24 @@ left-open S n bytes commit exclusive waiting w ns settings (release address c te
 left-open S n bytes commit exclusive waiting w ns settings (sweep force) e = refl
 left-open S n bytes commit exclusive waiting w ns settings (owns address) e = refl
 left-open S n bytes commit exclusive waiting w ns settings (area id) e = refl
+
+-- ---- answers
+
+module _ (S : ℕ) (l : List Arena) (stamps : List ℕ) (k : ℕ) (mark : Bool) where
+  -- an answer to a commit question leaves every other arena as it was
+  pub others-left : (i s n : ℕ) (granted : Bool) (j : ℕ) → (j ≡ i → ⊥) → at (answerCommit S l stamps k mark i s n granted .world .records) j ≡ at l j
+  others-left i s n true j d = at-other l i j _ d
+  others-left i s n false j d = at-other l i j _ d
+
+  -- a claim that waited for memory "searches once more", and passes every exclusive arena over
+  pub record Again (a : Arena) (n : ℕ) (commits : Bool) : Type 0 where
+    pub id : ℤ
+    pub is : resume S l stamps k mark a (Claim n commits)
+        ≡ searchOf S (withRecord l k a) (withStamps stamps k) (suc k) mark id n commits (turnDown NoRun (calm (suc k) mark))
+    pub passes-over : (i j : ℕ) → at (withRecord l k a) j .exclusive ≡ true → serves id n (withRecord l k a) i ≡ true → i ≡ j → ⊥
+
+  pub again : (a : Arena) (n : ℕ) (commits : Bool) → Again a n commits
+  again a n commits = record { id = _; is = refl; passes-over = λ i j e f. not-shared 0 n (withRecord l k a) i j e f }
 
 -- ---- registering
 

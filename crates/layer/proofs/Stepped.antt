@@ -6,7 +6,7 @@ use Prim.Native.Nat.{ℕ, suc, _+_, _-_, _*_, _<_, _≤_}
 use native.Mathlib.Omega.{arith}
 use borrow.Author.Tests.{leb-true, le-leb, eqb-true, eq-eqb}
 use lib.Dec.{leb, eqb}
-use lib.IntN.{ℤ, negsuc}
+use lib.IntN.{ℤ}
 use lib.ListN.{length}
 use Rattle.words.proofs.Tests.{by-cond}
 use Rattle.runs.specs.Lowest.{all}
@@ -108,7 +108,7 @@ module _ (S : ℕ) (pos : 0 < S) (l : List Arena) (stamps : List ℕ) (k : ℕ) 
       go : (v : Waiting) → Kept S (resume S l stamps k mark (reservedArena base chunks commit exclusive) v)
       go Reserve = record { table = made; stamps = long; question = tt }
       go (Claim n commits) =
-          search-kept S (withRecord l k (reservedArena base chunks commit exclusive)) (withStamps stamps k) (suc k) mark made long (negsuc 0) n commits
+          search-kept S (withRecord l k (reservedArena base chunks commit exclusive)) (withStamps stamps k) (suc k) mark made long _ n commits
           (turnDown NoRun (calm (suc k) mark)) (record { table = made; stamps = long; question = tt })
 
   memory-kept : (chunks bytes : ℕ) (commit exclusive : Bool) (waiting : Waiting) (granted : Bool) (base : ℕ)

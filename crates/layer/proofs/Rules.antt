@@ -1,4 +1,4 @@
--- What single rules say of an exclusive arena. Demand 3 stands or falls with these facts. Assumes nothing.
+-- What single rules say, each as a short fact: a layer that breaks one of them fails demand 3. Assumes nothing.
 use mathlib.Core.Path.{_≡_, refl, sym, ap, _∙_}
 use mathlib.Core.Bool.{Bool, true, false, not, _&&_, true≢false}
 use mathlib.Core.List.{List}
@@ -30,12 +30,12 @@ use Rattle.layer.proofs.Tools.{or-false, at-other}
 -- ---- claims
 
 -- a negative id passes an exclusive arena over
-pub shared-only : (x i : ℕ) (a : Arena) → a .exclusive ≡ true → eligible (negsuc x) i a ≡ false
+shared-only : (x i : ℕ) (a : Arena) → a .exclusive ≡ true → eligible (negsuc x) i a ≡ false
 unfolding eligible
 shared-only x i a e = ap not e
 
 -- another id names one arena
-pub named-only : (x i : ℕ) (a : Arena) → eligible (pos x) i a ≡ true → i ≡ x
+named-only : (x i : ℕ) (a : Arena) → eligible (pos x) i a ≡ true → i ≡ x
 unfolding eligible
 named-only x i a e = eqb-true i x e
 

@@ -4,7 +4,7 @@ use mathlib.Core.Bool.{Bool, true, false, cond, not, _&&_, _||_}
 use mathlib.Core.List.{List}
 use Prim.Native.Nat.{ℕ, suc, _+_, _-_, _*_, _/_, _%_, _<_}
 use native.Mathlib.Omega.{arith}
-use borrow.Author.Tests.{leb-false, eqb-true}
+use borrow.Author.Tests.{leb-false, eqb-true, eqb-false}
 use lib.Dec.{eqb, leb}
 use lib.IntN.{ℤ}
 use lib.ListN.{set}
@@ -15,6 +15,7 @@ use Rattle.runs.specs.declared.Found.{Found}
 use Rattle.runs.specs.declared.Found.the-variants.{At, Nothing}
 use Rattle.runs.specs.Lowest.{least}
 use Rattle.runs.proofs.LowestLaws.{First, first-says}
+use Rattle.runs.proofs.SearchLaws.{and-both}
 use Rattle.options.specs.Options.{arenaAllowed}
 use Rattle.arena.specs.declared.Arena.{Arena}
 use Rattle.arena.specs.declared.Commitment.{Commitment}
@@ -62,14 +63,11 @@ module _ (S : ℕ) (l : List Arena) (stamps : List ℕ) (k : ℕ) (mark : Bool) 
     where
       go : (f : Found) → findRun (at l i) m ≡ f → P (grantFound S l stamps k mark i m commits f)
       go Nothing e = none e
-      go (At s) e = run (asksCommit (at l i) s m commits)
+      go (At s) e = run (asksCommit (at l i) s m commits) refl
         where
-          run : (c : Bool) → P (after
-              (cond c (reply (Asks (AskCommit (at l i .base + s * S) (m * S))) (stateOf k mark (Committing i s m)))
-              (reply (Claimed (at l i .base + s * S) (runFresh (at l i) s m) (runCommitted (at l i) s m)) (calm k mark)))
-              (set l i (cond c (takeRun (at l i) s m) (dirtyRun (takeRun (at l i) s m) s m))) stamps)
-          run true = ask s e
-          run false = grant s e
+          run : (c : Bool) → asksCommit (at l i) s m commits ≡ c → P (grantFound S l stamps k mark i m commits (At s))
+          run true f = rw f (ask s e)
+          run false f = rw f (grant s e)
 
   pub search-cases : (id : ℤ) (m : ℕ) (commits : Bool) (missed : Reply) → (((i : ℕ) → i < k → serves id m l i ≡ false) → P (after missed l stamps))
       → ((i : ℕ) → i < k → serves id m l i ≡ true → P (grantFound S l stamps k mark i m commits (findRun (at l i) m)))
@@ -110,14 +108,10 @@ module _ (S : ℕ) (l : List Arena) (stamps : List ℕ) (k : ℕ) (mark : Bool) 
     unfolding releases releaseReply
     release-in-cases i offset part past whole = go (eqb (offset % S) 0) refl (leb (offset / S + m) (at l i .chunks)) refl
       where
-        go : (w : Bool) → eqb (offset % S) 0 ≡ w → (r : Bool) → leb (offset / S + m) (at l i .chunks) ≡ r
-            → P (cond (w && r)
-            (after (cond w (cond r (reply Released (calm k mark)) (turnDown PastEnd (calm k mark))) (turnDown NotWhole (calm k mark)))
-            (set l i (releaseRun (at l i) (offset / S) m told pending now delay)) (cond pending (stampRun stamps (1024 * i + offset / S) m now) stamps))
-            (after (cond w (cond r (reply Released (calm k mark)) (turnDown PastEnd (calm k mark))) (turnDown NotWhole (calm k mark))) l stamps))
-        go false e r f = part e
-        go true e false f = past e f
-        go true e true f = whole e f
+        go : (w : Bool) → eqb (offset % S) 0 ≡ w → (r : Bool) → leb (offset / S + m) (at l i .chunks) ≡ r → P (releaseIn S l stamps k mark i offset m told pending now delay)
+        go false e r f = rw e (part e)
+        go true e false f = rw e (rw f (past e f))
+        go true e true f = rw e (rw f (whole e f))
 
     pub release-cases : (x : ℕ) → (eqb m 0 ≡ true → P (down S l stamps k mark Zero)) → (eqb m 0 ≡ false → ((i : ℕ) → i < k → isInside S (at l i) x ≡ false) → P (down S l stamps k mark NotInside))
         → ((i : ℕ) → eqb m 0 ≡ false → i < k → isInside S (at l i) x ≡ true → P (releaseIn S l stamps k mark i (x - at l i .base) m told pending now delay))
@@ -144,38 +138,42 @@ module _ (S : ℕ) (l : List Arena) (stamps : List ℕ) (k : ℕ) (mark : Bool) 
   unfolding registers registerReply
   register-cases chunks a many full new = go (badCount chunks) refl (leb 32 k) refl
     where
-      go : (c : Bool) → badCount chunks ≡ c → (d : Bool) → leb 32 k ≡ d
-          → P (cond (not c && not d)
-          (after (cond c (turnDown ChunkCount (calm k mark)) (cond d (turnDown TableFull (calm k mark)) (reply (Registered k) (calm (suc k) mark)))) (withRecord l k a) (withStamps stamps k))
-          (after (cond c (turnDown ChunkCount (calm k mark)) (cond d (turnDown TableFull (calm k mark)) (reply (Registered k) (calm (suc k) mark)))) l stamps))
-      go true e d f = many
-      go false e true f = full
-      go false e false f = new e (leb-false 32 k f)
+      go : (c : Bool) → badCount chunks ≡ c → (d : Bool) → leb 32 k ≡ d → P (register l stamps k mark chunks a)
+      go true e d f = rw e many
+      go false e true f = rw e (rw f full)
+      go false e false f = rw e (rw f (new e (leb-false 32 k f)))
 
   pub manage-cases : (start size : ℕ) (exclusive : Bool) (node : ℤ) (mapped reserved : Bool) → P (down S l stamps k mark NoWholeChunk) → P (down S l stamps k mark HostRefused) → P (down S l stamps k mark Range)
-      → (let chunks = (pastWhole S start size - firstWhole S start) / S in P (register l stamps k mark chunks (managedArena (firstWhole S start) chunks exclusive node)))
+      → (badRange S l k (firstWhole S start) (pastWhole S start size - firstWhole S start) ≡ false
+      → let chunks = (pastWhole S start size - firstWhole S start) / S in P (register l stamps k mark chunks (managedArena (firstWhole S start) chunks exclusive node)))
       → P (manageOf S l stamps k mark start size exclusive node mapped reserved)
   unfolding manageOf
   manage-cases start size exclusive node mapped reserved part host range add =
       by-cond P (noWholeChunk S start size) _ _ (λ e. part)
       (λ e. by-cond P (mapped || not reserved) _ _ (λ f. host)
-      (λ f. by-cond P (badRange S l k (firstWhole S start) (pastWhole S start size - firstWhole S start)) _ _ (λ g. range) (λ g. add)))
+      (λ f. by-cond P (badRange S l k (firstWhole S start) (pastWhole S start size - firstWhole S start)) _ _ (λ g. range) add))
+
+  -- the block is of whole chunks, and row 6 lets it pass
+  abbrev pub Whole : ℕ → ℕ → Type 0
+  Whole address size = (size ≡ 0 → ⊥) × (address % S ≡ 0) × (size % S ≡ 0) × (badRange S l k address size ≡ false)
 
   pub adopt-cases : (address size : ℕ) → P (down S l stamps k mark Zero) → P (down S l stamps k mark NotWhole) → P (down S l stamps k mark Range)
-      → ((i : ℕ) → i < k → grows S (at l i) address (size / S) ≡ true → P (after (reply (Registered i) (calm k mark)) (set l i (grownArena (at l i) (size / S))) stamps))
-      → P (register l stamps k mark (size / S) (adoptedArena address (size / S)))
+      → ((i : ℕ) → Whole address size → i < k → grows S (at l i) address (size / S) ≡ true → P (after (reply (Registered i) (calm k mark)) (set l i (grownArena (at l i) (size / S))) stamps))
+      → (Whole address size → P (register l stamps k mark (size / S) (adoptedArena address (size / S))))
       → P (adoptOf S l stamps k mark address size)
   unfolding adoptOf
   adopt-cases address size zero part range grow add =
       by-cond P (eqb size 0) _ _ (λ e. zero)
       (λ e. by-cond P (eqb (address % S) 0 && eqb (size % S) 0) _ _
       (λ f. by-cond P (badRange S l k address size) _ _ (λ g. range)
-      (λ g. go (least (λ i. grows S (at l i) address (size / S)) 0 k) (first-says (λ i. grows S (at l i) address (size / S)) 0 k)))
+      (λ g. let w = and-both (eqb (address % S) 0) _ f in
+      go (eqb-false size 0 e, eqb-true (address % S) 0 (w .0), eqb-true (size % S) 0 (w .1), g)
+      (least (λ i. grows S (at l i) address (size / S)) 0 k) (first-says (λ i. grows S (at l i) address (size / S)) 0 k)))
       (λ f. part))
     where
-      go : (f : Found) → First (λ i. grows S (at l i) address (size / S)) 0 k f → P (adoptAt S l stamps k mark address (size / S) f)
-      go (At i) h = grow i (omega (arith, h .1)) (h .2)
-      go Nothing h = add
+      go : Whole address size → (f : Found) → First (λ i. grows S (at l i) address (size / S)) 0 k f → P (adoptAt S l stamps k mark address (size / S) f)
+      go w (At i) h = grow i w (omega (arith, h .1)) (h .2)
+      go w Nothing h = add w
 
   -- memory came
   pub memory-cases : (chunks bytes : ℕ) (commit exclusive : Bool) (waiting : Waiting) (base : ℕ)

@@ -15,7 +15,7 @@ use Rattle.layer.specs.Step.{Call, stepOn, step}
 use Rattle.layer.proofs.Kept.{SoundWorld}
 use Rattle.layer.proofs.Stepped.{step-on-kept}
 use Rattle.layer.specs.Book.{Book, Fed, Say, Choice, opened, enter, enterAll, sayAll}
-use Rattle.layer.specs.Sequence.{Marked, Trail, outcomeOf, isBroken, brokenAt, isIdle, next, after, start, Lent, Role, aside, role, roleOf, fedOf, toldOf, fed, told, View, calm, viewOf, owedIn, owed, Premises, Premise, Opens, asksFor}
+use Rattle.layer.specs.Sequence.{Marked, Trail, outcomeOf, isBroken, brokenAt, askerAfter, next, after, start, Lent, Role, aside, role, roleOf, fedOf, toldOf, fed, told, View, calm, viewOf, owedIn, owed, Premises, Premise, Opens, asksFor}
 use Rattle.layer.specs.Demand.{opening, Course, Demand3}
 use Rattle.layer.proofs.Shown.{bookIn, Mine, bookAt, Inv, Fits}
 use Rattle.layer.proofs.Keeps.{keeps}
@@ -171,7 +171,7 @@ module _ (S p id b n : ℕ) where
         inv = record {
           low = new .low;
           stays = record { exclusive = o .exclusive; base = o .base; chunks = o .chunks };
-          mine = subst (Mine p (cond (isIdle (t .world .state .question)) (m .who) (t .asker))) (sym view) tt;
+          mine = subst (Mine p (askerAfter (t .world .state .question) (m .who) (t .asker))) (sym view) tt;
         };
         book = ap (λ (v : View). bookIn v (at (w .records) id)) view ∙ new .shows (o .exclusive)
             ∙ ap₂ (λ (x y : ℕ). opened x y (not (at (w .records) id .owned))) (o .base) (o .chunks)

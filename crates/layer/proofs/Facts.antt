@@ -1,32 +1,26 @@
 -- A sound table, by facts, and when a store leaves one. Assumes nothing.
-use mathlib.Core.Path.{_≡_, refl, sym, ap, ap₂, _∙_, subst}
-use mathlib.Core.Bool.{Bool, true, false, cond, not, _&&_, _||_, true≢false}
+use mathlib.Core.Path.{_≡_, refl, sym, ap, ap₂, _∙_}
+use mathlib.Core.Bool.{true, false, not, _&&_, true≢false}
 use mathlib.Core.List.{List}
-use mathlib.Core.Logic.{⊎-elim, _↔_}
-use Prim.Native.Nat.{ℕ, suc, _+_, _*_, _^_, _<_, _≤_}
+use Prim.Native.Nat.{ℕ, _+_, _*_, _<_, _≤_}
 use native.Mathlib.Omega.{arith}
 use native.Mathlib.Decide.{ℕ-discrete}
-use borrow.Author.Tests.{not-true, leb-true, ltb-true, ltb-false, le-leb, lt-ltb, le-ltb}
-use lib.Dec.{leb, ltb, eqb}
-use lib.ListN.{length, getD, set, length-set}
+use borrow.Author.Tests.{not-true, leb-true, ltb-true, le-leb, lt-ltb}
+use lib.Dec.{leb, ltb}
+use lib.ListN.{length, set, length-set}
 use Rattle.words.specs.Bits.{bitAt}
-use Rattle.words.proofs.RowLaws.{lt-or-le}
-use Rattle.words.proofs.Tests.{by-cond}
 use Rattle.runs.specs.declared.Found.{Found}
 use Rattle.runs.specs.declared.Found.the-variants.{At, Nothing}
-use Rattle.runs.specs.Lowest.{all, least}
+use Rattle.runs.specs.Lowest.{least}
 use Rattle.runs.proofs.LowestLaws.{all-free-of, free-all, First, first-says, least-none}
 use Rattle.runs.proofs.SearchLaws.{and-both}
 use Rattle.arena.specs.declared.Arena.{Arena}
 use Rattle.lookup.specs.Place.{bytesOf, endOf}
-use Rattle.lookup.specs.Soundness.{soundArena}
-use Rattle.lookup.proofs.SoundLaws.{SoundArena, arena-facts, arena-test}
+use Rattle.lookup.proofs.SoundLaws.{SoundArena}
 use Rattle.arena_laws.specs.Rows.{Rows}
-use Rattle.layer.specs.declared.State.{State}
 use Rattle.layer.specs.declared.Question.{Question}
 use Rattle.layer.specs.declared.Question.the-variants.{Idle, Committing, Purging, Reserving, GivingBack}
-use Rattle.layer.specs.World.{blank}
-use Rattle.layer.specs.Table.{at, isAt, meets, overlaps, apart, askedId, soundQuestion, soundTable}
+use Rattle.layer.specs.Table.{at, isAt, meets, overlaps, apart, askedId, soundQuestion}
 use Rattle.layer.proofs.Tools.{at-same, at-other, by-set}
 
 -- ---- ranges

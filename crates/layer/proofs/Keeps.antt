@@ -6,7 +6,7 @@ use mathlib.Core.Logic.{⊎-elim}
 use Prim.Native.Nat.{ℕ, zero, suc, _+_, _-_, _*_, _/_, _%_, _≤_, _<_}
 use native.Mathlib.Omega.{arith}
 use native.Mathlib.Decide.{ℕ-discrete}
-use borrow.Author.Tests.{eqb-true, eq-eqb, ne-eqb, leb-true, not-true}
+use borrow.Author.Tests.{eq-eqb, ne-eqb, leb-true, not-true}
 use lib.IntN.{ℤ, pos, negsuc}
 use lib.Dec.{eqb, leb, ltb}
 use lib.ListN.{length, set, length-set}
@@ -27,7 +27,7 @@ use Rattle.arena.specs.declared.Arena.{Arena}
 use Rattle.arena.specs.declared.Commitment.{Commitment}
 use Rattle.arena.specs.Claiming.{findRun, takeRun, dirtyRun, finishGrant}
 use Rattle.arena.specs.Releasing.{releaseRun}
-use Rattle.arena.specs.Sweeping.{sweepDue, disarm, toAsk, young, nextAsked, borrowChunk, returnChunk, rearm}
+use Rattle.arena.specs.Sweeping.{sweepDue, disarm, toAsk, young, nextAsked, borrowChunk, rearm}
 use Rattle.lookup.specs.Place.{bytesOf, endOf, isInside}
 use Rattle.lookup.proofs.PlaceLaws.{Within, inside-facts}
 use Rattle.purge.specs.Stamps.{stampsOf}
@@ -53,12 +53,13 @@ use Rattle.layer.specs.Answering.{isFor, counted, failReply, resume, ans
 use Rattle.layer.specs.Step.{Call, reserve, manage, adopt, claim, release, sweep, answer, owns, area, gate, stepOn}
 use Rattle.layer.proofs.Tools.{at-same, at-other}
 use Rattle.layer.proofs.Facts.{SoundTable, SoundQuestion}
+use Rattle.layer.proofs.Rules.{not-shared, served-named, grows-facts, others-left, Again, again}
 use Rattle.layer.proofs.Registered.{meets-false}
 use Rattle.layer.specs.Book.{Book, Fed, claims, releases, Say, refused, granted, released, Turn, turn, claimed, unhold, enter}
-use Rattle.layer.specs.Sequence.{isIdle, Role, feeds, closes, aside, inRange, ends, role, said, View, calm, committing, purging, viewOf, owedIn, isAnswer, declines}
+use Rattle.layer.specs.Sequence.{isIdle, askerAfter, Role, feeds, closes, aside, inRange, ends, role, said, View, calm, committing, purging, viewOf, owedIn, isAnswer, declines}
 use Rattle.layer.proofs.Shown.{bookIn, Mine, Stays, bookAt, owedAt, Inv, Fits}
 use Rattle.layer.proofs.View.{view-commit, view-purge, view-commit-other, view-purge-other, book-granted, book-taken, book-committed, book-released, say-fresh, owed-taken, book-disarmed, book-rearmed, book-borrowed, book-returned, take-stays, dirty-stays, finish-stays, release-stays, disarm-stays, borrow-stays, return-stays, rearm-stays}
-use Rattle.layer.proofs.Cases.{down, granting, asking, grant-cases, search-cases, miss-cases, claim-cases, release-in-cases, release-cases, reserve-cases, register-cases, manage-cases, adopt-cases, memory-cases}
+use Rattle.layer.proofs.Cases.{granting, asking, grant-cases, search-cases, miss-cases, claim-cases, release-in-cases, release-cases, reserve-cases, register-cases, manage-cases, adopt-cases, memory-cases}
 
 -- an address lies in one arena at most
 pub only-one : (S : ℕ) (l : List Arena) (k i j x : ℕ) → SoundTable S l k → i < k → j < k → isInside S (at l i) x ≡ true → isInside S (at l j) x ≡ true → i ≡ j
@@ -82,6 +83,24 @@ only-one S l k i j x t u v e f = go (ℕ-discrete i j)
     go (yes d) = d
     go (no d) = ⊎-elim (λ (m : i < j). absurd (apart i j m v e f)) (λ (m : j ≤ i). absurd (apart j i (omega (arith, d)) u f e)) (lt-or-le i j)
 
+-- an answer to a purge question: the sweep goes on from a record that shows the book without the borrowed chunk
+record Returned (S : ℕ) (l : List Arena) (stamps : List ℕ) (k : ℕ) (mark : Bool) (i j : ℕ) (w : Sweep) (agreed : Bool) : Type 0 where
+  back : Arena
+  is : answerPurge S l stamps k mark i j w agreed ≡ visit S stamps k mark (counted w agreed) l i back (j + 1) (sweepFrom S stamps k mark (counted w agreed) (k - (i + 1)) (i + 1))
+  shows : bookIn calm back ≡ bookIn (purging j) (at l i)
+  rows : Rows back
+  stays : (b n : ℕ) → Stays b n (at l i) → Stays b n back
+
+returned : (S : ℕ) (l : List Arena) (stamps : List ℕ) (k : ℕ) (mark : Bool) → SoundTable S l k → (i j : ℕ) (w : Sweep) (agreed : Bool) → SoundQuestion l k (Purging i j w)
+    → Returned S l stamps k mark i j w agreed
+returned S l stamps k mark t i j w agreed h = record {
+  back = _;
+  is = refl;
+  shows = book-returned (at l i) j agreed (w .decommit) (t .rows i (h .0)) (omega (arith, h .1, t .each i (h .0) .range .few));
+  rows = return-rows (at l i) j agreed (w .decommit) (t .rows i (h .0));
+  stays = λ b n x. return-stays b n (at l i) x j agreed (w .decommit);
+}
+
 module _ (S p id b n : ℕ) where
   -- the book shown, what is owed, the invariant and what one call does, at this arena
   abbrev shown : List Arena → Question → Book
@@ -102,12 +121,12 @@ module _ (S p id b n : ℕ) where
     book : shown (o .world .records) (o .world .state .question) ≡ B
     owed : owing (o .world .records) (o .world .state .question) ≡ ws
 
-  left : (l : List Arena) (q : Question) (who z : ℕ) (o : Outcome) → Leaves (shown l q) (owing l q) (cond (isIdle q) who z) o
+  left : (l : List Arena) (q : Question) (who z : ℕ) (o : Outcome) → Leaves (shown l q) (owing l q) (askerAfter q who z) o
       → Does l q who z aside o
   left l q who z o h = record { inv = h .inv; book = h .book; says = append-nil (owing l q) ∙ sym (h .owed) }
 
   -- where nothing is owed
-  quiet : (l : List Arena) (q : Question) (who z : ℕ) (o : Outcome) → owing l q ≡ [] → Leaves (shown l q) [] (cond (isIdle q) who z) o
+  quiet : (l : List Arena) (q : Question) (who z : ℕ) (o : Outcome) → owing l q ≡ [] → Leaves (shown l q) [] (askerAfter q who z) o
       → Does l q who z aside o
   quiet l q who z o e h = left l q who z o (record { inv = h .inv; book = h .book; owed = h .owed ∙ sym e })
 
@@ -116,7 +135,7 @@ module _ (S p id b n : ℕ) where
       → Does l q who z aside (after (reply r (stateOf k mark q)) l stamps)
   same l k q who z r stamps mark v = left l q who z _ (record { inv = record { low = v .low; stays = v .stays; mine = go q (v .mine) }; book = refl; owed = refl })
     where
-      go : (q : Question) → Mine p z (viewOf id q) → Mine p (cond (isIdle q) who z) (viewOf id q)
+      go : (q : Question) → Mine p z (viewOf id q) → Mine p (askerAfter q who z) (viewOf id q)
       go Idle m = tt
       go (Committing i s c) m = m
       go (Purging i j w) m = m
@@ -141,16 +160,17 @@ module _ (S p id b n : ℕ) where
       owed = ap (λ (x : View). owedIn S x (at l id)) e;
     }
 
-    -- another record is stored
-    elsewhere : (l : List Arena) (k k′ i : ℕ) (c : Arena) → k ≤ k′ → (i ≡ id → ⊥) → Holds B l k → Holds B (set l i c) k′
-    elsewhere l k k′ i c u d h = record {
+    -- the arena's record is as it was
+    unmoved : (l l′ : List Arena) (k k′ : ℕ) → k ≤ k′ → at l′ id ≡ at l id → Holds B l k → Holds B l′ k′
+    unmoved l l′ k k′ u there h = record {
       low = omega (arith, h .low);
       stays = subst (Stays b n) (sym there) (h .stays);
       shows = ap (bookIn calm) there ∙ h .shows;
     }
-      where
-        there : at (set l i c) id ≡ at l id
-        there = at-other l i id c (λ e. d (sym e))
+
+    -- another record is stored
+    elsewhere : (l : List Arena) (k k′ i : ℕ) (c : Arena) → k ≤ k′ → (i ≡ id → ⊥) → Holds B l k → Holds B (set l i c) k′
+    elsewhere l k k′ i c u d h = unmoved l (set l i c) k k′ u (at-other l i id c (λ e. d (sym e))) h
 
     module _ (l : List Arena) (stamps : List ℕ) (k : ℕ) (mark : Bool) (h : Holds B l k) where
       -- ---- claims that do not find the arena
@@ -165,17 +185,12 @@ module _ (S p id b n : ℕ) where
           → Leaves B [] y (searchOf S l stamps k mark at-id m commits missed)
       seeks at-id m commits missed d e = search-cases S l stamps k mark (Leaves B [] y) at-id m commits missed (λ f. e) (λ i u f. grants i m commits (d i f))
 
-      -- an id that is negative passes an exclusive arena over
+      -- an id that is negative passes an exclusive arena over, and one that is not names one arena
       not-exclusive : (j m i : ℕ) → serves (negsuc j) m l i ≡ true → i ≡ id → ⊥
-      unfolding serves eligible
-      not-exclusive j m i f e =
-          true≢false (sym (h .stays .exclusive) ∙ ap (λ (x : ℕ). at l x .exclusive) (sym e)
-          ∙ not-true (at l i .exclusive) (and-both (not (at l i .exclusive)) (isAt (findRun (at l i) m)) f .0))
+      not-exclusive j m i f e = not-shared j m l i id (h .stays .exclusive) f e
 
-      -- and one that is not names one arena
       not-named : (j m i : ℕ) → (j ≡ id → ⊥) → serves (pos j) m l i ≡ true → i ≡ id → ⊥
-      unfolding serves eligible
-      not-named j m i d f e = d (sym (eqb-true i j (and-both (eqb i j) (isAt (findRun (at l i) m)) f .0)) ∙ e)
+      not-named j m i d f e = d (sym (served-named j m l i f) ∙ e)
 
       asks-memory : (size page : ℕ) (commit large exclusive : Bool) (waiting : Waiting) → Leaves B [] y (after (askMemory S k mark size page commit large exclusive waiting) l stamps)
       unfolding askMemory
@@ -210,10 +225,8 @@ module _ (S p id b n : ℕ) where
 
       -- an arena that grows is not exclusive
       not-grown : (i address m : ℕ) → grows S (at l i) address m ≡ true → i ≡ id → ⊥
-      unfolding grows
       not-grown i address m f e =
-          true≢false (sym (h .stays .exclusive) ∙ ap (λ (x : ℕ). at l x .exclusive) (sym e)
-          ∙ not-true (at l i .exclusive) (and-both (not (at l i .exclusive)) _ (and-both (at l i .owned) _ f .1) .0))
+          true≢false (sym (h .stays .exclusive) ∙ ap (λ (x : ℕ). at l x .exclusive) (sym e) ∙ grows-facts S (at l i) address m f .0)
 
     -- ---- answers to a memory question
 
@@ -222,7 +235,9 @@ module _ (S p id b n : ℕ) where
     resumes l stamps k mark h c Reserve = rests (withRecord l k c) (suc k) Idle _ _ mark refl (added l stamps k mark h c)
     resumes l stamps k mark h c (Claim m commits) =
         let u : Holds B (withRecord l k c) (suc k) = added l stamps k mark h c in
-        seeks (withRecord l k c) _ (suc k) mark u (negsuc 0) m commits _ (not-exclusive (withRecord l k c) stamps (suc k) mark u 0 m) (rests (withRecord l k c) (suc k) Idle _ _ mark refl u)
+        let g : Again S l stamps k mark c m commits = again S l stamps k mark c m commits in
+        subst (Leaves B [] y) (sym (g .is))
+        (seeks (withRecord l k c) _ (suc k) mark u (g .id) m commits _ (λ i. g .passes-over i id (u .stays .exclusive)) (rests (withRecord l k c) (suc k) Idle _ _ mark refl u))
 
     fails : (l : List Arena) (stamps : List ℕ) (k : ℕ) (mark : Bool) (h : Holds B l k) (why : Refusal) (waiting : Waiting) → Leaves B [] y (after (failReply k mark why waiting) l stamps)
     fails l stamps k mark h why Reserve = rests l k Idle _ stamps mark refl h
@@ -361,7 +376,7 @@ module _ (S p id b n : ℕ) where
           (sym (named i f)) run)
         where
           named : (i : ℕ) → serves (pos id) m l i ≡ true → i ≡ id
-          named i f = unfold serves eligible in eqb-true i id (and-both (eqb i id) (isAt (findRun (at l i) m)) f .0)
+          named i f = served-named id m l i f
 
           run : Match who (claimed S (shown l Idle) m (findRun (at l id) m)) (grantFound S l stamps k mark id m commits (findRun (at l id) m))
           run =
@@ -441,25 +456,33 @@ module _ (S p id b n : ℕ) where
     other-commit : (i s m : ℕ) (agreed : Bool) → (i ≡ id → ⊥) → Invariant l k (Committing i s m) z
         → Does l (Committing i s m) who z aside (answerCommit S l stamps k mark i s m agreed)
     other-commit i s m agreed d v =
-        quiet l (Committing i s m) who z _ (ap (λ (x : View). owedIn S x (at l id)) (view-commit-other id i s m d)) (go agreed)
+        quiet l (Committing i s m) who z (answerCommit S l stamps k mark i s m agreed) (ap (λ (x : View). owedIn S x (at l id)) (view-commit-other id i s m d)) (go agreed)
       where
         e : viewOf id (Committing i s m) ≡ calm
         e = view-commit-other id i s m d
 
+        left-alone : (agreed : Bool) → Holds (shown l (Committing i s m)) (answerCommit S l stamps k mark i s m agreed .world .records) k
+        left-alone agreed = unmoved _ z l _ k k (omega arith) (others-left S l stamps k mark i s m agreed id (λ c. d (sym c))) (holds l k (Committing i s m) z e v)
+
         go : (agreed : Bool) → Leaves (shown l (Committing i s m)) [] z (answerCommit S l stamps k mark i s m agreed)
-        go true = rests _ z _ k Idle _ stamps mark refl (elsewhere _ z l k k i _ (omega arith) d (holds l k (Committing i s m) z e v))
-        go false = rests _ z _ k Idle _ stamps mark refl (elsewhere _ z l k k i _ (omega arith) d (holds l k (Committing i s m) z e v))
+        go true = rests _ z _ k Idle _ stamps mark refl (left-alone true)
+        go false = rests _ z _ k Idle _ stamps mark refl (left-alone false)
 
     -- the chunk comes back, and the sweep goes on
     purge-answer : (i j : ℕ) (w : Sweep) (agreed : Bool) → SoundQuestion l k (Purging i j w) → Invariant l k (Purging i j w) z
         → Does l (Purging i j w) who z aside (answerPurge S l stamps k mark i j w agreed)
     purge-answer i j w agreed h v =
         quiet l (Purging i j w) who z _ (none (eqb i id))
-        (visits B z stamps k mark (counted w agreed) (v .low) (t .few) small l i (returnChunk (at l i) j agreed (w .decommit)) (j + 1) _ (t .long) own other
-        (λ m u r. sweeps B z stamps k mark (counted w agreed) (v .low) (t .few) small _ _ m u r))
+        (subst (Leaves B [] z) (sym (r .is))
+        (visits B z stamps k mark _ (v .low) (t .few) small l i (r .back) _ _ (t .long)
+        (λ e. record { rows = r .rows; stays = r .stays b n (subst (λ (x : ℕ). Stays b n (at l x)) (sym e) (v .stays)); shows = r .shows ∙ borrowed e })
+        other (λ m u x. sweeps B z stamps k mark _ (v .low) (t .few) small _ _ m u x)))
       where
         B : Book
         B = shown l (Purging i j w)
+
+        r : Returned S l stamps k mark i j w agreed
+        r = returned S l stamps k mark t i j w agreed h
 
         small : n ≤ 1024
         small = omega (arith, v .stays .chunks, t .each id (v .low) .range .few)
@@ -468,13 +491,8 @@ module _ (S p id b n : ℕ) where
         none true = refl
         none false = refl
 
-        own : i ≡ id → Ready B z (returnChunk (at l i) j agreed (w .decommit))
-        own e = subst (λ (x : ℕ). Ready B z (returnChunk (at l x) j agreed (w .decommit))) (sym e) (record {
-          rows = return-rows (at l id) j agreed (w .decommit) (t .rows id (v .low));
-          stays = return-stays b n (at l id) (v .stays) j agreed (w .decommit);
-          shows = book-returned (at l id) j agreed (w .decommit) (t .rows id (v .low)) (omega (arith, h .1, t .each i (h .0) .range .few))
-              ∙ ap (λ (x : View). bookIn x (at l id)) (sym (view-purge id j w) ∙ ap (λ (x : ℕ). viewOf id (Purging x j w)) (sym e));
-        })
+        borrowed : i ≡ id → bookIn (purging j) (at l i) ≡ B
+        borrowed e = ap₂ (λ (x : View) (y : ℕ). bookIn x (at l y)) (sym (ap (λ (x : ℕ). viewOf id (Purging x j w)) e ∙ view-purge id j w)) e
 
         other : (i ≡ id → ⊥) → Ready B z (at l id)
         other d = record { rows = t .rows id (v .low); stays = v .stays; shows = ap (λ (x : View). bookIn x (at l id)) (sym (view-purge-other id i j w d)) }
@@ -550,15 +568,15 @@ module _ (S p id b n : ℕ) where
         gated q aside _ v
         (λ u. let x = holds l k Idle z refl u in
         quiet l Idle who z _ refl (manage-cases S l stamps k mark (Leaves _ [] who) start size exclusive node mapped reserved
-        (rests _ who l k Idle _ stamps mark refl x) (rests _ who l k Idle _ stamps mark refl x) (rests _ who l k Idle _ stamps mark refl x) (registers-one _ who l stamps k mark x _ _)))
+        (rests _ who l k Idle _ stamps mark refl x) (rests _ who l k Idle _ stamps mark refl x) (rests _ who l k Idle _ stamps mark refl x) (λ g. registers-one _ who l stamps k mark x _ _)))
         (λ e. refl)
     keeps q ns settings (adopt address size) h v alone idle agrees =
         gated q aside _ v
         (λ u. let x = holds l k Idle z refl u in
         quiet l Idle who z _ refl (adopt-cases S l stamps k mark (Leaves _ [] who) address size
         (rests _ who l k Idle _ stamps mark refl x) (rests _ who l k Idle _ stamps mark refl x) (rests _ who l k Idle _ stamps mark refl x)
-        (λ i j e. rests _ who _ k Idle _ stamps mark refl (elsewhere _ who l k k i _ (omega arith) (not-grown _ who l stamps k mark x i address (size / S) e) x))
-        (registers-one _ who l stamps k mark x _ _)))
+        (λ i w j e. rests _ who _ k Idle _ stamps mark refl (elsewhere _ who l k k i _ (omega arith) (not-grown _ who l stamps k mark x i address (size / S) e) x))
+        (λ w. registers-one _ who l stamps k mark x _ _)))
         (λ e. refl)
     keeps q ns settings (claim (pos i) m commits) h v alone idle agrees =
         gated q (cond (eqb i id) (feeds (claims m)) aside) _ v (λ u. go (ℕ-discrete i id) u) (busy q (eqb i id) (claims m) (alone (claims m)) (λ w. idle w refl))

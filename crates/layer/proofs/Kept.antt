@@ -1,47 +1,41 @@
 -- Sound in, sound out: a call on a table that row 1 lets pass leaves one that row 1 lets pass. First what does not register. Assumes nothing.
-use mathlib.Core.Path.{_≡_, refl, sym, ap, _∙_, subst}
-use mathlib.Core.Bool.{Bool, true, false, cond, not, _&&_, true≢false}
+use mathlib.Core.Path.{_≡_, refl, sym, _∙_, subst}
+use mathlib.Core.Bool.{Bool, true, false, cond}
 use mathlib.Core.List.{List, _++_}
-use Prim.Native.Nat.{ℕ, zero, suc, _+_, _-_, _*_, _/_, _%_, _<_, _≤_}
-use native.Mathlib.Nat.{zero-add}
+use Prim.Native.Nat.{ℕ, zero, suc, _+_, _-_, _*_, _/_, _<_, _≤_}
 use native.Mathlib.Omega.{arith}
-use borrow.Author.Tests.{leb-true, ltb-true, eqb-true}
-use lib.Dec.{leb, ltb, eqb}
+use borrow.Author.Tests.{leb-true}
 use lib.IntN.{ℤ}
-use lib.ListN.{length, getD, set, take, drop, replicate, length-set, length-append, length-take, length-drop, length-replicate}
+use lib.ListN.{length, set, take, drop, replicate, length-append, length-take, length-drop, length-replicate}
 use Rattle.words.specs.Bits.{bitAt}
 use Rattle.words.proofs.Tests.{by-cond}
 use Rattle.runs.specs.declared.Found.{Found}
 use Rattle.runs.specs.declared.Found.the-variants.{At, Nothing}
 use Rattle.runs.specs.Lowest.{least}
 use Rattle.runs.proofs.LowestLaws.{First, first-says}
-use Rattle.runs.proofs.SearchLaws.{and-both}
 use Rattle.arena.specs.declared.Arena.{Arena}
 use Rattle.arena.specs.declared.Commitment.{Commitment}
 use Rattle.arena.specs.declared.Commitment.the-variants.{Untold, Committed, Uncommitted}
 use Rattle.arena.specs.Claiming.{findRun, takeRun, giveBackRun, commitRun, dirtyRun, finishGrant}
 use Rattle.arena.specs.Releasing.{tellRun, pendRun, releaseRun, stampRun}
 use Rattle.arena.specs.Sweeping.{sweepDue, toAsk, nextAsked, disarm, borrowChunk, unpendChunk, returnChunk, nextWait, rearmAt, rearm}
-use Rattle.lookup.specs.Place.{isInside}
 use Rattle.lookup.proofs.SoundLaws.{SoundArena}
 use Rattle.purge.specs.Stamps.{stampsOf}
 use Rattle.arena_laws.specs.Rows.{Rows}
 use Rattle.arena_laws.proofs.RowLaws.{bit-in}
-use Rattle.arena_laws.proofs.Changes.{found-inside, take-rows, give-back-rows, commit-rows, dirty-rows, finish-rows, release-rows, disarm-rows, borrow-rows, return-rows, rearm-rows}
-use Rattle.arena_laws.proofs.Soundness.{take-sound, give-back-sound, dirty-sound, finish-sound, release-sound, disarm-sound, borrow-sound, return-sound, rearm-sound}
-use Rattle.layer.specs.declared.Settings.{Settings}
+use Rattle.arena_laws.proofs.Changes.{found-inside, take-rows, dirty-rows, release-rows, disarm-rows, borrow-rows, rearm-rows}
+use Rattle.arena_laws.proofs.Soundness.{take-sound, dirty-sound, release-sound, disarm-sound, borrow-sound, rearm-sound}
 use Rattle.layer.specs.declared.Sweep.{Sweep}
-use Rattle.layer.specs.declared.State.{State}
-use Rattle.layer.specs.declared.Question.{Question}
-use Rattle.layer.specs.declared.Question.the-variants.{Idle, Committing, Purging, Reserving, GivingBack}
+use Rattle.layer.specs.declared.Question.the-variants.{Committing}
 use Rattle.layer.specs.declared.Reply.{Reply}
-use Rattle.layer.specs.World.{World, Outcome, stateOf, worldOf, calm}
-use Rattle.layer.specs.Table.{at, isAt, findArena}
-use Rattle.layer.specs.Claiming.{serves, asksCommit, grantArena, grantReply, searchAt, searchOf, grantFound}
-use Rattle.layer.specs.Releasing.{releases, releaseReply, releaseIn, releaseAt, releaseOf}
+use Rattle.layer.specs.World.{World, Outcome, worldOf, calm}
+use Rattle.layer.specs.Table.{at}
+use Rattle.layer.specs.Claiming.{searchOf}
+use Rattle.layer.specs.Releasing.{releaseOf}
 use Rattle.layer.specs.Sweeping.{purgeReply, sweptReply, visitAt, visit, sweepFrom}
-use Rattle.layer.proofs.Tools.{at-same, by-set}
+use Rattle.layer.proofs.Tools.{at-same}
 use Rattle.layer.proofs.Facts.{SoundTable, SoundQuestion, put-sound}
+use Rattle.layer.proofs.Cases.{grant-cases, search-cases, release-in-cases, release-cases}
 
 -- ---- a sound world
 
@@ -156,73 +150,33 @@ module _ (S : ℕ) (l : List Arena) (stamps : List ℕ) (k : ℕ) (mark : Bool) 
         (omega (arith, room, take-range (at l i) s n .1)))
         (dirty-range (takeRun (at l i) s n) s n .0 ∙ take-range (at l i) s n .0) (dirty-range (takeRun (at l i) s n) s n .1 ∙ take-range (at l i) s n .1)
 
-    pub grant-kept : (commits : Bool)
-        → SoundWorld S (worldOf (set l i (grantArena (at l i) s n commits)) stamps (grantReply S k mark i (at l i) s n commits .state))
-    unfolding grantArena grantReply
-    grant-kept commits = go (asksCommit (at l i) s n commits) refl
-      where
-        go : (b : Bool) → asksCommit (at l i) s n commits ≡ b → SoundWorld S (worldOf (set l i (grantArena (at l i) s n commits)) stamps (grantReply S k mark i (at l i) s n commits .state))
-        go true e = rw e (record { table = taken-table; stamps = ls; question = asked })
-        go false e = rw e (record { table = dirtied-table; stamps = ls; question = tt })
-
   -- a search, where what a miss leaves is sound
   pub search-kept : (id : ℤ) (n : ℕ) (commits : Bool) (missed : Reply) → SoundWorld S (worldOf l stamps (missed .state)) → Kept S (searchOf S l stamps k mark id n commits missed)
-  unfolding searchOf
-  search-kept id n commits missed m = go (least (serves id n l) 0 k) (first-says (serves id n l) 0 k)
-    where
-      run : (i : ℕ) → i < k → (f : Found) → findRun (at l i) n ≡ f → Kept S (grantFound S l stamps k mark i n commits f)
-      run i h (At s) e = grant-kept i s n h e commits
-      run i h Nothing e = calm-kept mark
-
-      go : (f : Found) → First (serves id n l) 0 k f → Kept S (searchAt S l stamps k mark n commits missed f)
-      go (At i) h = run i (omega (arith, h .1)) (findRun (at l i) n) refl
-      go Nothing h = m
+  search-kept id n commits missed m =
+      search-cases S l stamps k mark (Kept S) id n commits missed (λ f. m)
+      (λ i h f. grant-cases S l stamps k mark (Kept S) i n commits (λ e. calm-kept mark) (λ s e. record { table = dirtied-table i s n h e; stamps = ls; question = tt })
+      (λ s e. record { table = taken-table i s n h e; stamps = ls; question = asked i s n h e }))
 
   -- ---- releases
 
   stamped : (s n at-ms : ℕ) → s + n ≤ 32768 → length (stampRun stamps s n at-ms) ≡ 32768
   stamped s n at-ms h = stamp-length stamps s n at-ms (omega (arith, ls)) ∙ ls
 
-  pub release-in-kept : (i offset n : ℕ) (told : Commitment) (pending : Bool) (now delay : ℕ) → i < k → Kept S (releaseIn S l stamps k mark i offset n told pending now delay)
-  unfolding releaseReply releases
-  release-in-kept i offset n told pending now delay h =
-      by-cond (Kept S) (releases S (at l i) offset n) _ _ granted (λ e. turned)
-    where
-      s : ℕ
-      s = offset / S
-
-      -- whatever a release in one arena answers, it leaves no question
-      calmed : releaseReply S k mark (at l i) offset n .state ≡ calm k mark
-      calmed =
-          by-cond (λ (r : Reply). r .state ≡ calm k mark) (eqb (offset % S) 0) _ _
-          (λ e. by-cond (λ (r : Reply). r .state ≡ calm k mark) (leb (offset / S + n) (at l i .chunks)) _ _ (λ f. refl) (λ f. refl)) (λ e. refl)
-
-      turned : SoundWorld S (worldOf l stamps (releaseReply S k mark (at l i) offset n .state))
-      turned = subst (λ (x : State). SoundWorld S (worldOf l stamps x)) (sym calmed) (calm-kept mark)
-
-      granted : releases S (at l i) offset n ≡ true
-          → SoundWorld S (worldOf (set l i (releaseRun (at l i) (offset / S) n told pending now delay)) (cond pending (stampRun stamps (1024 * i + offset / S) n now) stamps) (releaseReply S k mark (at l i) offset n .state))
-      granted e =
-          let room : offset / S + n ≤ at l i .chunks = leb-true (offset / S + n) (at l i .chunks) (and-both (eqb (offset % S) 0) _ e .1) in
-          let few : at l i .chunks ≤ 1024 = t .each i h .range .few in
-          subst (λ (x : State). SoundWorld S (worldOf (set l i (releaseRun (at l i) (offset / S) n told pending now delay)) (cond pending (stampRun stamps (1024 * i + offset / S) n now) stamps) x))
-          (sym calmed)
-          (record {
-            table = put-sound S l k i (releaseRun (at l i) (offset / S) n told pending now delay) t h (release-rows (at l i) (offset / S) n told pending now delay (t .rows i h))
-                (release-sound S (at l i) (offset / S) n told pending now delay (t .rows i h) (t .each i h) room)
-                (release-range (at l i) (offset / S) n told pending now delay .0) (release-range (at l i) (offset / S) n told pending now delay .1);
-            stamps = by-cond (λ (z : List ℕ). length z ≡ 32768) pending _ _ (λ f. stamped (1024 * i + offset / S) n now (omega (arith, room, few, t .few))) (λ f. ls);
-            question = tt;
-          })
-
   pub release-kept : (address n : ℕ) (told : Commitment) (pending : Bool) (now delay : ℕ) → Kept S (releaseOf S l stamps k mark address n told pending now delay)
-  unfolding releaseOf findArena
   release-kept address n told pending now delay =
-      by-cond (Kept S) (eqb n 0) _ _ (λ e. calm-kept mark) (λ e. go (least (λ i. isInside S (at l i) address) 0 k) (first-says (λ i. isInside S (at l i) address) 0 k))
+      release-cases S l stamps k mark (Kept S) n told pending now delay address (λ e. calm-kept mark) (λ e f. calm-kept mark)
+      (λ i e h f. release-in-cases S l stamps k mark (Kept S) n told pending now delay i (address - at l i .base) (λ g. calm-kept mark) (λ g r. calm-kept mark)
+      (λ g r. granted i h ((address - at l i .base) / S) (leb-true _ _ r)))
     where
-      go : (f : Found) → First (λ i. isInside S (at l i) address) 0 k f → Kept S (releaseAt S l stamps k mark address n told pending now delay f)
-      go (At i) h = release-in-kept i (address - at l i .base) n told pending now delay (omega (arith, h .1))
-      go Nothing h = calm-kept mark
+      granted : (i : ℕ) → i < k → (s : ℕ) → s + n ≤ at l i .chunks
+          → SoundWorld S (worldOf (set l i (releaseRun (at l i) s n told pending now delay)) (cond pending (stampRun stamps (1024 * i + s) n now) stamps) (calm k mark))
+      granted i h s room = record {
+        table = put-sound S l k i (releaseRun (at l i) s n told pending now delay) t h (release-rows (at l i) s n told pending now delay (t .rows i h))
+            (release-sound S (at l i) s n told pending now delay (t .rows i h) (t .each i h) room)
+            (release-range (at l i) s n told pending now delay .0) (release-range (at l i) s n told pending now delay .1);
+        stamps = by-cond (λ (z : List ℕ). length z ≡ 32768) pending _ _ (λ f. stamped (1024 * i + s) n now (omega (arith, room, t .each i h .range .few, t .few))) (λ f. ls);
+        question = tt;
+      }
 
 -- ---- sweeps
 

@@ -1,5 +1,6 @@
 pub mod Tools
 pub mod Facts
+pub mod Rules
 pub mod Kept
 pub mod Registered
 pub mod Stepped

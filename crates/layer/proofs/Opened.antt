@@ -1,7 +1,7 @@
 -- The book opens where Registering's rules register an exclusive arena: a managed one, and a reserved one whose memory question the rules leave open until the
 -- yes that registers it. Assumes nothing.
 use mathlib.Core.Path.{_≡_, refl, sym, ap, ap₂, _∙_, subst}
-use mathlib.Core.Bool.{Bool, true, false, not, _&&_, _||_, true≢false}
+use mathlib.Core.Bool.{Bool, true, false, not, _&&_, _||_}
 use mathlib.Core.List.{List, [], _∷_, _++_}
 use Prim.Native.Nat.{ℕ, suc, _+_, _-_, _*_, _/_, _%_, _<_}
 use native.Mathlib.Omega.{arith}
@@ -11,22 +11,22 @@ use lib.IntN.{ℤ}
 use Rattle.words.proofs.Tests.{when, unless, by-cond}
 use Rattle.arena.specs.declared.Arena.{Arena}
 use Rattle.arena.specs.Registering.{newArena, reservedArena, managedArena}
-use Rattle.layer.specs.declared.Settings.{Settings}
 use Rattle.layer.specs.declared.Question.{Question}
 use Rattle.layer.specs.declared.Question.the-variants.{Idle, Reserving}
 use Rattle.layer.specs.declared.Waiting.the-variants.{Reserve}
-use Rattle.layer.specs.declared.Kind.the-variants.{ForCommit, ForPurge, ForMemory, ForGiveBack, ForNone}
+use Rattle.layer.specs.declared.Kind.the-variants.{ForMemory}
 use Rattle.layer.specs.declared.Answer.the-variants.{Registered}
 use Rattle.layer.specs.declared.Reply.{Reply}
-use Rattle.layer.specs.World.{World, Outcome, outcome, worldOf, calm}
+use Rattle.layer.specs.World.{Outcome, outcome, worldOf, calm}
 use Rattle.layer.specs.Table.{at, badRange}
 use Rattle.layer.specs.Registering.{chunksFor, bytesAsked, tooLarge, askMemory, reserveReply, badCount, registerReply, registers, withRecord, withStamps, register, firstWhole, pastWhole, noWholeChunk, reserveOf, manageOf}
 use Rattle.layer.specs.Answering.{isFor, answerMemory, answerOf}
-use Rattle.layer.specs.Step.{Call, reserve, manage, adopt, claim, release, sweep, answer, owns, area, stepOn}
+use Rattle.layer.specs.Step.{Call, answer, stepOn}
 use Rattle.layer.specs.Sequence.{Marked, Trail, outcomeOf, brokenAt, next, after, start, Lent, Opens}
 use Rattle.layer.specs.Demand.{isSound, leavesOpen, StaysOpen, Reserves, RegistersManaged, RegistersReserved}
 use Rattle.layer.proofs.Tools.{at-same}
 use Rattle.layer.proofs.Facts.{SoundTable}
+use Rattle.layer.proofs.Rules.{left-open}
 use Rattle.layer.proofs.Kept.{SoundWorld}
 use Rattle.layer.proofs.Outcomes.{refused-1}
 use Rattle.layer.proofs.Demand.{IsLent, stands, lent-append, sound-next, sound-after, sound-empty}
@@ -107,33 +107,13 @@ module _ (S n bytes : ℕ) (commit : Bool) where
   abbrev asked : Question
   asked = Reserving n bytes commit true Reserve
 
-  -- what a call on a sound table leaves open
-  left-open : (w : World) (ns : ℕ) (settings : Settings) (c : Call) → leavesOpen S n w c ≡ true
-      → stepOn S (w .records) (w .stamps) (w .state .count) (w .state .mark) asked ns settings c .world .state .question ≡ asked
-  unfolding answerOf isFor
-  left-open w ns settings (reserve size give large exclusive) e = refl
-  left-open w ns settings (manage from size exclusive node mapped reserved) e = refl
-  left-open w ns settings (adopt address size) e = refl
-  left-open w ns settings (claim id c commits) e = refl
-  left-open w ns settings (release address c tell pending) e = refl
-  left-open w ns settings (sweep force) e = refl
-  left-open w ns settings (answer ForMemory true base) e =
-      ap (λ (o : Outcome). o .world .state .question) (when (badRange S (w .records) (w .state .count) base (n * S)) _ _ e)
-  left-open w ns settings (answer ForMemory false base) e = absurd (true≢false (sym e))
-  left-open w ns settings (answer ForCommit accepted base) e = refl
-  left-open w ns settings (answer ForPurge accepted base) e = refl
-  left-open w ns settings (answer ForGiveBack accepted base) e = refl
-  left-open w ns settings (answer ForNone accepted base) e = refl
-  left-open w ns settings (owns address) e = refl
-  left-open w ns settings (area id) e = refl
-
   open-next : (t : Trail) (m : Marked) → IsLent S t m → not (isSound S m) || leavesOpen S n (t .world) (m .call) ≡ true → t .world .state .question ≡ asked
       → next S t m .world .state .question ≡ asked
   open-next t m lent e q =
       by-cond (λ (u : Trail). u .world .state .question ≡ asked) (brokenAt S m) _ _ (λ f. q)
       (λ f. let row-1 : not (isSound S m) ≡ false = sym (refused-1 S (m .lent) (m .ns) (m .settings) (m .call)) ∙ f in
       ap (λ (o : Outcome). o .world .state .question) (stands S t m lent f ∙ ap (λ (z : Question). stepped S t m lent z (m .call)) q)
-      ∙ left-open (t .world) (m .ns) (m .settings) (m .call) (ap (λ (z : Bool). z || leavesOpen S n (t .world) (m .call)) (sym row-1) ∙ e))
+      ∙ left-open S n bytes commit true Reserve (t .world) (m .ns) (m .settings) (m .call) (ap (λ (z : Bool). z || leavesOpen S n (t .world) (m .call)) (sym row-1) ∙ e))
 
   open-after : (t : Trail) (ms : List Marked) → Lent S t ms → StaysOpen S n t ms → t .world .state .question ≡ asked → after S t ms .world .state .question ≡ asked
   open-after t [] lent e q = q

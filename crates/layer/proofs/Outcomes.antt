@@ -6,7 +6,7 @@ use mathlib.Core.List.{List}
 use Prim.Native.Nat.{ℕ, zero, suc, _+_, _-_, _*_, _/_, _%_, _<_, _≤_}
 use native.Mathlib.Nat.{add-mul, mul-le-mul-right}
 use native.Mathlib.Omega.{arith}
-use borrow.Author.Tests.{not-true, ltb-false, eqb-true, eqb-false}
+use borrow.Author.Tests.{eqb-false}
 use lib.Dec.{leb, ltb, eqb}
 use lib.IntN.{ℤ, pos, negsuc}
 use lib.ListN.{length}
@@ -22,8 +22,7 @@ use Rattle.refusals.specs.declared.Refusal.the-variants.{Broken}
 use Rattle.refusals.specs.Number.{number}
 use Rattle.arena.specs.declared.Arena.{Arena}
 use Rattle.arena.specs.Registering.{newArena, reservedArena, managedArena, adoptedArena, grownArena}
-use Rattle.arena.specs.Claiming.{findRun}
-use Rattle.arena.specs.Sweeping.{sweepDue, disarm, returnChunk, nextAsked}
+use Rattle.arena.specs.Sweeping.{sweepDue, disarm, nextAsked}
 use Rattle.lookup.specs.Place.{isInside}
 use Rattle.lookup.specs.Soundness.{soundArena}
 use Rattle.lookup.proofs.SoundLaws.{never}
@@ -43,14 +42,15 @@ use Rattle.layer.specs.declared.Ask.{Ask}
 use Rattle.layer.specs.declared.Answer.{Answer}
 use Rattle.layer.specs.declared.Answer.the-variants.{Refused, Asks, Registered, Claimed, Released, Swept, Owns, Area}
 use Rattle.layer.specs.World.{World, Outcome, stateOf, worldOf, after, turnDown, outcome}
-use Rattle.layer.specs.Table.{at, isAt, meets, badRange, apart, soundTable, soundLent, sound}
+use Rattle.layer.specs.Table.{at, meets, badRange, apart, soundTable, soundLent, sound}
 use Rattle.layer.specs.Registering.{askMemory, badCount, withRecord, withStamps, register, grows}
-use Rattle.layer.specs.Claiming.{eligible, serves, claimOf}
+use Rattle.layer.specs.Claiming.{serves, claimOf}
 use Rattle.layer.specs.Sweeping.{purgeReply, sweptReply, visitAt, visit, sweepFrom}
 use Rattle.layer.specs.Answering.{isFor, causeRefusal, counted, failReply, answerCommit, resume, answerMemory, answerTo, answerOf}
 use Rattle.layer.specs.Step.{Call, reserve, manage, adopt, claim, release, sweep, answer, owns, area, sweepOf, gate, stepOn, step}
-use Rattle.layer.proofs.Tools.{or-false, at-same, at-other}
+use Rattle.layer.proofs.Tools.{at-same, at-other}
 use Rattle.layer.proofs.Facts.{SoundTable, SoundQuestion, question-facts}
+use Rattle.layer.proofs.Rules.{not-shared, served-named, grows-facts, Again, again, count-facts}
 use Rattle.layer.proofs.Registered.{good-range, new-table, reserved-rows, reserved-sound, reserved-range}
 use Rattle.layer.specs.Book.{opened}
 use Rattle.layer.specs.Sequence.{isBroken, calm, asksIn, asksFor}
@@ -122,16 +122,6 @@ module _ (S : ℕ) (l : List Arena) (k : ℕ) where
 
 -- ---- claims
 
--- which arenas of an id are not j
-named-not : (x n i j : ℕ) (l : List Arena) → serves (pos x) n l i ≡ true → eqb x j ≡ false → i ≡ j → ⊥
-unfolding serves eligible
-named-not x n i j l e f d = eqb-false x j f (sym (eqb-true i x (and-both (eqb i x) (isAt (findRun (at l i) n)) e .0)) ∙ d)
-
-shared-not : (x n i j : ℕ) (l : List Arena) → serves (negsuc x) n l i ≡ true → at l j .exclusive ≡ true → i ≡ j → ⊥
-unfolding serves eligible
-shared-not x n i j l e f d =
-    not-both (at l i .exclusive) (not-true (at l i .exclusive) (and-both (not (at l i .exclusive)) (isAt (findRun (at l i) n)) e .0)) (ap (λ (z : ℕ). at l z .exclusive) d ∙ f)
-
 module _ (S : ℕ) (l : List Arena) (stamps : List ℕ) (k : ℕ) (mark : Bool) where
   asks-memory : (n : ℕ) (named : ℕ → Bool) (size page : ℕ) (commit large exclusive : Bool) (waiting : Waiting)
       → TellsOf S l k n named (after (askMemory S k mark size page commit large exclusive waiting) l stamps)
@@ -148,24 +138,16 @@ module _ (S : ℕ) (l : List Arena) (stamps : List ℕ) (k : ℕ) (mark : Bool) 
       (λ s r t j u x z. elsewhere S l k i j s n t h u (other id i j g x z) (found-inside (at l i) n s r)) (λ s _. tt)))
     where
       other : (id : ℤ) (i j : ℕ) → serves id n l i ≡ true → at l j .exclusive ≡ true → names Idle (claim id n commits) j ≡ false → i ≡ j → ⊥
-      other (pos x) i j e f g = named-not x n i j l e g
-      other (negsuc x) i j e f g = shared-not x n i j l e f
+      other (pos x) i j e f g d = eqb-false x j g (sym (served-named x n l i e) ∙ d)
+      other (negsuc x) i j e f g d = not-shared x n l i j f e d
 
   -- ---- registering
-
-  few : (chunks : ℕ) → badCount chunks ≡ false → (1 ≤ chunks) × (chunks ≤ 1024)
-  unfolding badCount
-  few chunks f = let c = or-false (eqb chunks 0) _ f in (some chunks (eqb-false chunks 0 (c .0)), ltb-false 1024 chunks (c .1))
-    where
-      some : (n : ℕ) → (n ≡ 0 → ⊥) → 1 ≤ n
-      some zero h = absurd (h refl)
-      some (suc n) h = omega arith
 
   new : (a : Arena) → Shows a → k < 32 → SoundTable S l k → New k (worldOf (withRecord l k a) (withStamps stamps k) (stateOf (suc k) mark Idle))
   new a shows h t = record { low = omega arith; idle = refl; shows = subst Shows (sym (at-same l k a (omega (arith, t .long)))) shows }
 
   register-tells : (m : ℕ) (named : ℕ → Bool) (chunks : ℕ) (a : Arena) → (chunks ≤ 1024 → Shows a) → TellsOf S l k m named (register l stamps k mark chunks a)
-  register-tells m named chunks a shows = register-cases S l stamps k mark (TellsOf S l k m named) chunks a refl refl (λ f h. new a (shows (few chunks f .1)) h)
+  register-tells m named chunks a shows = register-cases S l stamps k mark (TellsOf S l k m named) chunks a refl refl (λ f h. new a (shows (count-facts chunks f .1)) h)
 
   managed-shows : (base n : ℕ) (exclusive : Bool) (node : ℤ) → n ≤ 1024 → Shows (managedArena base n exclusive node)
   managed-shows base n exclusive node h x = book-managed base n exclusive node h ∙ (unfold managedArena newArena in refl)
@@ -179,9 +161,8 @@ module _ (S : ℕ) (l : List Arena) (stamps : List ℕ) (k : ℕ) (mark : Bool) 
   adopted-shows base n x = absurd (true≢false (sym x))
 
   grown-shows : (i address n : ℕ) → grows S (at l i) address n ≡ true → Shows (grownArena (at l i) n)
-  unfolding grows grownArena
-  grown-shows i address n e x =
-      absurd (not-both (at l i .exclusive) (not-true (at l i .exclusive) (and-both (not (at l i .exclusive)) _ (and-both (at l i .owned) _ e .1) .0)) x)
+  unfolding grownArena
+  grown-shows i address n e x = absurd (not-both (at l i .exclusive) (grows-facts S (at l i) address n e .0) x)
 
   -- ---- answers
 
@@ -196,16 +177,20 @@ module _ (S : ℕ) (l : List Arena) (stamps : List ℕ) (k : ℕ) (mark : Bool) 
   -- the reserved range is registered, and who waits goes on
   resume-tells : (base chunks bytes : ℕ) (commit exclusive : Bool) (waiting : Waiting) → badRange S l k base (chunks * S) ≡ false → badCount chunks ≡ false → base % S ≡ 0 → k < 32
       → TellsOf S l k (asksIn (Reserving chunks bytes commit exclusive waiting)) (λ j. false) (resume S l stamps k mark (reservedArena base chunks commit exclusive) waiting)
-  resume-tells base chunks bytes commit exclusive Reserve e f g h = new (reservedArena base chunks commit exclusive) (reserved-shows base chunks commit exclusive (few chunks f .1)) h
+  resume-tells base chunks bytes commit exclusive Reserve e f g h = new (reservedArena base chunks commit exclusive) (reserved-shows base chunks commit exclusive (count-facts chunks f .1)) h
   resume-tells base chunks bytes commit exclusive (Claim n commits) e f g h =
-      search-cases S m (withStamps stamps k) (suc k) mark (TellsOf S l k n (λ j. false)) (negsuc 0) n commits _ (λ _. refl)
+      subst (TellsOf S l k n (λ j. false)) (sym (once .is))
+      (search-cases S m (withStamps stamps k) (suc k) mark (TellsOf S l k n (λ j. false)) (once .id) n commits _ (λ _. refl)
       (λ i u v. grant-cases S m (withStamps stamps k) (suc k) mark (TellsOf S l k n (λ j. false)) i n commits (λ _. refl)
       (λ s r t j w x z y lo hi. subst (λ (a : Arena). isInside S a y ≡ false) (kept j w)
-      (elsewhere S m (suc k) i j s n (made t) u (omega arith) (shared-not 0 n i j m v (ap (λ (a : Arena). a .exclusive) (kept j w) ∙ x)) (found-inside (at m i) n s r) y lo hi))
-      (λ s _. tt))
+      (elsewhere S m (suc k) i j s n (made t) u (omega arith) (once .passes-over i j (ap (λ (a : Arena). a .exclusive) (kept j w) ∙ x) v) (found-inside (at m i) n s r) y lo hi))
+      (λ s _. tt)))
     where
       m : List Arena
       m = withRecord l k (reservedArena base chunks commit exclusive)
+
+      once : Again S l stamps k mark (reservedArena base chunks commit exclusive) n commits
+      once = again S l stamps k mark (reservedArena base chunks commit exclusive) n commits
 
       kept : (j : ℕ) → j < k → at m j ≡ at l j
       kept j u = at-other l k j (reservedArena base chunks commit exclusive) (λ d. omega arith)
@@ -215,7 +200,7 @@ module _ (S : ℕ) (l : List Arena) (stamps : List ℕ) (k : ℕ) (mark : Bool) 
           let x = good-range S l k base (chunks * S) e in
           let z = reserved-range S base chunks commit exclusive in
           new-table S l k (reservedArena base chunks commit exclusive) t h (reserved-rows base chunks commit exclusive)
-          (reserved-sound S base chunks commit exclusive (record { somewhere = x .somewhere; aligned = g; some = few chunks f .0; few = few chunks f .1; ends = x .ends }))
+          (reserved-sound S base chunks commit exclusive (record { somewhere = x .somewhere; aligned = g; some = count-facts chunks f .0; few = count-facts chunks f .1; ends = x .ends }))
           (λ i u. ap₂ (meets S (at l i)) (z .0) (z .1) ∙ x .alone i u)
 
   memory-tells : (chunks bytes : ℕ) (commit exclusive : Bool) (waiting : Waiting) (accepted : Bool) (base : ℕ)
@@ -258,7 +243,7 @@ module _ (S : ℕ) (l : List Arena) (stamps : List ℕ) (k : ℕ) (mark : Bool) 
       go Idle x = refl
       go (Committing i s n) x = commit-tells S l stamps k mark i s n accepted x
       go (Purging i j w) x =
-          visit-cases S stamps k mark (counted w accepted) (TellsOf S l k 0 (λ u. false)) (λ ask v. tt) (λ n v. tt) l i (returnChunk (at l i) j accepted (w .decommit)) (j + 1) _
+          visit-cases S stamps k mark (counted w accepted) (TellsOf S l k 0 (λ u. false)) (λ ask v. tt) (λ n v. tt) l i _ _ _
           (λ m. sweep-cases S stamps k mark (counted w accepted) (TellsOf S l k 0 (λ u. false)) (λ ask v. tt) (λ n v. tt) (k - (i + 1)) (i + 1) m)
       go (Reserving chunks bytes commit exclusive waiting) x = memory-tells S l stamps k mark chunks bytes commit exclusive waiting accepted base
       go (GivingBack c waiting) x = fail-tells S l stamps k mark _ _ _ waiting (cause c)
@@ -278,12 +263,12 @@ module _ (S : ℕ) (l : List Arena) (stamps : List ℕ) (k : ℕ) (mark : Bool) 
   step-tells q ns settings (manage start size exclusive node mapped reserved) h =
       gated 0 _ q _ _
       (manage-cases S l stamps k mark (TellsOf S l k 0 (λ j. false)) start size exclusive node mapped reserved refl refl refl
-      (register-tells S l stamps k mark 0 (λ j. false) _ _ (managed-shows S l stamps k mark _ _ exclusive node))) refl
+      (λ g. register-tells S l stamps k mark 0 (λ j. false) _ _ (managed-shows S l stamps k mark _ _ exclusive node))) refl
   step-tells q ns settings (adopt address size) h =
       gated 0 _ q _ _
       (adopt-cases S l stamps k mark (TellsOf S l k 0 (λ j. false)) address size refl refl refl
-      (λ i u g t. record { low = u; idle = refl; shows = subst Shows (sym (at-same l i (grownArena (at l i) (size / S)) (omega (arith, u, t .long, t .few)))) (grown-shows S l stamps k mark i address (size / S) g) })
-      (register-tells S l stamps k mark 0 (λ j. false) (size / S) _ (λ _. adopted-shows S l stamps k mark address (size / S)))) refl
+      (λ i w u g t. record { low = u; idle = refl; shows = subst Shows (sym (at-same l i (grownArena (at l i) (size / S)) (omega (arith, u, t .long, t .few)))) (grown-shows S l stamps k mark i address (size / S) g) })
+      (λ w. register-tells S l stamps k mark 0 (λ j. false) (size / S) _ (λ _. adopted-shows S l stamps k mark address (size / S)))) refl
   step-tells q ns settings (claim (pos i) n commits) h = gated n _ q _ _ (claim-tells S l stamps k mark (pos i) n commits settings) refl
   step-tells q ns settings (claim (negsuc i) n commits) h = gated n _ q _ _ (claim-tells S l stamps k mark (negsuc i) n commits settings) refl
   step-tells q ns settings (release x n told pending) h =

@@ -1,40 +1,31 @@
 -- Sound in, sound out, for what registers: a new arena, one that grows, and the calls that make them. Assumes nothing.
 use mathlib.Core.Path.{_≡_, refl, sym, ap, ap₂, _∙_, subst}
-use mathlib.Core.Bool.{Bool, true, false, cond, not, _&&_, _||_, true≢false}
+use mathlib.Core.Bool.{Bool, true, false, _&&_, true≢false}
 use mathlib.Core.List.{List}
 use mathlib.Core.Logic.{_⊎_, inl, inr, ⊎-elim}
 use Prim.Native.Nat.{ℕ, zero, suc, _+_, _-_, _*_, _/_, _%_, _^_, _<_, _≤_}
-use native.Mathlib.Nat.{add-mul, mul-comm, mul-sub, suc-mul, div-add-mod', mul-mod-left, mul-div-cancel, mul-le-mul-right}
+use native.Mathlib.Nat.{add-mul, mul-comm, mul-sub, suc-mul, div-add-mod', mul-mod-left, mul-div-cancel}
 use native.Mathlib.Omega.{arith}
 use native.Mathlib.Decide.{ℕ-discrete}
-use borrow.Author.Tests.{not-true, leb-true, leb-false, ltb-true, ltb-false, eqb-true, eqb-false, lt-ltb, le-ltb}
+use borrow.Author.Tests.{leb-false, ltb-false, eqb-false, lt-ltb, le-ltb}
 use lib.Dec.{leb, ltb, eqb}
 use lib.IntN.{ℤ, negsuc}
-use lib.ListN.{length, getD, set, length-set}
+use lib.ListN.{length, set, length-set}
 use Rattle.words.proofs.RowLaws.{lt-or-le}
-use Rattle.words.proofs.WordLaws.{not-both}
-use Rattle.words.proofs.Tests.{by-cond}
-use Rattle.runs.specs.declared.Found.{Found}
-use Rattle.runs.specs.declared.Found.the-variants.{At, Nothing}
-use Rattle.runs.specs.Lowest.{least}
-use Rattle.runs.proofs.LowestLaws.{First, first-says}
-use Rattle.runs.proofs.SearchLaws.{and-both}
 use Rattle.arena.specs.declared.Arena.{Arena}
 use Rattle.arena.specs.Registering.{newArena, reservedArena, managedArena, adoptedArena, grownArena}
-use Rattle.arena.specs.Releasing.{stampRun}
 use Rattle.lookup.specs.Place.{bytesOf, endOf}
 use Rattle.lookup.proofs.SoundLaws.{SoundRange, SoundArena}
 use Rattle.arena_laws.specs.Rows.{Rows}
 use Rattle.arena_laws.proofs.Changes.{new-rows, grown-rows}
 use Rattle.arena_laws.proofs.Soundness.{new-sound, grown-sound}
-use Rattle.layer.specs.declared.State.{State}
-use Rattle.layer.specs.declared.Reply.{Reply}
-use Rattle.layer.specs.World.{World, Outcome, stateOf, worldOf, calm}
-use Rattle.layer.specs.Table.{at, isAt, meets, overlaps, badRange}
-use Rattle.layer.specs.Registering.{chunksFor, tooLarge, askMemory, reserveReply, badCount, registerReply, registers, withRecord, withStamps, register, firstWhole, pastWhole, noWholeChunk, grows, reserveOf, manageOf, adoptAt, adoptOf}
+use Rattle.layer.specs.Table.{at, meets, badRange}
+use Rattle.layer.specs.Registering.{chunksFor, askMemory, badCount, withStamps, register, firstWhole, pastWhole, grows, reserveOf, manageOf, adoptOf}
 use Rattle.layer.proofs.Tools.{or-false, at-same, at-other, by-set}
-use Rattle.layer.proofs.Facts.{SoundTable, SoundQuestion, overlaps-none}
-use Rattle.layer.proofs.Kept.{SoundWorld, Kept, calm-kept, stamp-length}
+use Rattle.layer.proofs.Facts.{SoundTable, overlaps-none}
+use Rattle.layer.proofs.Rules.{grows-facts, count-facts}
+use Rattle.layer.proofs.Cases.{reserve-cases, register-cases, manage-cases, adopt-cases}
+use Rattle.layer.proofs.Kept.{Kept, calm-kept, stamp-length}
 
 -- ---- what row 6 lets pass
 
@@ -155,51 +146,21 @@ sub-mul m n k = mul-comm (m - n) k ∙ mul-sub k m n ∙ ap₂ _-_ (mul-comm k m
 -- ---- registering
 
 module _ (S : ℕ) (l : List Arena) (stamps : List ℕ) (k : ℕ) (mark : Bool) (t : SoundTable S l k) (ls : length stamps ≡ 32768) where
-  registers-facts : (chunks : ℕ) → registers k chunks ≡ true → (1 ≤ chunks) × (chunks ≤ 1024) × (k < 32)
-  unfolding registers badCount
-  registers-facts chunks e =
-      let p = and-both (not (eqb chunks 0 || ltb 1024 chunks)) _ e in
-      let q = or-false (eqb chunks 0) _ (not-true (eqb chunks 0 || ltb 1024 chunks) (p .0)) in
-      (some chunks (eqb-false chunks 0 (q .0)), ltb-false 1024 chunks (q .1), leb-false 32 k (not-true (leb 32 k) (p .1)))
-    where
-      some : (n : ℕ) → (n ≡ 0 → ⊥) → 1 ≤ n
-      some zero h = absurd (h refl)
-      some (suc n) h = omega arith
-
-  -- the state after registering, and after not registering
-  state-new : (chunks : ℕ) → registers k chunks ≡ true → registerReply k mark chunks .state ≡ calm (suc k) mark
-  unfolding registers registerReply
-  state-new chunks e =
-      let p = and-both (not (badCount chunks)) _ e in
-      by-cond (λ (r : Reply). r .state ≡ calm (suc k) mark) (badCount chunks) _ _ (λ f. absurd (not-both (badCount chunks) (not-true (badCount chunks) (p .0)) f))
-      (λ f. by-cond (λ (r : Reply). r .state ≡ calm (suc k) mark) (leb 32 k) _ _ (λ g. absurd (not-both (leb 32 k) (not-true (leb 32 k) (p .1)) g)) (λ g. refl))
-
-  state-old : (chunks : ℕ) → registers k chunks ≡ false → registerReply k mark chunks .state ≡ calm k mark
-  unfolding registers registerReply
-  state-old chunks e =
-      by-cond (λ (r : Reply). r .state ≡ calm k mark) (badCount chunks) _ _ (λ f. refl)
-      (λ f. by-cond (λ (r : Reply). r .state ≡ calm k mark) (leb 32 k) _ _ (λ g. refl)
-      (λ g. absurd (true≢false (sym (ap₂ (λ (u v : Bool). not u && not v) f g) ∙ e))))
-
   pub new-stamps : k < 32 → length (withStamps stamps k) ≡ 32768
   new-stamps h = stamp-length stamps (1024 * k) 1024 0 (omega (arith, ls)) ∙ ls
 
-  pub register-kept : (chunks : ℕ) (a : Arena) → Rows a → (registers k chunks ≡ true → SoundArena S a)
+  pub register-kept : (chunks : ℕ) (a : Arena) → Rows a → (badCount chunks ≡ false → SoundArena S a)
       → ((i : ℕ) → i < k → meets S (at l i) (a .base) (bytesOf S a) ≡ false) → Kept S (register l stamps k mark chunks a)
   register-kept chunks a r x alone =
-      by-cond (Kept S) (registers k chunks) _ _
-      (λ e. let f = registers-facts chunks e in
-      subst (λ (z : State). SoundWorld S (worldOf (withRecord l k a) (withStamps stamps k) z)) (sym (state-new chunks e))
-      (record { table = new-table S l k a t (f .2) r (x e) alone; stamps = new-stamps (f .2); question = tt }))
-      (λ e. subst (λ (z : State). SoundWorld S (worldOf l stamps z)) (sym (state-old chunks e)) (calm-kept S l stamps k mark t ls mark))
+      register-cases S l stamps k mark (Kept S) chunks a (calm-kept S l stamps k mark t ls mark) (calm-kept S l stamps k mark t ls mark)
+      (λ e h. record { table = new-table S l k a t h r (x e) alone; stamps = new-stamps h; question = tt })
 
   -- ---- the calls
 
   pub reserve-kept : (size : ℕ) (commit large exclusive : Bool) (page : ℕ) → Kept S (reserveOf S l stamps k mark size commit large exclusive page)
-  unfolding reserveOf reserveReply askMemory
+  unfolding askMemory
   reserve-kept size commit large exclusive page =
-      by-cond (λ (r : Reply). SoundWorld S (worldOf l stamps (r .state))) (tooLarge S size) _ _ (λ e. calm-kept S l stamps k mark t ls mark)
-      (λ e. record { table = t; stamps = ls; question = tt })
+      reserve-cases S l stamps k mark (Kept S) size commit large exclusive page (calm-kept S l stamps k mark t ls mark) (record { table = t; stamps = ls; question = tt })
 
   -- a whole number of chunks, as bytes and back
   module _ (pos : 0 < S) where
@@ -215,18 +176,15 @@ module _ (S : ℕ) (l : List Arena) (stamps : List ℕ) (k : ℕ) (mark : Bool) 
         difference = sym (sub-mul ((start + size) / S) (chunksFor S start) S)
 
     -- a range of whole chunks that row 6 lets pass, and that can be registered, is an arena's
-    pub arena-range : (base bytes : ℕ) → base % S ≡ 0 → bytes / S * S ≡ bytes → GoodRange S l k base bytes → registers k (bytes / S) ≡ true → SoundRange S base (bytes / S)
+    pub arena-range : (base bytes : ℕ) → base % S ≡ 0 → bytes / S * S ≡ bytes → GoodRange S l k base bytes → badCount (bytes / S) ≡ false → SoundRange S base (bytes / S)
     arena-range base bytes e w g r =
-        let f = registers-facts (bytes / S) r in
+        let f = count-facts (bytes / S) r in
         record { somewhere = g .somewhere; aligned = e; some = f .0; few = f .1; ends = subst (λ (x : ℕ). base + x < 2 ^ 64) (sym w) (g .ends) }
 
     pub manage-kept : (start size : ℕ) (exclusive : Bool) (node : ℤ) (mapped reserved : Bool) → Kept S (manageOf S l stamps k mark start size exclusive node mapped reserved)
-    unfolding manageOf
     manage-kept start size exclusive node mapped reserved =
-        by-cond (Kept S) (noWholeChunk S start size) _ _ (λ e. calm-kept S l stamps k mark t ls mark)
-        (λ e. by-cond (Kept S) (mapped || not reserved) _ _ (λ f. calm-kept S l stamps k mark t ls mark)
-        (λ f. by-cond (Kept S) (badRange S l k (firstWhole S start) (pastWhole S start size - firstWhole S start)) _ _ (λ g. calm-kept S l stamps k mark t ls mark)
-        (λ g. managed (good-range S l k (firstWhole S start) (pastWhole S start size - firstWhole S start) g))))
+        manage-cases S l stamps k mark (Kept S) start size exclusive node mapped reserved (calm-kept S l stamps k mark t ls mark) (calm-kept S l stamps k mark t ls mark)
+        (calm-kept S l stamps k mark t ls mark) (λ g. managed (good-range S l k (firstWhole S start) (pastWhole S start size - firstWhole S start) g))
       where
         managed : GoodRange S l k (firstWhole S start) (pastWhole S start size - firstWhole S start)
             → Kept S (register l stamps k mark ((pastWhole S start size - firstWhole S start) / S) (managedArena (firstWhole S start) ((pastWhole S start size - firstWhole S start) / S) exclusive node))
@@ -243,12 +201,7 @@ module _ (S : ℕ) (l : List Arena) (stamps : List ℕ) (k : ℕ) (mark : Bool) 
     -- the block of n chunks at the end of arena i, which meets no arena
     module _ (i address n : ℕ) (h : i < k) (grow : grows S (at l i) address n ≡ true) (some : 0 < n) (good : GoodRange S l k address (n * S)) where
       facts : (endOf S (at l i) ≡ address) × (at l i .chunks + n ≤ 1024)
-      unfolding grows
-      facts =
-          let p = and-both (at l i .owned) _ grow in
-          let q = and-both (not (at l i .exclusive)) _ (p .1) in
-          let r = and-both (eqb (endOf S (at l i)) address) _ (q .1) in
-          (eqb-true (endOf S (at l i)) address (r .0), leb-true (at l i .chunks + n) 1024 (r .1))
+      facts = let f = grows-facts S (at l i) address n grow in (f .1, f .2)
 
       -- the range after: the old one and the block
       longer : (at l i .chunks + n) * S ≡ bytesOf S (at l i) + n * S
@@ -332,29 +285,20 @@ module _ (S : ℕ) (l : List Arena) (stamps : List ℕ) (k : ℕ) (mark : Bool) 
               ∙ t .apart x y u v
 
     pub adopt-kept : (address size : ℕ) → Kept S (adoptOf S l stamps k mark address size)
-    unfolding adoptOf
     adopt-kept address size =
-        by-cond (Kept S) (eqb size 0) _ _ (λ e. calm-kept S l stamps k mark t ls mark)
-        (λ e. by-cond (Kept S) (eqb (address % S) 0 && eqb (size % S) 0) _ _
-        (λ f. by-cond (Kept S) (badRange S l k address size) _ _ (λ g. calm-kept S l stamps k mark t ls mark)
-        (λ g. let w = and-both (eqb (address % S) 0) _ f in
-        go (eqb-false size 0 e) (eqb-true (address % S) 0 (w .0)) (whole size (eqb-true (size % S) 0 (w .1))) (good-range S l k address size g)
-        (least (λ i. grows S (at l i) address (size / S)) 0 k) (first-says (λ i. grows S (at l i) address (size / S)) 0 k)))
-        (λ f. calm-kept S l stamps k mark t ls mark))
+        adopt-cases S l stamps k mark (Kept S) address size (calm-kept S l stamps k mark t ls mark) (calm-kept S l stamps k mark t ls mark) (calm-kept S l stamps k mark t ls mark)
+        (λ i w u g. let e = whole size (w .2) in
+        record {
+          table = grown-table i address (size / S) u g (some-chunks (size / S) e (w .0)) (subst (λ (x : ℕ). GoodRange S l k address x) (sym e) (good-range S l k address size (w .3)));
+          stamps = ls;
+          question = tt;
+        })
+        (λ w. let e = whole size (w .2) in
+        let good : GoodRange S l k address size = good-range S l k address size (w .3) in
+        register-kept (size / S) (adoptedArena address (size / S)) (adopted-rows address (size / S))
+        (λ r. adopted-sound S address (size / S) (arena-range address size (w .1) e good r))
+        (λ i u. let z = adopted-range S address (size / S) in ap₂ (meets S (at l i)) (z .0) (z .1 ∙ e) ∙ good .alone i u))
       where
         some-chunks : (n : ℕ) → n * S ≡ size → (size ≡ 0 → ⊥) → 0 < n
         some-chunks zero e h = absurd (h (omega arith))
         some-chunks (suc n) e h = omega arith
-
-        go : (size ≡ 0 → ⊥) → address % S ≡ 0 → size / S * S ≡ size → GoodRange S l k address size → (f : Found)
-            → First (λ i. grows S (at l i) address (size / S)) 0 k f → Kept S (adoptAt S l stamps k mark address (size / S) f)
-        go p e w g (At i) f =
-            record {
-              table = grown-table i address (size / S) (omega (arith, f .1)) (f .2) (some-chunks (size / S) w p) (subst (λ (x : ℕ). GoodRange S l k address x) (sym w) g);
-              stamps = ls;
-              question = tt;
-            }
-        go p e w g Nothing f =
-            register-kept (size / S) (adoptedArena address (size / S)) (adopted-rows address (size / S))
-            (λ r. adopted-sound S address (size / S) (arena-range address size e w g r))
-            (λ i u. let z = adopted-range S address (size / S) in ap₂ (meets S (at l i)) (z .0) (z .1 ∙ w) ∙ g .alone i u)

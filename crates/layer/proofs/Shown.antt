@@ -1,7 +1,7 @@
 -- The share book that a record and what is open about it show; the invariant of a sequence, and what one call does to it. The book shown knows no id and no
 -- table. Assumes nothing.
 use mathlib.Core.Path.{_≡_}
-use mathlib.Core.Bool.{Bool, true, cond, not, _&&_, _||_}
+use mathlib.Core.Bool.{Bool, true, not, _&&_, _||_}
 use mathlib.Core.List.{List, _++_}
 use Prim.Native.Nat.{ℕ, _<_}
 use Rattle.words.specs.Bits.{bitAt, within}
@@ -11,7 +11,7 @@ use Rattle.layer.specs.declared.Question.{Question}
 use Rattle.layer.specs.World.{Outcome}
 use Rattle.layer.specs.Table.{at}
 use Rattle.layer.specs.Book.{Book, Say, enterAll, sayAll}
-use Rattle.layer.specs.Sequence.{isIdle, Role, fedOf, toldOf, View, calm, committing, purging, viewOf, owedIn}
+use Rattle.layer.specs.Sequence.{askerAfter, Role, fedOf, toldOf, View, calm, committing, purging, viewOf, owedIn}
 
 -- a borrowed used bit is not held
 abbrev pub heldIn : View → Arena → ℕ → Bool
@@ -56,6 +56,6 @@ module _ (S p id b n : ℕ) where
 
   -- what one call does: r is what the call is to the arena, o what comes out
   pub record Fits (l : List Arena) (q : Question) (who z : ℕ) (r : Role) (o : Outcome) : Type 0 where
-    pub inv : Inv (o .world .records) (o .world .state .count) (o .world .state .question) (cond (isIdle q) who z)
+    pub inv : Inv (o .world .records) (o .world .state .count) (o .world .state .question) (askerAfter q who z)
     pub book : bookAt (o .world .records) (o .world .state .question) ≡ enterAll S lowestRun (bookAt l q) (fedOf r)
     pub says : owedAt l q ++ sayAll S lowestRun (bookAt l q) (fedOf r) ≡ toldOf r (o .answer) ++ owedAt (o .world .records) (o .world .state .question)

@@ -1,13 +1,13 @@
 -- Sound in, sound out, for every call: answers, and then the one step. Assumes nothing.
-use mathlib.Core.Path.{_≡_, refl, sym, ap, ap₂, _∙_, subst}
-use mathlib.Core.Bool.{Bool, true, false, cond, not, _&&_, true≢false}
+use mathlib.Core.Path.{_≡_, ap₂, _∙_}
+use mathlib.Core.Bool.{Bool, true, false, _&&_}
 use mathlib.Core.List.{List}
-use Prim.Native.Nat.{ℕ, zero, suc, _+_, _-_, _*_, _%_, _<_, _≤_}
+use Prim.Native.Nat.{ℕ, suc, _+_, _-_, _*_, _<_, _≤_}
 use native.Mathlib.Omega.{arith}
-use borrow.Author.Tests.{leb-true, leb-false, le-leb, eqb-true, eq-eqb, ltb-false, eqb-false}
-use lib.Dec.{leb, ltb, eqb}
-use lib.IntN.{ℤ, negsuc}
-use lib.ListN.{length, set}
+use borrow.Author.Tests.{leb-true, le-leb, eqb-true, eq-eqb}
+use lib.Dec.{leb, eqb}
+use lib.IntN.{ℤ}
+use lib.ListN.{length}
 use Rattle.words.proofs.Tests.{by-cond}
 use Rattle.runs.specs.Lowest.{all}
 use Rattle.runs.proofs.LowestLaws.{all-free-of, free-all}
@@ -17,15 +17,13 @@ use Rattle.arena.specs.declared.Arena.{Arena}
 use Rattle.arena.specs.Registering.{reservedArena}
 use Rattle.arena.specs.Claiming.{giveBackRun, finishGrant}
 use Rattle.arena.specs.Sweeping.{returnChunk}
-use Rattle.lookup.specs.Place.{bytesOf}
 use Rattle.lookup.specs.Soundness.{soundArena}
-use Rattle.lookup.proofs.SoundLaws.{SoundRange, SoundArena, arena-facts, arena-test}
+use Rattle.lookup.proofs.SoundLaws.{SoundRange, arena-facts, arena-test}
 use Rattle.arena_laws.specs.Rows.{Rows}
 use Rattle.arena_laws.proofs.Changes.{finish-rows, give-back-rows, return-rows}
 use Rattle.arena_laws.proofs.Soundness.{finish-sound, give-back-sound, return-sound}
 use Rattle.layer.specs.declared.Settings.{Settings}
 use Rattle.layer.specs.declared.Sweep.{Sweep}
-use Rattle.layer.specs.declared.State.{State}
 use Rattle.layer.specs.declared.Question.{Question}
 use Rattle.layer.specs.declared.Question.the-variants.{Idle, Committing, Purging, Reserving, GivingBack}
 use Rattle.layer.specs.declared.Waiting.{Waiting}
@@ -33,19 +31,18 @@ use Rattle.layer.specs.declared.Waiting.the-variants.{Reserve, Claim}
 use Rattle.layer.specs.declared.Kind.{Kind}
 use Rattle.refusals.specs.declared.Refusal.{Refusal}
 use Rattle.refusals.specs.declared.Refusal.the-variants.{NoRun}
-use Rattle.layer.specs.declared.Reply.{Reply}
-use Rattle.layer.specs.World.{World, Outcome, stateOf, worldOf, calm, turnDown}
-use Rattle.layer.specs.Table.{at, meets, badRange, apart, askedId, soundQuestion, soundTable, soundLent, sound}
-use Rattle.layer.specs.Registering.{tooLarge, badCount, askMemory, withRecord, withStamps}
-use Rattle.layer.specs.Claiming.{missReply, isNegative, claimOf}
-use Rattle.options.specs.Options.{arenaAllowed}
+use Rattle.layer.specs.World.{World, Outcome, worldOf, calm, turnDown}
+use Rattle.layer.specs.Table.{at, meets, apart, soundTable, soundLent, sound}
+use Rattle.layer.specs.Registering.{askMemory, withRecord, withStamps}
+use Rattle.layer.specs.Claiming.{missReply, claimOf}
 use Rattle.layer.specs.Answering.{isFor, counted, failReply, answerCommit, answerPurge, resume, answerMemory, answerTo, answerOf}
 use Rattle.layer.specs.Sweeping.{sweepFrom}
 use Rattle.layer.specs.Step.{Call, reserve, manage, adopt, claim, release, sweep, answer, owns, area, sweepOf, gate, stepOn, step}
-use Rattle.layer.proofs.Tools.{or-false}
 use Rattle.layer.proofs.Facts.{SoundTable, SoundQuestion, apart-facts, apart-test, question-facts, question-test, put-sound}
+use Rattle.layer.proofs.Rules.{count-facts}
+use Rattle.layer.proofs.Cases.{miss-cases, claim-cases, memory-cases}
 use Rattle.layer.proofs.Kept.{SoundWorld, Kept, calm-kept, search-kept, release-kept, visit-kept, sweep-kept, finish-range, give-back-range, return-range}
-use Rattle.layer.proofs.Registered.{GoodRange, good-range, new-table, new-stamps, reserved-rows, reserved-sound, reserved-range, reserve-kept, manage-kept, adopt-kept}
+use Rattle.layer.proofs.Registered.{good-range, new-table, new-stamps, reserved-rows, reserved-sound, reserved-range, reserve-kept, manage-kept, adopt-kept}
 
 module _ (S : ℕ) (pos : 0 < S) (l : List Arena) (stamps : List ℕ) (k : ℕ) (mark : Bool) (t : SoundTable S l k) (ls : length stamps ≡ 32768) where
   -- ---- claims
@@ -54,21 +51,12 @@ module _ (S : ℕ) (pos : 0 < S) (l : List Arena) (stamps : List ℕ) (k : ℕ) 
   unfolding askMemory
   asks-memory-kept size page commit large exclusive waiting = record { table = t; stamps = ls; question = tt }
 
-  miss-kept : (id : ℤ) (n : ℕ) (commits : Bool) (settings : Settings) → SoundWorld S (worldOf l stamps (missReply S k mark id n commits settings .state))
-  unfolding missReply
-  miss-kept id n commits settings =
-      by-cond (λ (r : Reply). SoundWorld S (worldOf l stamps (r .state))) (isNegative id && (leb S (settings .reserve) && not mark)) _ _
-      (λ e. by-cond (λ (r : Reply). SoundWorld S (worldOf l stamps (r .state))) (tooLarge S (settings .reserve)) _ _ (λ f. calm-kept S l stamps k mark t ls true)
-      (λ f. asks-memory-kept (settings .reserve) (settings .page) false false false (Claim n commits)))
-      (λ e. calm-kept S l stamps k mark t ls mark)
-
   pub claim-kept : (id : ℤ) (n : ℕ) (commits : Bool) (settings : Settings) → Kept S (claimOf S l stamps k mark id n commits settings)
-  unfolding claimOf
   claim-kept id n commits settings =
-      by-cond (Kept S) (eqb n 0) _ _ (λ e. calm-kept S l stamps k mark t ls mark)
-      (λ e. by-cond (Kept S) (arenaAllowed (settings .off) id) _ _
-      (λ f. search-kept S l stamps k mark t ls id n commits (missReply S k mark id n commits settings) (miss-kept id n commits settings))
-      (λ f. calm-kept S l stamps k mark t ls mark))
+      claim-cases S l stamps k mark (Kept S) id n commits settings (λ e. calm-kept S l stamps k mark t ls mark) (λ e f. calm-kept S l stamps k mark t ls mark)
+      (λ e f. search-kept S l stamps k mark t ls id n commits (missReply S k mark id n commits settings)
+      (miss-cases S l stamps k mark (Kept S) id n commits settings (calm-kept S l stamps k mark t ls mark) (calm-kept S l stamps k mark t ls true)
+      (asks-memory-kept (settings .reserve) (settings .page) false false false (Claim n commits))))
 
   -- ---- answers
 
@@ -120,28 +108,18 @@ module _ (S : ℕ) (pos : 0 < S) (l : List Arena) (stamps : List ℕ) (k : ℕ) 
       go : (v : Waiting) → Kept S (resume S l stamps k mark (reservedArena base chunks commit exclusive) v)
       go Reserve = record { table = made; stamps = long; question = tt }
       go (Claim n commits) =
-          search-kept S (withRecord l k (reservedArena base chunks commit exclusive)) (withStamps stamps k) (suc k) mark made long (negsuc 0) n commits
+          search-kept S (withRecord l k (reservedArena base chunks commit exclusive)) (withStamps stamps k) (suc k) mark made long _ n commits
           (turnDown NoRun (calm (suc k) mark)) (record { table = made; stamps = long; question = tt })
 
   memory-kept : (chunks bytes : ℕ) (commit exclusive : Bool) (waiting : Waiting) (granted : Bool) (base : ℕ)
       → Kept S (answerMemory S l stamps k mark chunks bytes commit exclusive waiting granted base)
-  unfolding badCount
   memory-kept chunks bytes commit exclusive waiting false base = fail-kept _ waiting
   memory-kept chunks bytes commit exclusive waiting true base =
-      by-cond (Kept S) (badRange S l k base (chunks * S)) _ _ (λ e. record { table = t; stamps = ls; question = tt })
-      (λ e. by-cond (Kept S) (badCount chunks) _ _ (λ f. record { table = t; stamps = ls; question = tt })
-      (λ f. by-cond (Kept S) (eqb (base % S) 0) _ _
-      (λ g. by-cond (Kept S) (leb 32 k) _ _ (λ h. record { table = t; stamps = ls; question = tt })
-      (λ h. let x = good-range S l k base (chunks * S) e in
-      let c = or-false (eqb chunks 0) _ f in
-      resume-kept base chunks commit exclusive waiting (leb-false 32 k h)
-      (record { somewhere = x .somewhere; aligned = eqb-true (base % S) 0 g; some = nonzero chunks (eqb-false chunks 0 (c .0)); few = ltb-false 1024 chunks (c .1); ends = x .ends })
-      (x .alone)))
-      (λ g. record { table = t; stamps = ls; question = tt })))
-    where
-      nonzero : (n : ℕ) → (n ≡ 0 → ⊥) → 1 ≤ n
-      nonzero zero h = absurd (h refl)
-      nonzero (suc n) h = omega arith
+      memory-cases S l stamps k mark (Kept S) chunks bytes commit exclusive waiting base (record { table = t; stamps = ls; question = tt })
+      (λ cause. record { table = t; stamps = ls; question = tt })
+      (λ range count aligned room. let x = good-range S l k base (chunks * S) range in
+      let c = count-facts chunks count in
+      resume-kept base chunks commit exclusive waiting room (record { somewhere = x .somewhere; aligned = aligned; some = c .0; few = c .1; ends = x .ends }) (x .alone))
 
   pub answer-kept : (q : Question) (kind : Kind) (granted : Bool) (base : ℕ) → SoundQuestion l k q → Kept S (answerOf S l stamps k mark q kind granted base)
   unfolding answerOf

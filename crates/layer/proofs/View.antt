@@ -11,7 +11,6 @@ use Rattle.words.specs.Rows.{clearRun}
 use Rattle.words.proofs.RowLaws.{Stands, stands, before, inside, after, within-yes, within-before, within-after}
 use Rattle.runs.specs.declared.Found.{Found}
 use Rattle.runs.specs.declared.Found.the-variants.{At, Nothing}
-use Rattle.runs.specs.Lowest.{all}
 use Rattle.arena.specs.declared.Arena.{Arena}
 use Rattle.arena.specs.declared.Commitment.{Commitment}
 use Rattle.arena.specs.declared.Commitment.the-variants.{Untold, Committed, Uncommitted}

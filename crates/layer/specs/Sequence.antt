@@ -62,11 +62,15 @@ isIdle (Purging i j w) = false
 isIdle (Reserving chunks bytes commit exclusive waiting) = false
 isIdle (GivingBack cause waiting) = false
 
--- a call that is refused with 1 leaves what the last other call left; whoever calls while no question is open is the asker of the one that it puts
+-- "A commit question is its caller's own": whoever calls while no question is open is the asker of the one that the call puts
+abbrev pub askerAfter : Question → ℕ → ℕ → ℕ
+askerAfter q who asker = cond (isIdle q) who asker
+
+-- a call that is refused with 1 leaves what the last other call left
 abbrev pub next : ℕ → Trail → Marked → Trail
 next S t m =
     cond (brokenAt S m) t
-    (record { world = outcomeOf S m .world; asker = cond (isIdle (t .world .state .question)) (m .who) (t .asker) })
+    (record { world = outcomeOf S m .world; asker = askerAfter (t .world .state .question) (m .who) (t .asker) })
 
 abbrev pub after : ℕ → Trail → List Marked → Trail
 after S t [] = t

@@ -1,0 +1,129 @@
+-- What single rules say, each as a short fact: a layer that breaks one of them fails demand 3. Assumes nothing.
+use mathlib.Core.Path.{_≡_, refl, sym, ap, _∙_}
+use mathlib.Core.Bool.{Bool, true, false, not, _&&_, true≢false}
+use mathlib.Core.List.{List}
+use Prim.Native.Nat.{ℕ, zero, suc, _+_, _*_, _≤_}
+use native.Mathlib.Omega.{arith}
+use borrow.Author.Tests.{eqb-true, eqb-false, leb-true, ltb-false}
+use lib.Dec.{eqb, leb}
+use lib.IntN.{ℤ, pos, negsuc}
+use Rattle.refusals.specs.declared.Refusal.the-variants.{NoRun}
+use Rattle.words.proofs.Tests.{when}
+use Rattle.runs.proofs.SearchLaws.{and-both}
+use Rattle.arena.specs.declared.Arena.{Arena}
+use Rattle.arena.specs.Claiming.{findRun}
+use Rattle.lookup.specs.Place.{endOf}
+use Rattle.layer.specs.declared.Settings.{Settings}
+use Rattle.layer.specs.declared.Question.the-variants.{Reserving}
+use Rattle.layer.specs.declared.Waiting.{Waiting}
+use Rattle.layer.specs.declared.Waiting.the-variants.{Claim}
+use Rattle.layer.specs.declared.Kind.the-variants.{ForCommit, ForPurge, ForMemory, ForGiveBack, ForNone}
+use Rattle.layer.specs.World.{World, Outcome, turnDown, calm}
+use Rattle.layer.specs.Table.{at, isAt, badRange}
+use Rattle.layer.specs.Registering.{grows, badCount, withRecord, withStamps}
+use Rattle.layer.specs.Claiming.{eligible, serves, searchOf}
+use Rattle.layer.specs.Answering.{isFor, answerCommit, resume, answerOf}
+use Rattle.layer.specs.Step.{Call, reserve, manage, adopt, claim, release, sweep, answer, owns, area, stepOn}
+use Rattle.layer.specs.Demand.{leavesOpen}
+use Rattle.layer.proofs.Tools.{or-false, at-other}
+
+-- ---- claims
+
+-- a negative id passes an exclusive arena over
+shared-only : (x i : ℕ) (a : Arena) → a .exclusive ≡ true → eligible (negsuc x) i a ≡ false
+unfolding eligible
+shared-only x i a e = ap not e
+
+-- another id names one arena
+named-only : (x i : ℕ) (a : Arena) → eligible (pos x) i a ≡ true → i ≡ x
+unfolding eligible
+named-only x i a e = eqb-true i x e
+
+-- what serves a claim is eligible
+serves-eligible : (id : ℤ) (n : ℕ) (l : List Arena) (i : ℕ) → serves id n l i ≡ true → eligible id i (at l i) ≡ true
+unfolding serves
+serves-eligible id n l i e = and-both (eligible id i (at l i)) (isAt (findRun (at l i) n)) e .0
+
+-- so an exclusive arena j serves no claim with a negative id, and a claim at its own id alone
+pub not-shared : (x n : ℕ) (l : List Arena) (i j : ℕ) → at l j .exclusive ≡ true → serves (negsuc x) n l i ≡ true → i ≡ j → ⊥
+not-shared x n l i j e f d =
+    true≢false (sym (serves-eligible (negsuc x) n l i f) ∙ shared-only x i (at l i) (ap (λ (z : ℕ). at l z .exclusive) d ∙ e))
+
+pub served-named : (x n : ℕ) (l : List Arena) (i : ℕ) → serves (pos x) n l i ≡ true → i ≡ x
+served-named x n l i f = named-only x i (at l i) (serves-eligible (pos x) n l i f)
+
+-- ---- growth
+
+-- an exclusive arena does not grow
+never-grows : (S : ℕ) (a : Arena) (address n : ℕ) → a .exclusive ≡ true → grows S a address n ≡ false
+unfolding grows
+never-grows S a address n e = go (a .owned) refl
+  where
+    go : (o : Bool) → a .owned ≡ o → grows S a address n ≡ false
+    go true f = rw e (rw f refl)
+    go false f = rw e (rw f refl)
+
+-- what grows is not exclusive, ends at the block, and stays within 1,024 chunks
+pub grows-facts : (S : ℕ) (a : Arena) (address n : ℕ) → grows S a address n ≡ true → (a .exclusive ≡ false) × (endOf S a ≡ address) × (a .chunks + n ≤ 1024)
+unfolding grows
+grows-facts S a address n g =
+    let r = go (a .owned) (a .exclusive) refl refl g in
+    let t = and-both (eqb (endOf S a) address) (leb (a .chunks + n) 1024) (r .1) in
+    (r .0, eqb-true (endOf S a) address (t .0), leb-true (a .chunks + n) 1024 (t .1))
+  where
+    go : (o x : Bool) → a .owned ≡ o → a .exclusive ≡ x → grows S a address n ≡ true → (a .exclusive ≡ false) × (eqb (endOf S a) address && leb (a .chunks + n) 1024 ≡ true)
+    go o true p q = λ g. absurd (true≢false (sym g ∙ never-grows S a address n q))
+    go true false p q = rw q (rw p (λ g. (refl, g)))
+    go false false p q = rw q (rw p (λ g. absurd (true≢false (sym g))))
+
+-- ---- memory questions
+
+-- "a question is open from where the rules above put it until they close it": a call that the rules say leaves it open does
+pub left-open : (S n bytes : ℕ) (commit exclusive : Bool) (waiting : Waiting) (w : World) (ns : ℕ) (settings : Settings) (c : Call) → leavesOpen S n w c ≡ true
+    → let q = Reserving n bytes commit exclusive waiting in
+    stepOn S (w .records) (w .stamps) (w .state .count) (w .state .mark) q ns settings c .world .state .question ≡ q
+unfolding answerOf isFor
+left-open S n bytes commit exclusive waiting w ns settings (answer ForMemory true base) e =
+    ap (λ (o : Outcome). o .world .state .question) (when (badRange S (w .records) (w .state .count) base (n * S)) _ _ e)
+left-open S n bytes commit exclusive waiting w ns settings (answer ForMemory false base) e = absurd (true≢false (sym e))
+left-open S n bytes commit exclusive waiting w ns settings (answer ForCommit accepted base) e = refl
+left-open S n bytes commit exclusive waiting w ns settings (answer ForPurge accepted base) e = refl
+left-open S n bytes commit exclusive waiting w ns settings (answer ForGiveBack accepted base) e = refl
+left-open S n bytes commit exclusive waiting w ns settings (answer ForNone accepted base) e = refl
+left-open S n bytes commit exclusive waiting w ns settings (reserve size give large alone) e = refl
+left-open S n bytes commit exclusive waiting w ns settings (manage from size alone node mapped reserved) e = refl
+left-open S n bytes commit exclusive waiting w ns settings (adopt address size) e = refl
+left-open S n bytes commit exclusive waiting w ns settings (claim id c commits) e = refl
+left-open S n bytes commit exclusive waiting w ns settings (release address c tell pending) e = refl
+left-open S n bytes commit exclusive waiting w ns settings (sweep force) e = refl
+left-open S n bytes commit exclusive waiting w ns settings (owns address) e = refl
+left-open S n bytes commit exclusive waiting w ns settings (area id) e = refl
+
+-- ---- answers
+
+module _ (S : ℕ) (l : List Arena) (stamps : List ℕ) (k : ℕ) (mark : Bool) where
+  -- an answer to a commit question leaves every other arena as it was
+  pub others-left : (i s n : ℕ) (granted : Bool) (j : ℕ) → (j ≡ i → ⊥) → at (answerCommit S l stamps k mark i s n granted .world .records) j ≡ at l j
+  others-left i s n true j d = at-other l i j _ d
+  others-left i s n false j d = at-other l i j _ d
+
+  -- a claim that waited for memory "searches once more", and passes every exclusive arena over
+  pub record Again (a : Arena) (n : ℕ) (commits : Bool) : Type 0 where
+    pub id : ℤ
+    pub is : resume S l stamps k mark a (Claim n commits)
+        ≡ searchOf S (withRecord l k a) (withStamps stamps k) (suc k) mark id n commits (turnDown NoRun (calm (suc k) mark))
+    pub passes-over : (i j : ℕ) → at (withRecord l k a) j .exclusive ≡ true → serves id n (withRecord l k a) i ≡ true → i ≡ j → ⊥
+
+  pub again : (a : Arena) (n : ℕ) (commits : Bool) → Again a n commits
+  again a n commits = record { id = _; is = refl; passes-over = λ i j e f. not-shared 0 n (withRecord l k a) i j e f }
+
+-- ---- registering
+
+-- what row 12 lets pass
+pub count-facts : (chunks : ℕ) → badCount chunks ≡ false → (1 ≤ chunks) × (chunks ≤ 1024)
+unfolding badCount
+count-facts chunks e = let c = or-false (eqb chunks 0) _ e in (some chunks (eqb-false chunks 0 (c .0)), ltb-false 1024 chunks (c .1))
+  where
+    some : (n : ℕ) → (n ≡ 0 → ⊥) → 1 ≤ n
+    some zero h = absurd (h refl)
+    some (suc n) h = omega arith

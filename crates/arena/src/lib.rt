@@ -9,7 +9,9 @@ ghost use Rattle.arena.specs.Claiming.{takeRun, giveBackRun, commitRun, 
 ghost use Rattle.arena.specs.Releasing.{tellRun, pendRun, releaseRun};
 ghost use Rattle.arena.specs.Sweeping.{disarm, borrowChunk, unpendChunk, returnChunk};
 
-// A registered range of chunks. Bit j % 32 of word j / 32 of each map is chunk j.
+// A registered range of chunks. Bit j % 32 of word j / 32 of each map is chunk j. It is lent across the C
+// surface, so its layout is C's.
+#[repr(C)]
 pub struct Arena {
     pub base: u64,
     pub chunks: usize,

@@ -3,9 +3,16 @@ ghost use mathlib.Core.Path.{_≡_};
 ghost use Rattle.sizes.specs.Sizes.{isAlignedTo, pageAlignUp};
 ghost use Rattle.clock.specs.Clock.{nowMs, delayMs, armed, isDue};
 ghost use Rattle.slice_pool.specs.Pool.{allocRun, freeRange, freeNumber};
+ghost use mathlib.Core.Bool.{true, false};
+ghost use Rattle.layer.specs.Step.{claim};
+ghost use Rattle.surface.specs.Numbers.{stepNumbers, LeavesNumbers};
 ghost use Rattle.sirqobal.specs.Exports.{sliceAnswer};
+use arena::Arena;
 use slice_pool::Allocated;
 use slice_pool::Freed;
+use surface::ReplyNumbers;
+use surface::SettingsNumbers;
+use surface::StateNumbers;
 
 // ---- size arithmetic, clock and deadlines: functions on numbers
 
@@ -93,4 +100,65 @@ pub extern "C" fn sirqobal_free_range(words: &mut [u32], base: u64, size: u64) -
     ensures { λ r. ⌜ (r ≡ freeNumber (freeRange (now (words .entry)) base size .answer)) × (now (words .exit) ≡ freeRange (now (words .entry)) base size .words) ⌝ }
 {
     freed_number(slice_pool::free_range(words, base, size))
+}
+
+// ---- the layer. The state comes in numbers, and goes back in them with the answer; numbers that are no
+// state's are turned down with 1.
+
+// One chunk, committed.
+#[no_mangle]
+pub extern "C" fn sirqobal_chunk_alloc(
+    records: &mut [Arena],
+    stamps: &mut [u32],
+    state: StateNumbers,
+    ns: u64,
+    settings: SettingsNumbers,
+    id: i32,
+) -> ReplyNumbers
+    ensures { λ r. ⌜ LeavesNumbers (stepNumbers (now (records .entry)) (now (stamps .entry)) state ns settings (claim id 1 true)) r (now (records .exit)) (now (stamps .exit)) ⌝ }
+{
+    let ok = surface::is_state(state);
+    let s = surface::state_of(state);
+    let c = surface::settings_of(ok, settings);
+    let r = chunk_alloc::chunk_alloc(records, stamps, s, ns, c, id);
+    surface::reply_of(ok, state, r)
+}
+
+// One chunk, as it is: the answer says whether it is committed.
+#[no_mangle]
+pub extern "C" fn sirqobal_chunk_claim(
+    records: &mut [Arena],
+    stamps: &mut [u32],
+    state: StateNumbers,
+    ns: u64,
+    settings: SettingsNumbers,
+    id: i32,
+) -> ReplyNumbers
+    ensures { λ r. ⌜ LeavesNumbers (stepNumbers (now (records .entry)) (now (stamps .entry)) state ns settings (claim id 1 false)) r (now (records .exit)) (now (stamps .exit)) ⌝ }
+{
+    let ok = surface::is_state(state);
+    let s = surface::state_of(state);
+    let c = surface::settings_of(ok, settings);
+    let r = chunk_alloc::chunk_claim(records, stamps, s, ns, c, id);
+    surface::reply_of(ok, state, r)
+}
+
+// A run of n chunks, committed.
+#[no_mangle]
+pub extern "C" fn sirqobal_chunk_alloc_n(
+    records: &mut [Arena],
+    stamps: &mut [u32],
+    state: StateNumbers,
+    ns: u64,
+    settings: SettingsNumbers,
+    id: i32,
+    n: usize,
+) -> ReplyNumbers
+    ensures { λ r. ⌜ LeavesNumbers (stepNumbers (now (records .entry)) (now (stamps .entry)) state ns settings (claim id n true)) r (now (records .exit)) (now (stamps .exit)) ⌝ }
+{
+    let ok = surface::is_state(state);
+    let s = surface::state_of(state);
+    let c = surface::settings_of(ok, settings);
+    let r = chunk_alloc::chunk_alloc_n(records, stamps, s, ns, c, id, n);
+    surface::reply_of(ok, state, r)
 }

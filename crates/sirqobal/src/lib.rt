@@ -4,8 +4,8 @@ ghost use Rattle.sizes.specs.Sizes.{isAlignedTo, pageAlignUp};
 ghost use Rattle.clock.specs.Clock.{nowMs, delayMs, armed, isDue};
 ghost use Rattle.slice_pool.specs.Pool.{allocRun, freeRange, freeNumber};
 ghost use mathlib.Core.Bool.{true, false};
-ghost use Rattle.layer.specs.Step.{claim};
-ghost use Rattle.surface.specs.Numbers.{stepNumbers, LeavesNumbers};
+ghost use Rattle.layer.specs.Step.{claim, release, sweep, owns, area};
+ghost use Rattle.surface.specs.Numbers.{toldOf, stepNumbers, LeavesNumbers};
 ghost use Rattle.sirqobal.specs.Exports.{sliceAnswer};
 use arena::Arena;
 use slice_pool::Allocated;
@@ -160,5 +160,87 @@ pub extern "C" fn sirqobal_chunk_alloc_n(
     let s = surface::state_of(state);
     let c = surface::settings_of(ok, settings);
     let r = chunk_alloc::chunk_alloc_n(records, stamps, s, ns, c, id, n);
+    surface::reply_of(ok, state, r)
+}
+
+// n chunks from an address on are given back, with what is told of their commitment; purged later, if pending.
+#[no_mangle]
+pub extern "C" fn sirqobal_chunk_release(
+    records: &mut [Arena],
+    stamps: &mut [u32],
+    state: StateNumbers,
+    ns: u64,
+    settings: SettingsNumbers,
+    address: u64,
+    n: usize,
+    told: i32,
+    pending: bool,
+) -> ReplyNumbers
+    ensures { λ r. ⌜ LeavesNumbers (stepNumbers (now (records .entry)) (now (stamps .entry)) state ns settings (release address n (toldOf told) pending)) r (now (records .exit)) (now (stamps .exit)) ⌝ }
+{
+    let ok = surface::is_state(state);
+    let s = surface::state_of(state);
+    let c = surface::settings_of(ok, settings);
+    let t = surface::told_of(told);
+    let r = chunk_release::chunk_release(records, stamps, s, ns, c, address, n, t, pending);
+    surface::reply_of(ok, state, r)
+}
+
+// A sweep of the arenas whose deadline has come; of all that are armed, if forced.
+#[no_mangle]
+pub extern "C" fn sirqobal_purge_due(
+    records: &mut [Arena],
+    stamps: &mut [u32],
+    state: StateNumbers,
+    ns: u64,
+    settings: SettingsNumbers,
+    force: bool,
+) -> ReplyNumbers
+    ensures { λ r. ⌜ LeavesNumbers (stepNumbers (now (records .entry)) (now (stamps .entry)) state ns settings (sweep force)) r (now (records .exit)) (now (stamps .exit)) ⌝ }
+{
+    let ok = surface::is_state(state);
+    let s = surface::state_of(state);
+    let c = surface::settings_of(ok, settings);
+    let r = purge_due::purge_due(records, stamps, s, ns, c, force);
+    surface::reply_of(ok, state, r)
+}
+
+// ---- the layer's queries, which change nothing
+
+// Whether an address lies in an arena.
+#[no_mangle]
+pub extern "C" fn sirqobal_owns(
+    records: &[Arena],
+    stamps: &[u32],
+    state: StateNumbers,
+    ns: u64,
+    settings: SettingsNumbers,
+    address: u64,
+) -> ReplyNumbers
+    ensures { λ r. ⌜ r ≡ stepNumbers (now (records .entry)) (now (stamps .entry)) state ns settings (owns address) .reply ⌝ }
+{
+    let ok = surface::is_state(state);
+    let s = surface::state_of(state);
+    let c = surface::settings_of(ok, settings);
+    let r = arena_area::owns(records, stamps, s, ns, c, address);
+    surface::reply_of(ok, state, r)
+}
+
+// The base and the bytes of an arena; 0 and 0 where there is none.
+#[no_mangle]
+pub extern "C" fn sirqobal_arena_area(
+    records: &[Arena],
+    stamps: &[u32],
+    state: StateNumbers,
+    ns: u64,
+    settings: SettingsNumbers,
+    id: i32,
+) -> ReplyNumbers
+    ensures { λ r. ⌜ r ≡ stepNumbers (now (records .entry)) (now (stamps .entry)) state ns settings (area id) .reply ⌝ }
+{
+    let ok = surface::is_state(state);
+    let s = surface::state_of(state);
+    let c = surface::settings_of(ok, settings);
+    let r = arena_area::arena_area(records, stamps, s, ns, c, id);
     surface::reply_of(ok, state, r)
 }

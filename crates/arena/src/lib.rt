@@ -4,7 +4,9 @@ ghost use mathlib.Core.Path.{_≡_};
 ghost use Prim.Native.Nat.{_+_, _≤_};
 ghost use Rattle.arena.specs.Registering.{eachBit, newArena, reservedArena, managedArena, adoptedArena, grownArena};
 
-// A registered range of chunks. Bit j % 32 of word j / 32 of each map is chunk j.
+// A registered range of chunks. Bit j % 32 of word j / 32 of each map is chunk j. It is lent across the C
+// surface, so its layout is C's.
+#[repr(C)]
 pub struct Arena {
     pub base: u64,
     pub chunks: usize,

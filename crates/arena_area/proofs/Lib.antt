@@ -1,3 +1,3 @@
-mod Two
+pub mod Two
 mod AreaLaws
 mod AreaSteps

@@ -1,0 +1,244 @@
+/* The layer through its C surface: the layout of what is lent, and one sequence of calls whose answers document 01
+ * gives. It prints each step, and exits with 0 only if every answer, and what it left in the records, is as it
+ * should be.
+ *
+ *     rt staticlib sirqobal
+ *     gcc -std=c11 -Wall -Wextra -Werror -Iinclude c/layer.c target/staticlib/libsirqobal.a -o layer && ./layer */
+#include "sirqobal.h"
+
+#include <stdio.h>
+#include <string.h>
+
+#define S ((uint64_t)SIRQOBAL_CHUNK)
+
+_Static_assert(sizeof(struct sirqobal_arena) == 544, "arena");
+_Static_assert(offsetof(struct sirqobal_arena, base) == 0, "base");
+_Static_assert(offsetof(struct sirqobal_arena, chunks) == 8, "chunks");
+_Static_assert(offsetof(struct sirqobal_arena, exclusive) == 16, "exclusive");
+_Static_assert(offsetof(struct sirqobal_arena, owned) == 17, "owned");
+_Static_assert(offsetof(struct sirqobal_arena, node) == 20, "node");
+_Static_assert(offsetof(struct sirqobal_arena, deadline) == 24, "deadline");
+_Static_assert(offsetof(struct sirqobal_arena, used) == 28, "used");
+_Static_assert(offsetof(struct sirqobal_arena, dirty) == 156, "dirty");
+_Static_assert(offsetof(struct sirqobal_arena, committed) == 284, "committed");
+_Static_assert(offsetof(struct sirqobal_arena, pending) == 412, "pending");
+_Static_assert(sizeof(struct sirqobal_state) == 104, "state");
+_Static_assert(sizeof(struct sirqobal_settings) == 32, "settings");
+_Static_assert(sizeof(struct sirqobal_reply) == 160, "reply");
+
+static struct sirqobal_arena records[SIRQOBAL_RECORDS];
+static uint32_t stamps[SIRQOBAL_STAMPS];
+static struct sirqobal_state state;
+static struct sirqobal_settings settings = {.delay = 10, .decommits = 1, .page = 4096};
+static uint64_t ns = 1000000000;
+static int failures;
+
+#define LENT records, SIRQOBAL_RECORDS, stamps, SIRQOBAL_STAMPS, state, ns, settings
+
+/* The reply has these numbers, and its state is the next call's. */
+static struct sirqobal_reply step(const char *what, struct sirqobal_reply r, uint32_t number, uint32_t kind,
+                                  uint64_t address, uint64_t bytes)
+{
+    int fine = r.number == number && r.kind == kind && r.address == address && r.bytes == bytes;
+    printf("%-52s %3u kind %u address %llu bytes %llu%s\n", what, r.number, r.kind, (unsigned long long)r.address,
+           (unsigned long long)r.bytes, fine ? "" : "   WRONG");
+    failures += !fine;
+    state = r.state;
+    return r;
+}
+
+static void check(const char *what, int fine)
+{
+    if (!fine) {
+        printf("%-52s WRONG\n", what);
+        failures++;
+    }
+}
+
+/* The same numbers; what lies between the fields is nothing. */
+static int same(const struct sirqobal_state *a, const struct sirqobal_state *b)
+{
+    return a->count == b->count && a->mark == b->mark && a->question == b->question && a->id == b->id &&
+           a->start == b->start && a->n == b->n && a->chunks == b->chunks && a->bytes == b->bytes &&
+           a->commit == b->commit && a->exclusive == b->exclusive && a->waiting == b->waiting &&
+           a->commits == b->commits && a->cause == b->cause && a->force == b->force && a->now == b->now &&
+           a->delay == b->delay && a->decommit == b->decommit && a->purged == b->purged;
+}
+
+static struct sirqobal_arena before[SIRQOBAL_RECORDS];
+static uint32_t stamped[SIRQOBAL_STAMPS];
+
+/* A refused call leaves the records, the stamps and the state as they were. */
+static void refused(const char *what, struct sirqobal_reply r, uint32_t number, struct sirqobal_state was)
+{
+    step(what, r, number, 0, 0, 0);
+    check("  the records are left", memcmp(records, before, sizeof records) == 0);
+    check("  the stamps are left", memcmp(stamps, stamped, sizeof stamps) == 0);
+    check("  the state is left", same(&state, &was));
+}
+
+static void registering(void)
+{
+    struct sirqobal_reply r;
+    step("owns, of the empty layer", sirqobal_owns(LENT, 4 * S), 0, 0, 0, 0);
+    step("area 0, of the empty layer", sirqobal_arena_area(LENT, 0), 0, 0, 0, 0);
+
+    r = step("adopt 4 chunks", sirqobal_adopt_os_block(LENT, 4 * S, 4 * S), 0, 0, 0, 0);
+    check("  it is arena 0", r.id == 0 && state.count == 1);
+    check("  its record", records[0].base == 4 * S && records[0].chunks == 4 && !records[0].exclusive &&
+                              records[0].owned && records[0].node == -1 && records[0].deadline == 0);
+    check("  its bits", records[0].used[0] == 0 && records[0].dirty[0] == 15 && records[0].committed[0] == 15 &&
+                            records[0].pending[0] == 0);
+
+    r = step("reserve 2 chunks", sirqobal_reserve_os_memory_ex(LENT, S + 1, false, true, true), 255, SIRQOBAL_MEMORY, 0,
+             2 * S);
+    check("  its flags",
+          r.align == S && !r.commit && r.large && state.question == 3 && state.chunks == 2 && state.exclusive == 1);
+    step("a claim while the question is open", sirqobal_chunk_alloc(LENT, 0), SIRQOBAL_QUESTION_OPEN, 0, 0, 0);
+    step("an answer for a commit", sirqobal_answer(LENT, SIRQOBAL_COMMIT, true, 0), SIRQOBAL_NO_SUCH_QUESTION, 0, 0, 0);
+    r = step("the memory comes", sirqobal_answer(LENT, SIRQOBAL_MEMORY, true, 64 * S), 0, 0, 0, 0);
+    check("  it is arena 1", r.id == 1 && state.count == 2 && state.question == 0);
+    check("  its record", records[1].base == 64 * S && records[1].chunks == 2 && records[1].exclusive &&
+                              records[1].owned && records[1].committed[0] == 0);
+
+    r = step("manage: the whole chunks inside",
+             sirqobal_manage_os_memory_ex(LENT, 128 * S + 1, 3 * S, false, false, false, 3, true, false, true), 0, 0, 0,
+             0);
+    check("  it is arena 2", r.id == 2 && state.count == 3);
+    check("  its record", records[2].base == 129 * S && records[2].chunks == 2 && records[2].exclusive &&
+                              !records[2].owned && records[2].node == 3);
+    step("manage: in the segment map already",
+         sirqobal_manage_os_memory_ex(LENT, 256 * S, S, false, false, false, 0, false, true, true),
+         SIRQOBAL_HOST_REFUSED, 0, 0, 0);
+    step("manage: not reserved",
+         sirqobal_manage_os_memory_ex(LENT, 256 * S, S, false, false, false, 0, false, false, false),
+         SIRQOBAL_HOST_REFUSED, 0, 0, 0);
+    step("manage: no whole chunk",
+         sirqobal_manage_os_memory_ex(LENT, 256 * S + 1, S, false, false, false, 0, false, false, true),
+         SIRQOBAL_NO_WHOLE_CHUNK, 0, 0, 0);
+    step("adopt: overlaps arena 0", sirqobal_adopt_os_block(LENT, 7 * S, S), SIRQOBAL_RANGE, 0, 0, 0);
+
+    step("reserve 1 chunk", sirqobal_reserve_os_memory_ex(LENT, S, true, false, false), 255, SIRQOBAL_MEMORY, 0, S);
+    step("the memory is not aligned: it is given back", sirqobal_answer(LENT, SIRQOBAL_MEMORY, true, 300 * S + 4096),
+         255, SIRQOBAL_GIVE_BACK, 300 * S + 4096, S);
+    step("given back: the reserve is refused", sirqobal_answer(LENT, SIRQOBAL_GIVE_BACK, false, 0), SIRQOBAL_NOT_WHOLE,
+         0, 0, 0);
+    step("reserve 1 chunk", sirqobal_reserve_os_memory_ex(LENT, S, true, false, false), 255, SIRQOBAL_MEMORY, 0, S);
+    step("there is no memory", sirqobal_answer(LENT, SIRQOBAL_MEMORY, false, 0), SIRQOBAL_MEMORY_REFUSED, 0, 0, 0);
+}
+
+static void claiming(void)
+{
+    struct sirqobal_reply r;
+    step("chunk_alloc in arena 1 asks for the commit", sirqobal_chunk_alloc(LENT, 1), 255, SIRQOBAL_COMMIT, 64 * S, S);
+    check("  the used bit is set", records[1].used[0] == 1 && records[1].dirty[0] == 0);
+    step("the commit fails", sirqobal_answer(LENT, SIRQOBAL_COMMIT, false, 0), SIRQOBAL_COMMIT_REFUSED, 0, 0, 0);
+    check("  the used bit is clear", records[1].used[0] == 0);
+    step("chunk_alloc in arena 1 asks again", sirqobal_chunk_alloc(LENT, 1), 255, SIRQOBAL_COMMIT, 64 * S, S);
+    r = step("the commit is done", sirqobal_answer(LENT, SIRQOBAL_COMMIT, true, 0), 0, 0, 64 * S, 0);
+    check("  fresh and committed", r.fresh && r.committed && records[1].dirty[0] == 1 && records[1].committed[0] == 1);
+    r = step("chunk_claim in arena 1", sirqobal_chunk_claim(LENT, 1), 0, 0, 65 * S, 0);
+    check("  fresh, not committed", r.fresh && !r.committed);
+    step("chunk_alloc in arena 1, which is full", sirqobal_chunk_alloc(LENT, 1), SIRQOBAL_NO_RUN, 0, 0, 0);
+    r = step("chunk_alloc_n, 3 in any arena", sirqobal_chunk_alloc_n(LENT, -1, 3), 0, 0, 4 * S, 0);
+    check("  not fresh, committed", !r.fresh && r.committed && records[0].used[0] == 7);
+    step("chunk_alloc_n, 2 in any arena", sirqobal_chunk_alloc_n(LENT, -1, 2), SIRQOBAL_NO_RUN, 0, 0, 0);
+    step("chunk_alloc_n, 0", sirqobal_chunk_alloc_n(LENT, -1, 0), SIRQOBAL_ZERO, 0, 0, 0);
+    settings.off = 1;
+    step("arenas off", sirqobal_chunk_claim(LENT, -1), SIRQOBAL_ARENAS_OFF, 0, 0, 0);
+    settings.off = 0;
+}
+
+static void releasing(void)
+{
+    uint32_t now = sirqobal_now_ms(ns);
+    step("release 3 chunks, pending", sirqobal_chunk_release(LENT, 4 * S, 3, -1, true), 0, 0, 0, 0);
+    check("  the record", records[0].used[0] == 0 && records[0].pending[0] == 7 && records[0].committed[0] == 15 &&
+                              records[0].deadline == now + 10);
+    check("  the stamps", stamps[0] == now && stamps[1] == now && stamps[2] == now && stamps[3] == 0);
+    step("release, told that it is not committed", sirqobal_chunk_release(LENT, 64 * S, 1, 0, false), 0, 0, 0, 0);
+    check("  the bits", records[1].used[0] == 2 && records[1].committed[0] == 0);
+    step("release, told that it is committed", sirqobal_chunk_release(LENT, 64 * S, 1, 1, false), 0, 0, 0, 0);
+    check("  the bits", records[1].used[0] == 2 && records[1].committed[0] == 1);
+    step("release of 0", sirqobal_chunk_release(LENT, 4 * S, 0, -1, false), SIRQOBAL_ZERO, 0, 0, 0);
+    step("release, not whole", sirqobal_chunk_release(LENT, 4 * S + 1, 1, -1, false), SIRQOBAL_NOT_WHOLE, 0, 0, 0);
+    step("release in no arena", sirqobal_chunk_release(LENT, 3 * S, 1, -1, false), SIRQOBAL_NOT_INSIDE, 0, 0, 0);
+    step("release past the end", sirqobal_chunk_release(LENT, 7 * S, 2, -1, false), SIRQOBAL_PAST_END, 0, 0, 0);
+}
+
+static void sweeping(void)
+{
+    struct sirqobal_reply r;
+    r = step("sweep before the deadline", sirqobal_purge_due(LENT, false), 0, 0, 0, 0);
+    check("  nothing is purged", r.count == 0);
+    ns += 20000000;
+    r = step("sweep after it", sirqobal_purge_due(LENT, false), 255, SIRQOBAL_PURGE, 4 * S, S);
+    check("  decommitting",
+          r.decommit && state.question == 2 && state.now == sirqobal_now_ms(ns) && state.decommit == 1);
+    r = step("owns, while the question is open", sirqobal_owns(LENT, 4 * S), 0, 0, 0, 0);
+    check("  it does", r.owns);
+    step("purged; the next chunk", sirqobal_answer(LENT, SIRQOBAL_PURGE, true, 0), 255, SIRQOBAL_PURGE, 5 * S, S);
+    step("not purged; the next chunk", sirqobal_answer(LENT, SIRQOBAL_PURGE, false, 0), 255, SIRQOBAL_PURGE, 6 * S, S);
+    r = step("purged; the sweep ends", sirqobal_answer(LENT, SIRQOBAL_PURGE, true, 0), 0, 0, 0, 0);
+    check("  two were purged", r.count == 2 && state.question == 0);
+    check("  the record", records[0].used[0] == 0 && records[0].pending[0] == 0 && records[0].committed[0] == 10 &&
+                              records[0].deadline == 0);
+}
+
+static void queries(void)
+{
+    struct sirqobal_reply r;
+    r = step("owns the first byte of arena 0", sirqobal_owns(LENT, 4 * S), 0, 0, 0, 0);
+    check("  yes", r.owns);
+    r = step("owns the byte before it", sirqobal_owns(LENT, 4 * S - 1), 0, 0, 0, 0);
+    check("  no", !r.owns);
+    step("area 0", sirqobal_arena_area(LENT, 0), 0, 0, 4 * S, 4 * S);
+    step("area 3, of no arena", sirqobal_arena_area(LENT, 3), 0, 0, 0, 0);
+    step("area -1", sirqobal_arena_area(LENT, -1), 0, 0, 0, 0);
+}
+
+/* What is no state, a slice of another length, a page size that is none: 1, and all is left. */
+static void broken(void)
+{
+    struct sirqobal_state sound = state;
+    memcpy(before, records, sizeof before);
+    memcpy(stamped, stamps, sizeof stamped);
+
+    state.question = 5;
+    refused("a question of no kind", sirqobal_chunk_alloc_n(LENT, -1, 1), SIRQOBAL_BROKEN, state);
+    refused("  the same, and an answer", sirqobal_answer(LENT, SIRQOBAL_COMMIT, true, 0), SIRQOBAL_BROKEN, state);
+    refused("  the same, and a sweep", sirqobal_purge_due(LENT, true), SIRQOBAL_BROKEN, state);
+    refused("  the same, and a query", sirqobal_owns(LENT, 4 * S), SIRQOBAL_BROKEN, state);
+    state = sound;
+    state.mark = 2;
+    refused("a flag that is neither 0 nor 1", sirqobal_chunk_claim(LENT, -1), SIRQOBAL_BROKEN, state);
+    state = sound;
+    state.question = SIRQOBAL_GIVE_BACK;
+    state.cause = 11;
+    refused("a cause that is none", sirqobal_answer(LENT, SIRQOBAL_GIVE_BACK, true, 0), SIRQOBAL_BROKEN, state);
+    state = sound;
+    state.cause = 12;
+    refused("a field that the state does not use", sirqobal_adopt_os_block(LENT, 8 * S, S), SIRQOBAL_BROKEN, state);
+    state = sound;
+    state.count = 33;
+    refused("33 arenas", sirqobal_chunk_release(LENT, 4 * S, 1, -1, false), SIRQOBAL_BROKEN, state);
+    state = sound;
+    refused("31 records", sirqobal_chunk_claim(records, 31, stamps, SIRQOBAL_STAMPS, state, ns, settings, -1),
+            SIRQOBAL_BROKEN, sound);
+    settings.page = 5000;
+    refused("a page size that is none", sirqobal_chunk_claim(LENT, -1), SIRQOBAL_BROKEN, sound);
+    settings.page = 4096;
+    step("and all goes on", sirqobal_chunk_claim(LENT, -1), 0, 0, 4 * S, 0);
+}
+
+int main(void)
+{
+    registering();
+    claiming();
+    releasing();
+    sweeping();
+    queries();
+    broken();
+    printf("%d wrong\n", failures);
+    return failures != 0;
+}

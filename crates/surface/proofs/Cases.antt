@@ -1,0 +1,32 @@
+-- Each case of a question, read from numbers. Assumes nothing.
+use mathlib.Core.Path.{_≡_, sym, ap, _∙_}
+use mathlib.Core.Bool.{Bool}
+use Prim.Native.Nat.{ℕ}
+use borrow.Author.Tests.{eq-eqb, ne-eqb}
+use lib.Dec.{eqb}
+use Rattle.words.proofs.Tests.{when, unless}
+use Rattle.layer.specs.declared.Sweep.{Sweep}
+use Rattle.layer.specs.declared.Waiting.{Waiting}
+use Rattle.layer.specs.declared.Unusable.{Unusable}
+use Rattle.layer.specs.declared.Question.the-variants.{Purging, Reserving, GivingBack}
+use Rattle.surface.specs.declared.StateNumbers.{StateNumbers}
+use Rattle.surface.specs.Numbers.{sweepOf, waitingOf, causeOf, questionOf}
+
+module _ (f : StateNumbers) where
+  abbrev is : ℕ → Bool
+  is k = eqb (f .question) k
+
+  pub purging : (w : Sweep) → w ≡ sweepOf f → (f .question ≡ 1 → ⊥) → f .question ≡ 2 → Purging (f .id) (f .start) w ≡ questionOf f
+  purging w e n1 y = ap (Purging (f .id) (f .start)) e ∙ sym (unless (is 1) _ _ (ne-eqb (f .question) 1 n1) ∙ when (is 2) _ _ (eq-eqb (f .question) 2 y))
+
+  pub reserving : (w : Waiting) → w ≡ waitingOf f → (f .question ≡ 1 → ⊥) → (f .question ≡ 2 → ⊥) → f .question ≡ 3
+      → Reserving (f .chunks) (f .bytes) (eqb (f .commit) 1) (eqb (f .exclusive) 1) w ≡ questionOf f
+  reserving w e n1 n2 y =
+      ap (Reserving (f .chunks) (f .bytes) (eqb (f .commit) 1) (eqb (f .exclusive) 1)) e
+      ∙ sym (unless (is 1) _ _ (ne-eqb (f .question) 1 n1) ∙ unless (is 2) _ _ (ne-eqb (f .question) 2 n2) ∙ when (is 3) _ _ (eq-eqb (f .question) 3 y))
+
+  pub giving-back : (cause : Unusable) (w : Waiting) → cause ≡ causeOf (f .cause) → w ≡ waitingOf f → (f .question ≡ 1 → ⊥) → (f .question ≡ 2 → ⊥)
+      → (f .question ≡ 3 → ⊥) → f .question ≡ 4 → GivingBack cause w ≡ questionOf f
+  giving-back cause w d e n1 n2 n3 y =
+      ap (λ (x : Unusable). GivingBack x w) d ∙ ap (GivingBack (causeOf (f .cause))) e
+      ∙ sym (unless (is 1) _ _ (ne-eqb (f .question) 1 n1) ∙ unless (is 2) _ _ (ne-eqb (f .question) 2 n2) ∙ unless (is 3) _ _ (ne-eqb (f .question) 3 n3) ∙ when (is 4) _ _ (eq-eqb (f .question) 4 y))

@@ -1,0 +1,3 @@
+mod Cases
+pub mod NumberLaws
+pub mod CallLaws

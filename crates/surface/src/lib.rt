@@ -1,0 +1,566 @@
+// The layer's state, settings and answers in numbers: what the C surface hands in and out, since an enum
+// cannot be exported. include/sirqobal.h declares the three structs.
+ghost use mathlib.Core.Path.{_≡_};
+ghost use mathlib.Core.Bool.{Bool, true, false, cond, not, _&&_};
+ghost use Rattle.layer.specs.declared.Question.the-variants.{Purging};
+ghost use Rattle.surface.specs.Numbers.{flag, isOn, sweepOf, waitingOf, causeOf, questionOf, stateOf, stateNumbers, waits, waitingChunks, waitingCommits, causeNumber, questionNumbers, numbersOf, sameNumbers, isState, pageOf, settingsOf, replyNumbers, askNumbers, answerNumbers, replyOf, toldOf, kindOf};
+use arena::Commitment;
+use layer::Answer;
+use layer::Ask;
+use layer::Kind;
+use layer::Question;
+use layer::Reply;
+use layer::Settings;
+use layer::State;
+use layer::Sweep;
+use layer::Unusable;
+use layer::Waiting;
+use refusals::Refusal;
+
+// The state. A flag is 0 or 1; a field that the open question does not use is 0.
+#[repr(C)]
+pub struct StateNumbers {
+    pub count: usize,
+    pub mark: u32,
+    // 0 none, 1 commit, 2 purge, 3 memory, 4 give back
+    pub question: u32,
+    pub id: usize,
+    pub start: usize,
+    pub n: usize,
+    pub chunks: u64,
+    pub bytes: u64,
+    pub commit: u32,
+    pub exclusive: u32,
+    // 0 a reserve waits, 1 a claim
+    pub waiting: u32,
+    pub commits: u32,
+    pub cause: u32,
+    pub force: u32,
+    pub now: u32,
+    pub delay: u32,
+    pub decommit: u32,
+    pub purged: usize,
+}
+
+// The settings. A flag is on unless it is 0.
+#[repr(C)]
+pub struct SettingsNumbers {
+    pub delay: i64,
+    pub decommits: u32,
+    pub off: u32,
+    pub reserve: u64,
+    pub page: u64,
+}
+
+// The answer, with the state that is left. What does not belong to the answer is 0.
+#[repr(C)]
+pub struct ReplyNumbers {
+    pub number: u32,
+    pub kind: u32,
+    pub address: u64,
+    pub bytes: u64,
+    pub align: u64,
+    pub id: usize,
+    pub count: usize,
+    pub fresh: bool,
+    pub committed: bool,
+    pub owns: bool,
+    pub decommit: bool,
+    pub commit: bool,
+    pub large: bool,
+    pub state: StateNumbers,
+}
+
+// ---- the state, read from numbers
+
+fn sweep_of(f: StateNumbers) -> Sweep
+    ensures { λ r. ⌜ r ≡ sweepOf f ⌝ }
+{
+    Sweep {
+        force: f.force == 1,
+        now: f.now,
+        delay: f.delay,
+        decommit: f.decommit == 1,
+        purged: f.purged,
+    }
+}
+
+fn waiting_of(f: StateNumbers) -> Waiting
+    ensures { λ r. ⌜ r ≡ waitingOf f ⌝ }
+{
+    let waiting = f.waiting;
+    if waiting == 1 {
+        let commits = f.commits == 1;
+        return Waiting::Claim { n: f.n, commits };
+    }
+    Waiting::Reserve
+}
+
+fn cause_of(cause: u32) -> Unusable
+    ensures { λ r. ⌜ r ≡ causeOf cause ⌝ }
+{
+    if cause == 12 {
+        return Unusable::Count;
+    }
+    if cause == 7 {
+        return Unusable::Misaligned;
+    }
+    Unusable::Full
+}
+
+fn question_of(f: StateNumbers) -> Question
+    ensures { λ r. ⌜ r ≡ questionOf f ⌝ }
+{
+    let kind = f.question;
+    if kind == 1 {
+        return Question::Committing {
+            id: f.id,
+            start: f.start,
+            n: f.n,
+        };
+    }
+    if kind == 2 {
+        let sweep = sweep_of(f);
+        return Question::Purging {
+            id: f.id,
+            chunk: f.start,
+            sweep,
+        };
+    }
+    if kind == 3 {
+        let commit = f.commit == 1;
+        let exclusive = f.exclusive == 1;
+        let waiting = waiting_of(f);
+        return Question::Reserving {
+            chunks: f.chunks,
+            bytes: f.bytes,
+            commit,
+            exclusive,
+            waiting,
+        };
+    }
+    if kind == 4 {
+        let cause = cause_of(f.cause);
+        let waiting = waiting_of(f);
+        return Question::GivingBack { cause, waiting };
+    }
+    Question::Idle
+}
+
+pub fn state_of(f: StateNumbers) -> State
+    ensures { λ r. ⌜ r ≡ stateOf f ⌝ }
+{
+    let mark = f.mark == 1;
+    let question = question_of(f);
+    State {
+        count: f.count,
+        mark,
+        question,
+    }
+}
+
+// ---- the state, written in numbers
+
+fn flag(b: bool) -> u32
+    ensures { λ r. ⌜ r ≡ flag b ⌝ }
+{
+    b as u32
+}
+
+fn waits(w: Waiting) -> u32
+    ensures { λ r. ⌜ r ≡ waits w ⌝ }
+{
+    match w {
+        Waiting::Reserve => 0,
+        Waiting::Claim { .. } => 1,
+    }
+}
+
+fn waiting_chunks(w: Waiting) -> usize
+    ensures { λ r. ⌜ r ≡ waitingChunks w ⌝ }
+{
+    match w {
+        Waiting::Reserve => 0,
+        Waiting::Claim { n, .. } => n,
+    }
+}
+
+fn waiting_commits(w: Waiting) -> u32
+    ensures { λ r. ⌜ r ≡ waitingCommits w ⌝ }
+{
+    match w {
+        Waiting::Reserve => 0,
+        Waiting::Claim { commits, .. } => flag(commits),
+    }
+}
+
+// 12, 7 or 13.
+fn cause_number(cause: Unusable) -> u32
+    ensures { λ r. ⌜ r ≡ causeNumber cause ⌝ }
+{
+    match cause {
+        Unusable::Count => 12,
+        Unusable::Misaligned => 7,
+        Unusable::Full => 13,
+    }
+}
+
+// No question, or one about chunks of an arena.
+fn place_numbers(
+    count: usize,
+    mark: u32,
+    question: u32,
+    id: usize,
+    start: usize,
+    n: usize,
+) -> StateNumbers
+    ensures { λ r. ⌜ r ≡ stateNumbers count mark question id start n 0 0 0 0 0 0 0 0 0 0 0 0 ⌝ }
+{
+    StateNumbers {
+        count,
+        mark,
+        question,
+        id,
+        start,
+        n,
+        chunks: 0,
+        bytes: 0,
+        commit: 0,
+        exclusive: 0,
+        waiting: 0,
+        commits: 0,
+        cause: 0,
+        force: 0,
+        now: 0,
+        delay: 0,
+        decommit: 0,
+        purged: 0,
+    }
+}
+
+// A question that a sweep put.
+fn sweep_numbers(count: usize, mark: u32, id: usize, chunk: usize, w: Sweep) -> StateNumbers
+    ensures { λ r. ⌜ r ≡ questionNumbers count mark (Purging id chunk w) ⌝ }
+{
+    StateNumbers {
+        count,
+        mark,
+        question: 2,
+        id,
+        start: chunk,
+        n: 0,
+        chunks: 0,
+        bytes: 0,
+        commit: 0,
+        exclusive: 0,
+        waiting: 0,
+        commits: 0,
+        cause: 0,
+        force: w.force as u32,
+        now: w.now,
+        delay: w.delay,
+        decommit: w.decommit as u32,
+        purged: w.purged,
+    }
+}
+
+// A question about memory, for which somebody waits.
+fn memory_numbers(
+    count: usize,
+    mark: u32,
+    question: u32,
+    chunks: u64,
+    bytes: u64,
+    commit: bool,
+    exclusive: bool,
+    waiting: Waiting,
+    cause: u32,
+) -> StateNumbers
+    ensures { λ r. ⌜ r ≡ stateNumbers count mark question 0 0 (waitingChunks waiting) chunks bytes (flag commit) (flag exclusive) (waits waiting) (waitingCommits waiting) cause 0 0 0 0 0 ⌝ }
+{
+    let n = waiting_chunks(waiting);
+    let w = waits(waiting);
+    let commits = waiting_commits(waiting);
+    StateNumbers {
+        count,
+        mark,
+        question,
+        id: 0,
+        start: 0,
+        n,
+        chunks,
+        bytes,
+        commit: commit as u32,
+        exclusive: exclusive as u32,
+        waiting: w,
+        commits,
+        cause,
+        force: 0,
+        now: 0,
+        delay: 0,
+        decommit: 0,
+        purged: 0,
+    }
+}
+
+fn question_numbers(count: usize, mark: u32, q: Question) -> StateNumbers
+    ensures { λ r. ⌜ r ≡ questionNumbers count mark q ⌝ }
+{
+    match q {
+        Question::Idle => place_numbers(count, mark, 0, 0, 0, 0),
+        Question::Committing { id, start, n } => place_numbers(count, mark, 1, id, start, n),
+        Question::Purging { id, chunk, sweep } => sweep_numbers(count, mark, id, chunk, sweep),
+        Question::Reserving {
+            chunks,
+            bytes,
+            commit,
+            exclusive,
+            waiting,
+        } => memory_numbers(count, mark, 3, chunks, bytes, commit, exclusive, waiting, 0),
+        Question::GivingBack { cause, waiting } => {
+            let why = cause_number(cause);
+            memory_numbers(count, mark, 4, 0, 0, false, false, waiting, why)
+        }
+    }
+}
+
+pub fn numbers_of(s: State) -> StateNumbers
+    ensures { λ r. ⌜ r ≡ numbersOf s ⌝ }
+{
+    let mark = s.mark as u32;
+    let q = s.question;
+    question_numbers(s.count, mark, q)
+}
+
+// ---- whether numbers are a state's
+
+fn same_numbers(f: StateNumbers, g: StateNumbers) -> bool
+    ensures { λ r. ⌜ r ≡ sameNumbers f g ⌝ }
+{
+    let asked = (f.count == g.count) & (f.mark == g.mark) & (f.question == g.question);
+    let place = (f.id == g.id) & (f.start == g.start) & (f.n == g.n);
+    let memory = (f.chunks == g.chunks) & (f.bytes == g.bytes) & (f.commit == g.commit);
+    let whose = (f.exclusive == g.exclusive) & (f.waiting == g.waiting) & (f.commits == g.commits);
+    let sweep = (f.cause == g.cause) & (f.force == g.force) & (f.now == g.now);
+    let rest = (f.delay == g.delay) & (f.decommit == g.decommit) & (f.purged == g.purged);
+    asked & place & memory & whose & sweep & rest
+}
+
+pub fn is_state(f: StateNumbers) -> bool
+    ensures { λ r. ⌜ r ≡ isState f ⌝ }
+{
+    let s = state_of(f);
+    let g = numbers_of(s);
+    same_numbers(g, f)
+}
+
+// ---- the settings
+
+fn page_of(ok: bool, page: u64) -> u64
+    ensures { λ r. ⌜ r ≡ pageOf ok page ⌝ }
+{
+    if ok {
+        return page;
+    }
+    0
+}
+
+// Where the state is none, the page is 0, which row 1 turns down.
+pub fn settings_of(ok: bool, s: SettingsNumbers) -> Settings
+    ensures { λ r. ⌜ r ≡ settingsOf ok s ⌝ }
+{
+    let page = page_of(ok, s.page);
+    Settings {
+        delay: s.delay,
+        decommits: s.decommits != 0,
+        off: s.off != 0,
+        reserve: s.reserve,
+        page,
+    }
+}
+
+// ---- the answer
+
+fn refused(number: u32, state: StateNumbers) -> ReplyNumbers
+    ensures { λ r. ⌜ r ≡ replyNumbers number 0 0 0 0 0 0 false false false false false false state ⌝ }
+{
+    ReplyNumbers {
+        number,
+        kind: 0,
+        address: 0,
+        bytes: 0,
+        align: 0,
+        id: 0,
+        count: 0,
+        fresh: false,
+        committed: false,
+        owns: false,
+        decommit: false,
+        commit: false,
+        large: false,
+        state,
+    }
+}
+
+fn asked(
+    kind: u32,
+    address: u64,
+    bytes: u64,
+    align: u64,
+    decommit: bool,
+    commit: bool,
+    large: bool,
+    state: StateNumbers,
+) -> ReplyNumbers
+    ensures { λ r. ⌜ r ≡ replyNumbers 255 kind address bytes align 0 0 false false false decommit commit large state ⌝ }
+{
+    ReplyNumbers {
+        number: 255,
+        kind,
+        address,
+        bytes,
+        align,
+        id: 0,
+        count: 0,
+        fresh: false,
+        committed: false,
+        owns: false,
+        decommit,
+        commit,
+        large,
+        state,
+    }
+}
+
+fn granted(
+    address: u64,
+    bytes: u64,
+    id: usize,
+    count: usize,
+    fresh: bool,
+    committed: bool,
+    owns: bool,
+    state: StateNumbers,
+) -> ReplyNumbers
+    ensures { λ r. ⌜ r ≡ replyNumbers 0 0 address bytes 0 id count fresh committed owns false false false state ⌝ }
+{
+    ReplyNumbers {
+        number: 0,
+        kind: 0,
+        address,
+        bytes,
+        align: 0,
+        id,
+        count,
+        fresh,
+        committed,
+        owns,
+        decommit: false,
+        commit: false,
+        large: false,
+        state,
+    }
+}
+
+fn ask_numbers(ask: Ask, state: StateNumbers) -> ReplyNumbers
+    ensures { λ r. ⌜ r ≡ askNumbers ask state ⌝ }
+{
+    match ask {
+        Ask::AskCommit { address, bytes } => asked(
+            1,
+            address,
+            bytes,
+            0,
+            false,
+            false,
+            false,
+            state,
+        ),
+        Ask::AskPurge {
+            address,
+            bytes,
+            decommit,
+        } => asked(2, address, bytes, 0, decommit, false, false, state),
+        Ask::AskMemory {
+            bytes,
+            align,
+            commit,
+            large,
+        } => asked(3, 0, bytes, align, false, commit, large, state),
+        Ask::AskGiveBack { address, bytes } => asked(
+            4,
+            address,
+            bytes,
+            0,
+            false,
+            false,
+            false,
+            state,
+        ),
+    }
+}
+
+fn answer_numbers(answer: Answer, state: StateNumbers) -> ReplyNumbers
+    ensures { λ r. ⌜ r ≡ answerNumbers answer state ⌝ }
+{
+    match answer {
+        Answer::Refused(why) => refused(refusals::refusal_number(why), state),
+        Answer::Asks(ask) => ask_numbers(ask, state),
+        Answer::Registered(id) => granted(0, 0, id, 0, false, false, false, state),
+        Answer::Claimed {
+            address,
+            fresh,
+            committed,
+        } => granted(address, 0, 0, 0, fresh, committed, false, state),
+        Answer::Released => granted(0, 0, 0, 0, false, false, false, state),
+        Answer::Swept(count) => granted(0, 0, 0, count, false, false, false, state),
+        Answer::Owns(owns) => granted(0, 0, 0, 0, false, false, owns, state),
+        Answer::Area { base, bytes } => granted(base, bytes, 0, 0, false, false, false, state),
+    }
+}
+
+// Where the state was none, the call is turned down with 1 and leaves the numbers as they came.
+pub fn reply_of(ok: bool, f: StateNumbers, r: Reply) -> ReplyNumbers
+    ensures { λ x. ⌜ x ≡ replyOf ok f r ⌝ }
+{
+    if !ok {
+        return answer_numbers(Answer::Refused(Refusal::Broken), f);
+    }
+    let s = r.state;
+    let g = numbers_of(s);
+    let a = r.answer;
+    answer_numbers(a, g)
+}
+
+// ---- what a call is told
+
+// Negative: nothing is said of the run's commitment; 0: it is not committed; positive: it is.
+pub fn told_of(told: i32) -> Commitment
+    ensures { λ r. ⌜ r ≡ toldOf told ⌝ }
+{
+    if told < 0 {
+        return Commitment::Untold;
+    }
+    if told > 0 {
+        return Commitment::Committed;
+    }
+    Commitment::Uncommitted
+}
+
+pub fn kind_of(kind: u32) -> Kind
+    ensures { λ r. ⌜ r ≡ kindOf kind ⌝ }
+{
+    if kind == 1 {
+        return Kind::ForCommit;
+    }
+    if kind == 2 {
+        return Kind::ForPurge;
+    }
+    if kind == 3 {
+        return Kind::ForMemory;
+    }
+    if kind == 4 {
+        return Kind::ForGiveBack;
+    }
+    Kind::ForNone
+}

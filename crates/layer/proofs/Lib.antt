@@ -12,3 +12,4 @@ pub mod Outcomes
 pub mod Demand
 pub mod Consequences
 pub mod Opened
+pub mod Possible

@@ -78,13 +78,13 @@ module _ (S : ℕ) (l : List Arena) (stamps : List ℕ) (k : ℕ) (mark : Bool) 
 -- ---- a sound call on the trail
 
 module _ (S : ℕ) (t : Trail) (m : Marked) (lent : IsLent S t m) where
-  abbrev stepped : Question → Call → Outcome
+  abbrev pub stepped : Question → Call → Outcome
   stepped q c = stepOn S (t .world .records) (t .world .stamps) (t .world .state .count) (t .world .state .mark) q (m .ns) (m .settings) c
 
-  passes-1 : isSound S m ≡ true → brokenAt S m ≡ false
+  pub passes-1 : isSound S m ≡ true → brokenAt S m ≡ false
   passes-1 e = refused-1 S (m .lent) (m .ns) (m .settings) (m .call) ∙ ap not e
 
-  does : isSound S m ≡ true → (q : Question) → t .world .state .question ≡ q → (c : Call) → m .call ≡ c → outcomeOf S m ≡ stepped q c
+  pub does : isSound S m ≡ true → (q : Question) → t .world .state .question ≡ q → (c : Call) → m .call ≡ c → outcomeOf S m ≡ stepped q c
   does e q f c g = stands S t m lent (passes-1 e) ∙ ap₂ stepped f g
 
   -- one that registers an exclusive arena at the end of the table opens its book

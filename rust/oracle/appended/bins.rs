@@ -1,0 +1,1 @@
+const _: () = (); // takes the doc comment above, whose own item was cut off

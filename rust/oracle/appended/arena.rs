@@ -76,8 +76,13 @@ pub fn record(id: usize) -> Record {
 }
 
 /// The stamps of the arena with this id, which must stand.
-pub fn stamps(id: usize) -> &'static [AtomicU32; 1024] {
-    &live(id).freed_ms
+pub fn stamps(id: usize) -> [u32; MAX_CHUNKS] {
+    // SAFETY: an `AtomicU32` has the layout of its number, and one thread alone uses the layer.
+    unsafe {
+        ptr::from_ref(&live(id).freed_ms)
+            .cast::<[u32; MAX_CHUNKS]>()
+            .read()
+    }
 }
 
 /// One arena more, with this content.

@@ -4,7 +4,6 @@
 use crate::arena;
 use crate::prim::{at, take_descriptors};
 use crate::script::{self, with_host};
-use std::sync::atomic::Ordering;
 
 pub use crate::arena::Record;
 pub use crate::script::{Deny, Host, Question, Script};
@@ -135,9 +134,8 @@ pub fn record(id: usize) -> Record {
 }
 
 /// The 1,024 stamps of an arena that stands.
-pub fn stamps(id: usize) -> impl Iterator<Item = u32> {
-    let stamps = arena::stamps(id).iter();
-    stamps.map(|stamp| stamp.load(Ordering::Relaxed))
+pub fn stamps(id: usize) -> [u32; 1_024] {
+    arena::stamps(id)
 }
 
 /// Puts the layer into this state, whose records are sound.

@@ -93,20 +93,17 @@ fn swept() {
     assert_eq!(adopt_os_block(BASE, 40 * CHUNK), Some(0));
     assert!(chunk_release(BASE + 30 * CHUNK, 3, None, true));
     assert_eq!((record(0).deadline, record(0).pending[0]), (15, 3 << 30));
-    assert_eq!(
-        stamps(0).skip(29).take(5).collect::<Vec<_>>(),
-        [0, 5, 5, 5, 0]
-    );
+    assert_eq!(stamps(0)[29..34], [0, 5, 5, 5, 0]);
     assert_eq!(purge_due(&mut Deny, false), 0);
     let mut host = Listed::new(&[Some(0), None, Some(0)]);
     assert_eq!(purge_due(&mut host, true), 2);
     assert_eq!(record(0).pending, [0; 32]);
 
     let copy = record(0);
-    let all: Vec<u32> = stamps(0).collect();
+    let all = stamps(0);
     load(true, &[copy], &all);
     assert!(mark() && count() == 1 && record(0) == copy);
-    assert!(stamps(0).eq(all));
+    assert_eq!(stamps(0), all);
 }
 
 #[test]

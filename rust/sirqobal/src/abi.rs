@@ -1,4 +1,7 @@
-//! What libsirqobal.a exports. Nothing checks these lines against the library but the comparison.
+//! What libsirqobal.a exports, as include/sirqobal.h declares it. Nothing checks these lines against
+//! the library but the comparison.
+
+use crate::lent::{Arena, Reply, Settings, State};
 
 #[repr(C)]
 pub struct SliceAnswer {
@@ -17,4 +20,39 @@ extern "C" {
     pub fn sirqobal_alloc_run(words: *mut u32, len: usize, slices: u64) -> SliceAnswer;
     /// 0: granted; else the refusal.
     pub fn sirqobal_free_range(words: *mut u32, len: usize, base: u64, size: u64) -> u32;
+}
+
+/// Declares calls of the layer, all of which begin with what is lent and carried.
+macro_rules! layer_calls {
+    ($($pointer:ident $name:ident($($number:ident: $type:ty),*);)*) => {
+        extern "C" {
+            $(pub fn $name(
+                records: *$pointer Arena,
+                record_count: usize,
+                stamps: *$pointer u32,
+                stamp_count: usize,
+                state: State,
+                ns: u64,
+                settings: Settings,
+                $($number: $type),*
+            ) -> Reply;)*
+        }
+    };
+}
+
+layer_calls! {
+    mut sirqobal_reserve_os_memory_ex(size: u64, commit: bool, allow_large: bool, exclusive: bool);
+    mut sirqobal_manage_os_memory_ex(
+        start: u64, size: u64, is_committed: bool, is_large: bool, is_zero: bool, node: i32,
+        exclusive: bool, mapped: bool, reserved: bool
+    );
+    mut sirqobal_adopt_os_block(address: u64, size: u64);
+    mut sirqobal_chunk_alloc(id: i32);
+    mut sirqobal_chunk_claim(id: i32);
+    mut sirqobal_chunk_alloc_n(id: i32, n: usize);
+    mut sirqobal_chunk_release(address: u64, n: usize, told: i32, pending: bool);
+    mut sirqobal_purge_due(force: bool);
+    mut sirqobal_answer(kind: u32, yes: bool, base: u64);
+    const sirqobal_owns(address: u64);
+    const sirqobal_arena_area(id: i32);
 }

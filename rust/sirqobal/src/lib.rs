@@ -1,6 +1,28 @@
-//! Safe functions over `libsirqobal.a`, the proved port of rusty_alloc's size arithmetic, deadline
-//! rules and slice pool. Every function takes all numbers; what it cannot serve it turns down with
-//! a [`Refusal`] that leaves the pool as it was.
+//! Safe functions over `libsirqobal.a`, the proved port of rusty_alloc's arena layer, slice pool,
+//! deadline rules and size arithmetic. Every function takes all numbers; what it cannot serve it
+//! turns down with a [`Refusal`].
+//!
+//! [`Layer`] owns a table of arenas. A call on it carries a [`Moment`] and ends with an [`Outcome`]:
+//! it is done, refused, or asks the host a [`Question`], with whose answer it goes on. A [`Host`]
+//! answers all of them; `linux::Linux` (feature `linux`) does so with the real OS.
+//!
+//! ```
+//! use sirqobal::{Answer, Ask, Layer, Moment, Outcome, CHUNK};
+//!
+//! let now = Moment::default();
+//! let mut layer = Layer::new();
+//! let asks = layer.reserve_os_memory(now, 4 * CHUNK, false, false, true);
+//! let Outcome::Asks(question) = asks else { panic!() };
+//! let id = question.answer(now, Answer::Memory(1 << 30)).unwrap().done()?;
+//!
+//! let Outcome::Asks(question) = layer.chunk_alloc_n(now, id, 2) else { panic!() };
+//! assert_eq!(question.ask(), Ask::Commit { address: 1 << 30, bytes: 2 * CHUNK });
+//! let run = question.answer(now, Answer::Yes).unwrap().done()?;
+//! assert!(run.fresh && run.address == 1 << 30);
+//! # Ok::<(), sirqobal::Refusal>(())
+//! ```
+//!
+//! [`SlicePool`] is the pool of 64 KiB slices:
 //!
 //! ```
 //! use sirqobal::{Refusal, SlicePool};
@@ -13,9 +35,16 @@
 //! ```
 
 mod abi;
+mod host;
+mod layer;
+pub mod lent;
+mod question;
 mod refusal;
 mod slice_pool;
 
+pub use host::Host;
+pub use layer::{Layer, Managed, Moment, Run, ANY, CHUNK};
+pub use question::{Answer, Ask, Kept, Open, Outcome, Question};
 pub use refusal::Refusal;
 pub use slice_pool::{alloc_run_in, free_range_in, SlicePool, SLICES, SLICE_SIZE, WORDS};
 

@@ -5,7 +5,7 @@
 use compare_common::functions::{boundaries, Function, FUNCTIONS};
 use compare_common::pool::{fragmented, patterns, state, Call, Caller, Words, EMPTY, FULL};
 use compare_common::rng::Rng;
-use compare_common::{args, SEED};
+use compare_common::{args, by_number, SEED};
 use sirqobal::{alloc_run_in, free_range_in, Refusal, SlicePool, SLICE_SIZE, WORDS};
 use std::process::ExitCode;
 
@@ -303,13 +303,6 @@ fn pool_sequences(tally: &mut Tally, rng: &mut Rng, sequences: u64, calls: u64) 
         by_number(&frees)
     );
     tally.family("slice pool", "sequences", &ends);
-}
-
-/// How often each number was answered.
-fn by_number(counts: &[u64; 17]) -> String {
-    let answered = (0..17).filter(|n| counts[*n] != 0);
-    let texts: Vec<String> = answered.map(|n| format!("{n}: {}", counts[n])).collect();
-    texts.join(", ")
 }
 
 #[cfg(test)]

@@ -1,0 +1,153 @@
+//! What document 01 says of a call, as far as the original does not: which refusal it is. Written
+//! from the document's table "Turned down" and its orders alone, and plainly: chunk by chunk.
+
+use super::{Moment, CHUNK};
+use sirqobal::lent::{Arena, Call};
+use sirqobal::Layer;
+
+/// The refusal that comes before any search and any question; None if there is none.
+pub fn at_once(layer: &Layer, moment: &Moment, call: &Call) -> Option<u32> {
+    let open = layer.state().question;
+    if !sound_page(moment.page) {
+        return Some(1);
+    }
+    match *call {
+        Call::Owns { .. } | Call::ArenaArea { .. } => None,
+        Call::Answer { kind, .. } if open == 0 || kind != open => Some(3),
+        Call::Answer { yes, base, .. } => {
+            let range = layer.state().chunks * CHUNK;
+            (open == 3 && yes && no_range(layer, base, range)).then_some(6)
+        }
+        _ if open != 0 => Some(2),
+        _ => of_its_own(layer, moment, call),
+    }
+}
+
+fn of_its_own(layer: &Layer, moment: &Moment, call: &Call) -> Option<u32> {
+    match *call {
+        Call::ReserveOsMemory { size, .. } => product_is_past(size).then_some(12),
+        Call::ManageOsMemory {
+            start,
+            size,
+            mapped,
+            reserved,
+            ..
+        } => manage(layer, start, size, mapped || !reserved),
+        Call::AdoptOsBlock { address, size } => adopt(layer, address, size),
+        Call::ChunkAllocN { n: 0, .. } => Some(4),
+        Call::ChunkAlloc { id } | Call::ChunkClaim { id } | Call::ChunkAllocN { id, .. } => {
+            (moment.off && id < 0).then_some(5)
+        }
+        Call::ChunkRelease { address, n, .. } => release(layer, address, n),
+        _ => None,
+    }
+}
+
+/// Reserve after yes: 12, 7, 13 (6 comes before, with the answer).
+pub fn cannot_register(layer: &Layer, size: u64, base: u64) -> Option<u32> {
+    let chunks = size.div_ceil(CHUNK);
+    first([
+        (chunks == 0 || chunks > 1_024, 12),
+        (base % CHUNK != 0, 7),
+        (layer.state().count == 32, 13),
+    ])
+}
+
+/// Manage: 15, 16, 6, 12, 13.
+fn manage(layer: &Layer, start: u64, size: u64, host_says_no: bool) -> Option<u32> {
+    let sums = start.checked_add(size).zip(start.checked_add(CHUNK - 1));
+    let Some((end, up)) = sums else {
+        return Some(15);
+    };
+    let (low, high) = (up / CHUNK * CHUNK, end / CHUNK * CHUNK);
+    if start == 0 || high <= low {
+        return Some(15);
+    }
+    first([
+        (host_says_no, 16),
+        (no_range(layer, low, high - low), 6),
+        (high - low > 1_024 * CHUNK, 12),
+        (layer.state().count == 32, 13),
+    ])
+}
+
+/// Adopt: 4, 7, 6, growth, 12, 13.
+fn adopt(layer: &Layer, address: u64, size: u64) -> Option<u32> {
+    let grows = |arena: &Arena| {
+        let fits = size / CHUNK + arena.chunks as u64 <= 1_024;
+        arena.owned && !arena.exclusive && end(arena) == u128::from(address) && fits
+    };
+    let early = first([
+        (size == 0, 4),
+        (address % CHUNK != 0 || size % CHUNK != 0, 7),
+        (no_range(layer, address, size), 6),
+    ]);
+    if early.is_some() || arenas(layer).iter().any(grows) {
+        return early;
+    }
+    first([(size > 1_024 * CHUNK, 12), (layer.state().count == 32, 13)])
+}
+
+/// Release: 4, 8, 7, 9.
+fn release(layer: &Layer, address: u64, n: usize) -> Option<u32> {
+    let inside = |arena: &&Arena| arena.base <= address && u128::from(address) < end(arena);
+    if n == 0 {
+        return Some(4);
+    }
+    let Some(arena) = arenas(layer).iter().find(inside) else {
+        return Some(8);
+    };
+    let run_end = u128::from(address) + n as u128 * u128::from(CHUNK);
+    first([(address % CHUNK != 0, 7), (run_end > end(arena), 9)])
+}
+
+/// Whether an arena that this id means has n neighbouring clear used bits.
+pub fn has_run(layer: &Layer, id: i32, n: usize) -> bool {
+    let eligible = |place: usize, arena: &Arena| match id {
+        0.. => place == id as usize,
+        _ => !arena.exclusive,
+    };
+    let fits = |arena: &Arena| {
+        let mut run = 0;
+        (0..arena.chunks).any(|chunk| {
+            let used = arena.used[chunk / 32] >> (chunk % 32) & 1 == 1;
+            run = if used { 0 } else { run + 1 };
+            run == n
+        })
+    };
+    let mut arenas = arenas(layer).iter().enumerate();
+    arenas.any(|(place, arena)| eligible(place, arena) && fits(arena))
+}
+
+/// Row 6: it starts at 0, ends past 2^64 - 1 or overlaps an arena.
+fn no_range(layer: &Layer, start: u64, size: u64) -> bool {
+    let stop = u128::from(start) + u128::from(size);
+    let overlaps = |arena: &Arena| {
+        size != 0 && u128::from(start) < end(arena) && u128::from(arena.base) < stop
+    };
+    start == 0 || stop > u128::from(u64::MAX) || arenas(layer).iter().any(overlaps)
+}
+
+/// Whole chunks of this size, or they and one chunk more, pass 2^64 - 1.
+pub fn product_is_past(size: u64) -> bool {
+    let product = u128::from(size.div_ceil(CHUNK)) * u128::from(CHUNK);
+    product + u128::from(CHUNK) > u128::from(u64::MAX)
+}
+
+fn sound_page(page: u64) -> bool {
+    [4_096, 8_192, 16_384, 32_768, 65_536].contains(&page)
+}
+
+pub fn arenas(layer: &Layer) -> &[Arena] {
+    &layer.records()[..layer.state().count]
+}
+
+fn end(arena: &Arena) -> u128 {
+    u128::from(arena.base) + arena.chunks as u128 * u128::from(CHUNK)
+}
+
+/// The number of the first that holds.
+fn first<const N: usize>(rows: [(bool, u32); N]) -> Option<u32> {
+    let row = rows.into_iter().find(|(holds, _)| *holds);
+    row.map(|(_, number)| number)
+}

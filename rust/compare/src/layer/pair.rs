@@ -1,0 +1,459 @@
+//! Makes a call on both sides and compares. Ours stops at each question; the original asks it in the
+//! middle of its call. There the two are compared, ours is answered and goes on, and then the
+//! original gets the same answer.
+
+use super::document;
+use super::{Given, Step};
+use oracle::layer as rust;
+use sirqobal::lent::{Call, Reply, State};
+use sirqobal::{Ask, Layer, Moment};
+
+/// Says what the host answers.
+pub trait Source {
+    fn give(&mut self, layer: &Layer, ask: Ask) -> Given;
+}
+
+/// Gives from a list, then no.
+impl Source for std::vec::IntoIter<Given> {
+    fn give(&mut self, _layer: &Layer, _ask: Ask) -> Given {
+        self.next().unwrap_or(Given::NO)
+    }
+}
+
+/// What happened at a call on which both sides agree.
+#[derive(Default)]
+pub struct Agreed {
+    pub reply: Reply,
+    /// The state before.
+    pub before: State,
+    /// The questions, and what was answered.
+    pub asked: Vec<(Ask, Option<u64>)>,
+    /// The numbers of the calls made while a question was open.
+    pub while_open: Vec<u32>,
+}
+
+/// Our layer and the original's, which is static, in the same state.
+pub struct Pair {
+    pub ours: Layer,
+    /// As it was lent first: what lies past the arenas that stand is never written.
+    start: Layer,
+}
+
+impl Pair {
+    /// Both in this state, whose table is sound and in which no question is open.
+    pub fn holding(layer: &Layer) -> Pair {
+        let records: Vec<rust::Record> = document::arenas(layer).iter().map(record).collect();
+        rust::load(layer.state().mark == 1, &records, layer.stamps());
+        Pair {
+            ours: layer.clone(),
+            start: layer.clone(),
+        }
+    }
+
+    /// Makes one call on both sides; an error says what differs.
+    pub fn call(
+        &mut self,
+        moment: Moment,
+        call: Call,
+        source: &mut dyn Source,
+    ) -> Result<Agreed, String> {
+        let refused = document::at_once(&self.ours, &moment, &call);
+        let before = self.ours.state();
+        let reply = self.ours.call(moment, call);
+        carry(&moment, &call);
+        let mut bridge = Bridge {
+            ours: &mut self.ours,
+            reply,
+            source,
+            agreed: Agreed::default(),
+            difference: None,
+        };
+        // With 1, 3 and 6 the original is not called: it knows no such refusal.
+        let rust = match refused {
+            Some(1 | 3 | 6) => REFUSED,
+            _ => bridge.rust(call),
+        };
+        if let Some(difference) = bridge.difference {
+            return Err(difference);
+        }
+        let Bridge { reply, agreed, .. } = bridge;
+        let said = match (refused, rust.number) {
+            (Some(number), 0) => return Err(format!("document {number}, the Rust grants it")),
+            (Some(number), _) => self::refused(number),
+            (None, u32::MAX) => return Err("the Rust refuses it, document 01 does not".into()),
+            (None, _) => rust,
+        };
+        let expected = Reply {
+            state: idle(said.number, before, reply.state),
+            ..said
+        };
+        if reply != expected {
+            return Err(format!("expected {expected:?}, ours {reply:?}"));
+        }
+        same_state(&self.ours)?;
+        if let (10, Some((id, n))) = (reply.number, claims(&call)) {
+            if document::has_run(&self.ours, id, n) {
+                return Err("both refused with 10, and there is such a run".into());
+            }
+        }
+        Ok(Agreed {
+            reply,
+            before,
+            ..agreed
+        })
+    }
+
+    /// Whether the records and stamps past the arenas that stand are as they were lent.
+    pub fn rest_is_untouched(&self) -> bool {
+        let count = self.ours.state().count;
+        self.ours.records()[count..] == self.start.records()[count..]
+            && self.ours.stamps()[1_024 * count..] == self.start.stamps()[1_024 * count..]
+    }
+
+    /// Makes the calls of a list; an error says which call differs, and how.
+    pub fn play(&mut self, steps: &[Step]) -> Result<(), (usize, String)> {
+        for (n, step) in steps.iter().enumerate() {
+            let mut source = step.given.clone().into_iter();
+            let agreed = self.call(step.moment, step.call, &mut source);
+            agreed.map_err(|difference| (n, difference))?;
+        }
+        Ok(())
+    }
+}
+
+/// The id and the length that a claim names.
+pub fn claims(call: &Call) -> Option<(i32, usize)> {
+    match *call {
+        Call::ChunkAlloc { id } | Call::ChunkClaim { id } => Some((id, 1)),
+        Call::ChunkAllocN { id, n } => Some((id, n)),
+        _ => None,
+    }
+}
+
+/// The state that a call leaves: count and mark are compared with the original's, the rest is 0. A
+/// refusal with 1 or 3 leaves all of it.
+fn idle(number: u32, before: State, after: State) -> State {
+    match number {
+        1 | 3 => before,
+        _ => State {
+            count: after.count,
+            mark: after.mark,
+            ..State::EMPTY
+        },
+    }
+}
+
+/// Gives the original the numbers of the call.
+fn carry(moment: &Moment, call: &Call) {
+    let (mapped, reserved) = match *call {
+        Call::ManageOsMemory {
+            mapped, reserved, ..
+        } => (mapped, reserved),
+        _ => (false, false),
+    };
+    let script = rust::Script {
+        ns: moment.ns,
+        delay: moment.delay,
+        decommits: moment.decommits,
+        off: moment.off,
+        reserve: moment.reserve as usize,
+        mapped,
+        reserved,
+    };
+    rust::carry(script, moment.page as usize);
+}
+
+/// Stands as the original's OS while ours waits for the same answer.
+struct Bridge<'a> {
+    ours: &'a mut Layer,
+    reply: Reply,
+    source: &'a mut dyn Source,
+    agreed: Agreed,
+    difference: Option<String>,
+}
+
+impl Bridge<'_> {
+    /// Makes the original's call. What it answers, as a reply; its refusals are numbered by the
+    /// document.
+    fn rust(&mut self, call: Call) -> Reply {
+        match call {
+            Call::ReserveOsMemory {
+                size,
+                commit,
+                allow_large,
+                exclusive,
+            } => {
+                let id = rust::reserve_os_memory_ex(self, size, commit, allow_large, exclusive);
+                id.map_or_else(|| self.reserve_refused(size), registered)
+            }
+            Call::ManageOsMemory {
+                start,
+                size,
+                flags,
+                node,
+                exclusive,
+                ..
+            } => {
+                let id = rust::manage_os_memory_ex(start, size, flags, node, exclusive);
+                id.map_or(REFUSED, registered)
+            }
+            Call::AdoptOsBlock { address, size } => {
+                rust::adopt_os_block(address, size).map_or(REFUSED, registered)
+            }
+            Call::ChunkAlloc { id } => self.claimed(|host| rust::chunk_alloc(host, id)),
+            Call::ChunkClaim { id } => self.claimed(|host| rust::chunk_claim(host, id)),
+            Call::ChunkAllocN { id, n } => self.claimed(|host| rust::chunk_alloc_n(host, id, n)),
+            Call::ChunkRelease {
+                address,
+                n,
+                told,
+                pending,
+            } => {
+                let told = (told >= 0).then_some(told > 0);
+                match rust::chunk_release(address, n, told, pending) {
+                    true => Reply::default(),
+                    false => REFUSED,
+                }
+            }
+            Call::PurgeDue { force } => Reply {
+                count: rust::purge_due(self, force),
+                ..Reply::default()
+            },
+            Call::Owns { .. } | Call::ArenaArea { .. } => looked(call),
+            Call::Answer { .. } => unreachable!("an answer to an idle layer is refused with 3"),
+        }
+    }
+
+    fn claimed(&mut self, claim: impl FnOnce(&mut Self) -> Option<rust::Run>) -> Reply {
+        match (claim(self), self.agreed.asked.last()) {
+            (Some(run), _) => Reply {
+                address: run.address,
+                fresh: run.fresh,
+                committed: run.committed.unwrap_or(true),
+                ..Reply::default()
+            },
+            (None, Some((Ask::Commit { .. }, None))) => refused(11),
+            (None, _) => refused(10),
+        }
+    }
+
+    fn reserve_refused(&self, size: u64) -> Reply {
+        match self.agreed.asked.last() {
+            Some((Ask::Memory { .. }, None)) => refused(14),
+            Some((Ask::GiveBack { address, .. }, _)) => {
+                document::cannot_register(self.ours, size, *address).map_or(REFUSED, refused)
+            }
+            _ => REFUSED,
+        }
+    }
+
+    /// Both sides ask the same in the same state; ours is answered and goes on.
+    fn exchange(&mut self, question: rust::Question) -> Result<Option<u64>, String> {
+        let ask = same_question(question);
+        if Ask::of(&self.reply) != Some(ask) {
+            return Err(format!("the Rust asks {ask:?}, ours {:?}", self.reply));
+        }
+        only_asks(&self.reply)?;
+        let state = self.ours.state();
+        waits(self.ours, &ask)?;
+        same_state(self.ours)?;
+        let given = self.source.give(self.ours, ask);
+        for (moment, call) in &given.before {
+            self.disturb(moment, *call, state)?;
+        }
+        if !given.before.is_empty() {
+            same_state(self.ours)?;
+        }
+        let answer = Call::Answer {
+            kind: ask.kind(),
+            yes: given.answer.is_some(),
+            base: given.answer.unwrap_or(0),
+        };
+        self.reply = self.ours.call(given.moment, answer);
+        self.agreed.asked.push((ask, given.answer));
+        Ok(given.answer)
+    }
+
+    /// A call on ours while a question is open: a query answers, all else is refused, and nothing
+    /// changes.
+    fn disturb(&mut self, moment: &Moment, call: Call, state: State) -> Result<(), String> {
+        let number = document::at_once(self.ours, moment, &call);
+        let reply = self.ours.call(*moment, call);
+        let looked = match number {
+            None => looked(call),
+            Some(number) => refused(number),
+        };
+        let expected = Reply { state, ..looked };
+        if reply != expected {
+            let during = "while a question is open";
+            return Err(format!(
+                "{during}, {call:?}: expected {expected:?}, ours {reply:?}"
+            ));
+        }
+        self.agreed.while_open.push(number.unwrap_or(0));
+        Ok(())
+    }
+}
+
+impl rust::Host for Bridge<'_> {
+    fn answer(&mut self, question: rust::Question) -> Option<u64> {
+        if self.difference.is_some() {
+            return None; // the two have parted
+        }
+        let answer = self.exchange(question);
+        answer.unwrap_or_else(|difference| {
+            self.difference = Some(difference);
+            None
+        })
+    }
+}
+
+/// The original refuses and says no more; which number it is stands in the document.
+const REFUSED: Reply = refused(u32::MAX);
+
+const fn refused(number: u32) -> Reply {
+    Reply {
+        number,
+        kind: 0,
+        address: 0,
+        bytes: 0,
+        align: 0,
+        id: 0,
+        count: 0,
+        fresh: false,
+        committed: false,
+        owns: false,
+        decommit: false,
+        commit: false,
+        large: false,
+        state: State::EMPTY,
+    }
+}
+
+fn registered(id: i32) -> Reply {
+    Reply {
+        id: id as usize,
+        ..Reply::default()
+    }
+}
+
+/// What the original answers to a query.
+fn looked(call: Call) -> Reply {
+    match call {
+        Call::Owns { address } => Reply {
+            owns: rust::owns(address),
+            ..Reply::default()
+        },
+        Call::ArenaArea { id } => {
+            let (address, bytes) = rust::arena_area(id);
+            Reply {
+                address,
+                bytes,
+                ..Reply::default()
+            }
+        }
+        other => unreachable!("{other:?} is no query"),
+    }
+}
+
+fn same_question(question: rust::Question) -> Ask {
+    match question {
+        rust::Question::Commit { address, bytes } => Ask::Commit { address, bytes },
+        rust::Question::Purge {
+            address,
+            bytes,
+            decommit,
+        } => Ask::Purge {
+            address,
+            bytes,
+            decommit,
+        },
+        rust::Question::Memory {
+            bytes,
+            align,
+            commit,
+            large,
+        } => Ask::Memory {
+            bytes,
+            align,
+            commit,
+            large,
+        },
+        rust::Question::GiveBack { address, bytes } => Ask::GiveBack { address, bytes },
+    }
+}
+
+/// A reply that asks says nothing else.
+fn only_asks(reply: &Reply) -> Result<(), String> {
+    let said = (
+        reply.id,
+        reply.count,
+        reply.fresh,
+        reply.committed,
+        reply.owns,
+    );
+    match said == (0, 0, false, false, false) {
+        true => Ok(()),
+        false => Err(format!("beside its question, ours says {reply:?}")),
+    }
+}
+
+/// The open question in our state is the one that was put.
+fn waits(layer: &Layer, ask: &Ask) -> Result<(), String> {
+    let state = layer.state();
+    let at = |start: usize| layer.records()[state.id].base + start as u64 * super::CHUNK;
+    let fits = match *ask {
+        Ask::Commit { address, bytes } => {
+            address == at(state.start) && bytes == state.n as u64 * super::CHUNK
+        }
+        Ask::Purge { address, .. } => address == at(state.start),
+        Ask::Memory { bytes, .. } => bytes == state.bytes,
+        Ask::GiveBack { .. } => [7, 12, 13].contains(&state.cause),
+    };
+    match fits && state.question == ask.kind() {
+        true => Ok(()),
+        false => Err(format!("ours asks {ask:?} and keeps {state:?}")),
+    }
+}
+
+fn record(arena: &sirqobal::lent::Arena) -> rust::Record {
+    rust::Record {
+        base: arena.base,
+        chunks: arena.chunks,
+        exclusive: arena.exclusive,
+        owned: arena.owned,
+        node: arena.node,
+        deadline: arena.deadline,
+        used: arena.used,
+        dirty: arena.dirty,
+        committed: arena.committed,
+        pending: arena.pending,
+    }
+}
+
+/// Count, mark, every field and word of every record, every stamp.
+fn same_state(layer: &Layer) -> Result<(), String> {
+    let state = layer.state();
+    let (count, mark) = (rust::count(), rust::mark());
+    if (count, u32::from(mark)) != (state.count, state.mark) {
+        let ours = (state.count, state.mark);
+        return Err(format!(
+            "count and mark: Rust {:?}, ours {ours:?}",
+            (count, mark)
+        ));
+    }
+    for (id, arena) in document::arenas(layer).iter().enumerate() {
+        let (rust, ours) = (rust::record(id), record(arena));
+        if rust != ours {
+            return Err(format!("arena {id}: Rust {rust:?}, ours {ours:?}"));
+        }
+        let (rust, ours) = (rust::stamps(id), &layer.stamps()[1_024 * id..][..1_024]);
+        if rust[..] != *ours {
+            let chunk = (0..1_024).find(|chunk| rust[*chunk] != ours[*chunk]);
+            return Err(format!(
+                "arena {id}: the stamps differ, first of chunk {chunk:?}"
+            ));
+        }
+    }
+    Ok(())
+}

@@ -1,0 +1,502 @@
+//! Refusals 1, 2, 3 and 6, which the original does not have, as a table of cases with the numbers of
+//! document 01. None of them may change a byte of what is lent.
+
+use super::{Moment, CHUNK, QUIET};
+use sirqobal::lent::{self, Arena, Call, Reply, State, RECORDS, STAMPS};
+
+/// A lent table.
+#[derive(Clone)]
+struct Table {
+    records: Vec<Arena>,
+    stamps: Vec<u32>,
+    state: State,
+}
+
+const BASE: u64 = 1_073_741_824;
+
+/// Document 01's example: arena 0, owned, not exclusive, 4 chunks, all free, uncommitted.
+fn example() -> Table {
+    let mut records = vec![Arena::EMPTY; RECORDS];
+    records[0] = Arena {
+        base: BASE,
+        chunks: 4,
+        owned: true,
+        node: -1,
+        ..Arena::EMPTY
+    };
+    let state = State {
+        count: 1,
+        ..State::EMPTY
+    };
+    Table {
+        records,
+        stamps: vec![0; STAMPS],
+        state,
+    }
+}
+
+impl Table {
+    fn call(&mut self, moment: Moment, call: Call) -> Reply {
+        let (records, stamps) = (&mut self.records, &mut self.stamps);
+        let settings = moment.settings();
+        lent::call(records, stamps, self.state, moment.ns, settings, call)
+    }
+
+    fn is(&self, other: &Table) -> bool {
+        self.records == other.records && self.stamps == other.stamps && self.state == other.state
+    }
+}
+
+/// Counts cases, and tells those that are answered otherwise than by the document.
+#[derive(Default)]
+pub struct Cases {
+    pub cases: u64,
+    pub wrong: Vec<String>,
+}
+
+/// Runs the whole table.
+pub fn run() -> Cases {
+    let mut cases = Cases::default();
+    cases.lengths();
+    cases.pages();
+    cases.broken();
+    cases.sound();
+    cases.open();
+    cases.kinds();
+    cases.ranges();
+    cases.bases();
+    cases
+}
+
+impl Cases {
+    /// A call that is to be refused with this number and leaves all bytes; or answered (0), or
+    /// that asks (255).
+    fn case(&mut self, what: &str, table: &Table, moment: Moment, call: Call, number: u32) {
+        self.cases += 1;
+        let mut after = table.clone();
+        let reply = after.call(moment, call);
+        after.state = reply.state;
+        let refusal = Reply {
+            number,
+            state: table.state,
+            ..Reply::default()
+        };
+        let right = match number {
+            0 | lent::QUESTION => reply.number == number,
+            _ => reply == refusal && after.is(table),
+        };
+        if !right {
+            self.wrong.push(format!(
+                "{what}: {call:?}: document {number}, ours {reply:?}"
+            ));
+        }
+    }
+
+    /// Row 1: slices of a wrong length.
+    fn lengths(&mut self) {
+        for records in [0, 1, 31, 33, 64] {
+            let mut table = example();
+            table.records.resize(records, Arena::EMPTY);
+            self.every_call("records", &table, QUIET, 1);
+        }
+        for stamps in [0, 1, 1_024, 32_767, 32_769, 65_536] {
+            let mut table = example();
+            table.stamps.resize(stamps, 0);
+            self.every_call("stamps", &table, QUIET, 1);
+        }
+    }
+
+    /// Row 1: the page size, also with a question open.
+    fn pages(&mut self) {
+        let bad = [
+            0, 1, 2_048, 4_095, 4_097, 6_144, 12_288, 65_535, 65_537, 131_072,
+        ];
+        for page in bad.into_iter().chain([1 << 32, 1 << 63, u64::MAX]) {
+            let moment = Moment { page, ..QUIET };
+            self.every_call("page", &example(), moment, 1);
+            for (_, table) in questions() {
+                self.every_call("page, question open", &table, moment, 1);
+            }
+        }
+        for page in super::PAGES {
+            let moment = Moment { page, ..QUIET };
+            self.case("page", &example(), moment, Call::Owns { address: 0 }, 0);
+        }
+    }
+
+    /// Row 1: broken tables.
+    fn broken(&mut self) {
+        for (what, damage) in DAMAGES {
+            let mut table = example();
+            damage(&mut table);
+            self.every_call(what, &table, QUIET, 1);
+        }
+    }
+
+    /// Not in row 1: what a sound table may hold.
+    fn sound(&mut self) {
+        for (what, change) in SOUND {
+            let mut table = example();
+            change(&mut table);
+            self.case(what, &table, QUIET, Call::Owns { address: 0 }, 0);
+        }
+    }
+
+    /// Row 2: every call but answers and queries while a question is open.
+    fn open(&mut self) {
+        for (kind, table) in questions() {
+            for call in calls() {
+                match call {
+                    Call::Answer { .. } => {}
+                    Call::Owns { .. } | Call::ArenaArea { .. } => {
+                        self.case("query, question open", &table, QUIET, call, 0);
+                    }
+                    _ => self.case(&format!("question {kind} open"), &table, QUIET, call, 2),
+                }
+            }
+        }
+    }
+
+    /// Row 3: no question, another kind, no kind at all.
+    fn kinds(&mut self) {
+        let kinds = [0, 1, 2, 3, 4, 5, 255, u32::MAX];
+        for (open, table) in questions().into_iter().chain([(0, example())]) {
+            for kind in kinds.into_iter().filter(|kind| open == 0 || *kind != open) {
+                for yes in [false, true] {
+                    let base = 8 * BASE;
+                    let answer = Call::Answer { kind, yes, base };
+                    self.case(&format!("question {open} open"), &table, QUIET, answer, 3);
+                }
+            }
+        }
+    }
+
+    /// Row 6: ranges of adopt and manage.
+    fn ranges(&mut self) {
+        let mut table = example();
+        table.records[1] = Arena {
+            base: BASE + 6 * CHUNK,
+            chunks: 2,
+            ..table.records[0]
+        };
+        table.state.count = 2;
+        let last = u64::MAX - CHUNK + 1;
+        let adopts = [
+            (0, CHUNK, 6),
+            (BASE, CHUNK, 6),
+            (BASE + CHUNK, CHUNK, 6),
+            (BASE + 3 * CHUNK, 2 * CHUNK, 6),
+            (BASE - CHUNK, 2 * CHUNK, 6),
+            (BASE - CHUNK, 30 * CHUNK, 6),
+            // It would grow arena 0, but runs into arena 1.
+            (BASE + 4 * CHUNK, 3 * CHUNK, 6),
+            // It ends at 2^64, and past it.
+            (last, CHUNK, 6),
+            (last, 2 * CHUNK, 6),
+            (last - CHUNK, 1_026 * CHUNK, 6),
+            // 6 comes before 12, and 4 and 7 before 6.
+            (BASE, 1_025 * CHUNK, 6),
+            (0, 0, 4),
+            (BASE, CHUNK + 1, 7),
+            (BASE + 1, CHUNK, 7),
+            (BASE + 4 * CHUNK, 1_025 * CHUNK, 6),
+            (BASE + 8 * CHUNK, 1_025 * CHUNK, 12),
+        ];
+        for (address, size, number) in adopts {
+            let call = Call::AdoptOsBlock { address, size };
+            self.case("adopt", &table, QUIET, call, number);
+        }
+        let manages = [
+            (BASE, CHUNK, true, 6),
+            (BASE + 1, 2 * CHUNK, true, 6),
+            (BASE - 5, 6 + CHUNK, true, 6),
+            (BASE + 3 * CHUNK, 5 * CHUNK, true, 6),
+            // 15 and 16 come before it, and it before 12.
+            (BASE + 1, CHUNK, true, 15),
+            (BASE, CHUNK, false, 16),
+            (BASE, 1_025 * CHUNK, true, 6),
+        ];
+        for (start, size, reserved, number) in manages {
+            let call = manage(start, size, reserved);
+            self.case("manage", &table, QUIET, call, number);
+        }
+    }
+
+    /// Row 6: bases of memory. The question stays open, whoever waits.
+    fn bases(&mut self) {
+        let last = u64::MAX - CHUNK + 1;
+        let mut tables: Vec<Table> = questions()
+            .into_iter()
+            .filter_map(|(kind, table)| (kind == 3).then_some(table))
+            .collect();
+        let claim = State {
+            waiting: 1,
+            n: 2,
+            commits: 1,
+            ..tables[0].state
+        };
+        let mut waits = tables[0].clone();
+        waits.state = claim;
+        tables.push(waits);
+        let answer = |base| Call::Answer {
+            kind: 3,
+            yes: true,
+            base,
+        };
+        for table in &tables {
+            for base in [
+                0,
+                BASE,
+                BASE + 3 * CHUNK,
+                BASE - CHUNK,
+                BASE + 5,
+                last,
+                u64::MAX,
+            ] {
+                self.case("memory", table, QUIET, answer(base), 6);
+            }
+        }
+        // The range of a reserve of 0 bytes is empty: only its start can be wrong.
+        let mut empty = tables[0].clone();
+        (empty.state.chunks, empty.state.bytes) = (0, 4_096);
+        self.case("memory of 0 bytes", &empty, QUIET, answer(0), 6);
+        for base in [BASE + CHUNK, 5, u64::MAX] {
+            self.case(
+                "memory of 0 bytes",
+                &empty,
+                QUIET,
+                answer(base),
+                lent::QUESTION,
+            );
+        }
+    }
+
+    fn every_call(&mut self, what: &str, table: &Table, moment: Moment, number: u32) {
+        for call in calls() {
+            self.case(what, table, moment, call, number);
+        }
+    }
+}
+
+fn manage(start: u64, size: u64, reserved: bool) -> Call {
+    Call::ManageOsMemory {
+        start,
+        size,
+        flags: [true, false, false],
+        node: -1,
+        exclusive: true,
+        mapped: false,
+        reserved,
+    }
+}
+
+/// A call of each kind that a sound idle table grants or asks about, and answers of each kind.
+fn calls() -> Vec<Call> {
+    let answer = |kind, yes| Call::Answer {
+        kind,
+        yes,
+        base: 8 * BASE,
+    };
+    let mut calls = vec![
+        Call::ReserveOsMemory {
+            size: CHUNK,
+            commit: true,
+            allow_large: false,
+            exclusive: true,
+        },
+        manage(4 * BASE, CHUNK, true),
+        Call::AdoptOsBlock {
+            address: 4 * BASE,
+            size: CHUNK,
+        },
+        Call::ChunkAlloc { id: 0 },
+        Call::ChunkClaim { id: -1 },
+        Call::ChunkAllocN { id: 0, n: 2 },
+        Call::ChunkAllocN { id: 0, n: 0 },
+        Call::ChunkRelease {
+            address: BASE,
+            n: 1,
+            told: 1,
+            pending: true,
+        },
+        Call::PurgeDue { force: true },
+        Call::Owns { address: BASE },
+        Call::ArenaArea { id: 0 },
+    ];
+    calls.extend((0..5).flat_map(|kind| [answer(kind, true), answer(kind, false)]));
+    calls
+}
+
+/// The example with each question open.
+fn questions() -> Vec<(u32, Table)> {
+    let with = |change: fn(&mut State)| {
+        let mut table = example();
+        table.records[0].used[0] = 0b1111;
+        change(&mut table.state);
+        (table.state.question, table)
+    };
+    vec![
+        with(commit),
+        with(purge),
+        with(memory),
+        with(|state| (state.question, state.cause) = (4, 13)),
+    ]
+}
+
+fn commit(state: &mut State) {
+    (state.question, state.start, state.n) = (1, 1, 3);
+}
+
+fn purge(state: &mut State) {
+    (state.question, state.start, state.purged) = (2, 3, 3);
+}
+
+fn memory(state: &mut State) {
+    (state.question, state.chunks, state.bytes) = (3, 2, 2 * CHUNK);
+}
+
+type Change = (&'static str, fn(&mut Table));
+
+/// Each of these breaks the example.
+const DAMAGES: &[Change] = &[
+    ("33 arenas", |t| t.state.count = 33),
+    ("2^64 - 1 arenas", |t| t.state.count = usize::MAX),
+    ("an empty record stands", |t| t.state.count = 2),
+    ("start 0", |t| t.records[0].base = 0),
+    ("misaligned", |t| t.records[0].base += 1),
+    ("misaligned by half", |t| t.records[0].base += CHUNK / 2),
+    ("ends at 2^64", |t| {
+        t.records[0].base = u64::MAX - 4 * CHUNK + 1
+    }),
+    ("ends past 2^64", |t| {
+        t.records[0].base = u64::MAX - CHUNK + 1
+    }),
+    ("0 chunks", |t| t.records[0].chunks = 0),
+    ("1,025 chunks", |t| t.records[0].chunks = 1_025),
+    ("2^64 - 1 chunks", |t| t.records[0].chunks = usize::MAX),
+    ("the same range twice", |t| {
+        t.records[1] = t.records[0];
+        t.state.count = 2;
+    }),
+    ("ranges overlap", |t| {
+        t.records[31] = t.records[0];
+        t.records[31].base += 3 * CHUNK;
+        for id in 1..31 {
+            t.records[id] = t.records[0];
+            t.records[id].base += 100 * id as u64 * CHUNK;
+        }
+        t.state.count = 32;
+    }),
+    ("used bit past the end", |t| t.records[0].used[0] |= 1 << 4),
+    ("dirty bit past the end", |t| {
+        t.records[0].dirty[0] |= 1 << 31
+    }),
+    ("committed bit past the end", |t| {
+        t.records[0].committed[1] |= 1
+    }),
+    ("pending bit past the end", |t| {
+        t.records[0].pending[31] |= 1 << 31
+    }),
+    ("commit question, no such arena", |t| {
+        t.records[0].used[0] = 15;
+        commit(&mut t.state);
+        t.state.id = 1;
+    }),
+    ("commit question, past the end", |t| {
+        t.records[0].used[0] = 15;
+        commit(&mut t.state);
+        t.state.start = 2;
+    }),
+    ("commit question, sum past 2^64 - 1", |t| {
+        t.records[0].used[0] = 15;
+        commit(&mut t.state);
+        t.state.n = usize::MAX;
+    }),
+    ("commit question, used bit clear", |t| {
+        t.records[0].used[0] = 0b1011;
+        commit(&mut t.state);
+    }),
+    ("purge question, no such arena", |t| {
+        t.records[0].used[0] = 15;
+        purge(&mut t.state);
+        t.state.id = 32;
+    }),
+    ("purge question, past the end", |t| {
+        t.records[0].used[0] = 15;
+        purge(&mut t.state);
+        t.state.start = 4;
+    }),
+    ("purge question, used bit clear", |t| {
+        t.records[0].used[0] = 0b0111;
+        purge(&mut t.state);
+    }),
+    ("purge question, counted too much", |t| {
+        t.records[0].used[0] = 15;
+        purge(&mut t.state);
+        t.state.purged = 4;
+    }),
+    ("no such question", |t| t.state.question = 5),
+    ("no such mark", |t| t.state.mark = 2),
+    ("idle, with a run", |t| t.state.n = 1),
+    ("idle, with a claim that waits", |t| t.state.waiting = 1),
+    ("memory, no such flag", |t| {
+        memory(&mut t.state);
+        t.state.commit = 2;
+    }),
+    ("memory, no such waiting call", |t| {
+        memory(&mut t.state);
+        t.state.waiting = 2;
+    }),
+    ("give back, no such cause", |t| {
+        (t.state.question, t.state.cause) = (4, 6);
+    }),
+    ("purge, no such flag", |t| {
+        t.records[0].used[0] = 15;
+        purge(&mut t.state);
+        t.state.force = 2;
+    }),
+];
+
+/// None of these does.
+const SOUND: &[Change] = &[
+    ("as it is", |_| {}),
+    ("no arena", |t| t.state.count = 0),
+    ("anything past the arenas", |t| {
+        t.records[1..].fill(Arena {
+            base: 7,
+            chunks: 9_999,
+            used: [u32::MAX; 32],
+            ..Arena::EMPTY
+        });
+        t.stamps.fill(77);
+    }),
+    ("all bits", |t| {
+        let record = &mut t.records[0];
+        (record.used[0], record.dirty[0]) = (15, 15);
+        (record.committed[0], record.pending[0]) = (15, 15);
+    }),
+    ("1,024 chunks", |t| t.records[0].chunks = 1_024),
+    ("ends at 2^64 - S", |t| {
+        t.records[0].base = u64::MAX - 5 * CHUNK + 1
+    }),
+    ("neighbours", |t| {
+        t.records[1] = t.records[0];
+        t.records[1].base += 4 * CHUNK;
+        t.state.count = 2;
+    }),
+    ("given up", |t| t.state.mark = 1),
+    ("pending without a deadline", |t| {
+        t.records[0].pending[0] = 15
+    }),
+    ("a deadline without pending", |t| t.records[0].deadline = 9),
+    ("exclusive and not owned", |t| {
+        (t.records[0].exclusive, t.records[0].owned) = (true, false);
+    }),
+    ("empty commit question at the end", |t| {
+        (t.state.question, t.state.start) = (1, 4);
+    }),
+    ("purge question, all before it counted", |t| {
+        t.records[0].used[0] = 15;
+        purge(&mut t.state);
+    }),
+];

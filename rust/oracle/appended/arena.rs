@@ -75,14 +75,11 @@ pub fn record(id: usize) -> Record {
     }
 }
 
-/// The stamps of the arena with this id, which must stand.
-pub fn stamps(id: usize) -> [u32; MAX_CHUNKS] {
-    // SAFETY: an `AtomicU32` has the layout of its number, and one thread alone uses the layer.
-    unsafe {
-        ptr::from_ref(&live(id).freed_ms)
-            .cast::<[u32; MAX_CHUNKS]>()
-            .read()
-    }
+/// Lets `look` at the stamps of the arena with this id, which must stand; it must not call the layer.
+pub fn with_stamps<T>(id: usize, look: impl FnOnce(&[u32; MAX_CHUNKS]) -> T) -> T {
+    let stamps = ptr::from_ref(&live(id).freed_ms).cast();
+    // SAFETY: an `AtomicU32` has the layout of its number, and nothing writes it meanwhile.
+    look(unsafe { &*stamps })
 }
 
 /// One arena more, with this content.

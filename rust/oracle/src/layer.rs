@@ -135,7 +135,12 @@ pub fn record(id: usize) -> Record {
 
 /// The 1,024 stamps of an arena that stands.
 pub fn stamps(id: usize) -> [u32; 1_024] {
-    arena::stamps(id)
+    arena::with_stamps(id, |stamps| *stamps)
+}
+
+/// Whether these are the stamps of an arena that stands.
+pub fn stamps_are(id: usize, these: &[u32]) -> bool {
+    arena::with_stamps(id, |stamps| stamps == these)
 }
 
 /// Puts the layer into this state, whose records are sound.

@@ -38,6 +38,8 @@ mod abi;
 mod host;
 mod layer;
 pub mod lent;
+#[cfg(all(feature = "linux", target_os = "linux"))]
+pub mod linux;
 mod question;
 mod refusal;
 mod slice_pool;

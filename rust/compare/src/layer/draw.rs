@@ -47,7 +47,7 @@ const THEMES: [Theme; 6] = [
         weights: [2, 2, 3, 75, 8, 3, 1, 2],
         block: 6,
         reserves: &[CHUNK, 2 * CHUNK, 5 * CHUNK, 33 * CHUNK],
-        no: 3,
+        no: 10,
     },
     // Default reserves that fail.
     Theme {
@@ -118,8 +118,10 @@ impl Player {
             before.extend((0..calls).map(|_| self.disturbing(rng, layer, ask)));
         }
         let answer = match ask {
-            _ if rng.percent(self.theme.no) => None,
+            // A no to memory ends default reserves for good: it comes less often.
+            Ask::Memory { .. } if rng.percent(self.theme.no / 3) => None,
             Ask::Memory { bytes, .. } => Some(self.base(rng, layer, bytes)),
+            _ if rng.percent(self.theme.no) => None,
             _ => Some(rng.bits()),
         };
         let moment = self.any_moment(rng);

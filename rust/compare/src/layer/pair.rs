@@ -447,8 +447,9 @@ fn same_state(layer: &Layer) -> Result<(), String> {
         if rust != ours {
             return Err(format!("arena {id}: Rust {rust:?}, ours {ours:?}"));
         }
-        let (rust, ours) = (rust::stamps(id), &layer.stamps()[1_024 * id..][..1_024]);
-        if rust[..] != *ours {
+        let ours = &layer.stamps()[1_024 * id..][..1_024];
+        if !rust::stamps_are(id, ours) {
+            let rust = rust::stamps(id);
             let chunk = (0..1_024).find(|chunk| rust[*chunk] != ours[*chunk]);
             return Err(format!(
                 "arena {id}: the stamps differ, first of chunk {chunk:?}"

@@ -1,0 +1,116 @@
+//! Two programs on one layer over real memory: one in an exclusive arena, one in shared ones. Each
+//! writes its mark into every page that it is granted; through all claims, releases and sweeps no
+//! mark is overwritten.
+#![cfg(all(feature = "linux", target_os = "linux"))]
+
+use sirqobal::linux::{page_size, Chunks, Memory};
+use sirqobal::{Refusal, ANY, CHUNK};
+
+struct Program {
+    name: u64,
+    arena: i32,
+    held: Vec<(u64, Chunks)>,
+    claims: u64,
+}
+
+/// The offsets at which a mark stands: each page's first bytes, and the last bytes of all.
+fn places(chunks: &Chunks) -> impl Iterator<Item = usize> {
+    let last = chunks.len() - 8;
+    (0..chunks.len())
+        .step_by(page_size() as usize)
+        .chain([last])
+}
+
+fn mark(program: u64, claim: u64, place: usize) -> [u8; 8] {
+    (program << 56 | claim << 36 | place as u64).to_le_bytes()
+}
+
+impl Program {
+    fn new(name: u64, arena: i32) -> Program {
+        Program {
+            name,
+            arena,
+            held: Vec::new(),
+            claims: 0,
+        }
+    }
+
+    fn claim(&mut self, memory: &mut Memory, n: usize) -> bool {
+        let mut chunks = match memory.claim(self.arena, n) {
+            Ok(chunks) => chunks,
+            Err(refusal) => {
+                assert_eq!(refusal, Refusal::NoRun);
+                return false;
+            }
+        };
+        if chunks.is_fresh() {
+            assert!(places(&chunks).all(|place| chunks[place..][..8] == [0; 8]));
+        }
+        self.claims += 1;
+        for place in places(&chunks) {
+            chunks[place..][..8].copy_from_slice(&mark(self.name, self.claims, place));
+        }
+        self.held.push((self.claims, chunks));
+        true
+    }
+
+    fn release(&mut self, memory: &mut Memory, which: usize) {
+        if !self.held.is_empty() {
+            let (_, chunks) = self.held.swap_remove(which % self.held.len());
+            memory.release(chunks).unwrap();
+        }
+    }
+
+    fn check(&self) {
+        for (claim, chunks) in &self.held {
+            let own = |place: usize| chunks[place..][..8] == mark(self.name, *claim, place);
+            assert!(
+                places(chunks).all(own),
+                "program {}, claim {claim}",
+                self.name
+            );
+        }
+    }
+
+    fn chunks(&self) -> usize {
+        self.held
+            .iter()
+            .map(|(_, chunks)| chunks.len() / CHUNK as usize)
+            .sum()
+    }
+}
+
+#[test]
+fn nobody_overwrites_the_other() {
+    let mut memory = Memory::new();
+    memory.settings().delay = 1;
+    memory.settings().reserve = 3 * CHUNK;
+    let arena = memory.reserve(4 * CHUNK, true).unwrap();
+    let mut guidance = Program::new(1, arena);
+    let mut recorder = Program::new(2, ANY);
+    let mut random = 20_261_115u64;
+    let (mut purged, mut granted) = (0, 0);
+    for round in 0..120 {
+        random = random
+            .wrapping_mul(6_364_136_223_846_793_005)
+            .wrapping_add(round);
+        let [choice, n, which] = [58, 50, 40].map(|shift| (random >> shift) as usize % 16);
+        memory.settings().decommits = round % 3 != 0;
+        match choice {
+            0..=4 => granted += usize::from(guidance.claim(&mut memory, 1 + n % 3)),
+            // The shared arenas grow without end; this program holds itself back.
+            5..=9 if recorder.chunks() < 6 => {
+                granted += usize::from(recorder.claim(&mut memory, 1 + n % 3));
+            }
+            10..=11 => guidance.release(&mut memory, which),
+            12..=13 => recorder.release(&mut memory, which),
+            _ => purged += memory.sweep(choice == 15).unwrap(),
+        }
+        guidance.check();
+        recorder.check();
+    }
+    assert!(
+        granted > 30 && purged > 10,
+        "{granted} granted, {purged} purged"
+    );
+}

@@ -4,13 +4,12 @@
 //! compared with document 01 by a table of cases first.
 
 use compare_common::layer::counts::Counts;
-use compare_common::layer::draw::Player;
-use compare_common::layer::pair::{Pair, Source};
+use compare_common::layer::draw::{Drawn, Player};
+use compare_common::layer::pair::Pair;
 use compare_common::layer::smallest::smallest;
-use compare_common::layer::{table, Given, Step};
+use compare_common::layer::{table, Step};
 use compare_common::rng::Rng;
 use compare_common::{args, SEED};
-use sirqobal::{Ask, Layer};
 use std::process::ExitCode;
 
 /// From so many sequences on, all that is wanted has to be reached.
@@ -50,21 +49,6 @@ fn main() -> ExitCode {
     println!("compared: {calls} calls, {questions} questions, {differences} differences");
     let failed = differences != 0 || (sequences >= ENOUGH && !missing.is_empty());
     ExitCode::from(u8::from(failed))
-}
-
-/// Answers by chance, and keeps what was answered.
-struct Drawn<'a> {
-    player: &'a mut Player,
-    rng: &'a mut Rng,
-    given: Vec<Given>,
-}
-
-impl Source for Drawn<'_> {
-    fn give(&mut self, layer: &Layer, ask: Ask) -> Given {
-        let given = self.player.given(self.rng, layer, ask);
-        self.given.push(given.clone());
-        given
-    }
 }
 
 fn sequence(rng: &mut Rng, calls: u64, counts: &mut Counts) -> Result<(), String> {

@@ -1,8 +1,8 @@
 //! What document 01 says of a call, as far as the original does not: which refusal it is. Written
 //! from the document's table "Turned down" and its orders alone, and plainly: chunk by chunk.
 
-use super::{Moment, CHUNK};
-use sirqobal::lent::{Arena, Call};
+use super::{inside, Moment, CHUNK};
+use sirqobal::lent::{Arena, Call, State};
 use sirqobal::Layer;
 
 /// The refusal that comes before any search and any question; None if there is none.
@@ -110,8 +110,7 @@ pub fn has_run(layer: &Layer, id: i32, n: usize) -> bool {
     let fits = |arena: &Arena| {
         let mut run = 0;
         (0..arena.chunks).any(|chunk| {
-            let used = arena.used[chunk / 32] >> (chunk % 32) & 1 == 1;
-            run = if used { 0 } else { run + 1 };
+            run = if bit(&arena.used, chunk) { 0 } else { run + 1 };
             run == n
         })
     };
@@ -150,4 +149,108 @@ fn end(arena: &Arena) -> u128 {
 fn first<const N: usize>(rows: [(bool, u32); N]) -> Option<u32> {
     let row = rows.into_iter().find(|(holds, _)| *holds);
     row.map(|(_, number)| number)
+}
+
+/// Row 1, all of it.
+pub fn broken(records: &[Arena], stamps: &[u32], state: &State, page: u64) -> bool {
+    let lengths = records.len() == 32 && stamps.len() == 32_768;
+    if !lengths || !sound_page(page) || state.count > 32 {
+        return true;
+    }
+    let arenas = &records[..state.count];
+    let apart = |(id, arena): (usize, &Arena)| {
+        let before = arenas[..id].iter();
+        before.clone().all(|other| {
+            end(other) <= u128::from(arena.base) || end(arena) <= u128::from(other.base)
+        })
+    };
+    let sound = arenas.iter().all(|arena| !bad_record(arena))
+        && arenas.iter().enumerate().all(apart)
+        && *state == as_left(state);
+    !sound || bad_question(arenas, state)
+}
+
+fn bad_record(arena: &Arena) -> bool {
+    let maps = [&arena.used, &arena.dirty, &arena.committed, &arena.pending];
+    let past_end =
+        |map: &&[u32; 32]| (0..32).any(|word| map[word] & !inside(arena.chunks, word) != 0);
+    !(1..=1_024).contains(&arena.chunks)
+        || arena.base == 0
+        || arena.base % CHUNK != 0
+        || end(arena) > u128::from(u64::MAX)
+        || maps.iter().any(past_end)
+}
+
+/// The open question is about an arena that stands, chunks inside it, and used bits that are set.
+fn bad_question(arenas: &[Arena], state: &State) -> bool {
+    let n = match state.question {
+        1 => state.n,
+        2 => 1,
+        _ => return false,
+    };
+    let Some(arena) = arenas.get(state.id) else {
+        return true;
+    };
+    let stop = state.start.checked_add(n);
+    let Some(stop) = stop.filter(|stop| *stop <= arena.chunks) else {
+        return true;
+    };
+    let clear = (state.start..stop).any(|chunk| !bit(&arena.used, chunk));
+    clear || (state.question == 2 && state.purged > 1_024 * state.id + state.start)
+}
+
+/// The state with only what its question uses, and flags of 0 or 1. Where this changes it, or its
+/// kind, cause or waiting call is none, no call left it.
+fn as_left(state: &State) -> State {
+    let flag = |number: u32| number.min(1);
+    let bare = State {
+        count: state.count,
+        mark: flag(state.mark),
+        question: state.question,
+        ..State::EMPTY
+    };
+    let waits = match state.waiting {
+        0 => bare,
+        _ => State {
+            waiting: 1,
+            n: state.n,
+            commits: flag(state.commits),
+            ..bare
+        },
+    };
+    match state.question {
+        0 => bare,
+        1 => State {
+            id: state.id,
+            start: state.start,
+            n: state.n,
+            ..bare
+        },
+        2 => State {
+            id: state.id,
+            start: state.start,
+            force: flag(state.force),
+            now: state.now,
+            delay: state.delay,
+            decommit: flag(state.decommit),
+            purged: state.purged,
+            ..bare
+        },
+        3 => State {
+            chunks: state.chunks,
+            bytes: state.bytes,
+            commit: flag(state.commit),
+            exclusive: flag(state.exclusive),
+            ..waits
+        },
+        4 if [7, 12, 13].contains(&state.cause) => State {
+            cause: state.cause,
+            ..waits
+        },
+        _ => State::EMPTY, // no such question
+    }
+}
+
+fn bit(map: &[u32; 32], chunk: usize) -> bool {
+    map[chunk / 32] >> (chunk % 32) & 1 == 1
 }

@@ -2,7 +2,8 @@
 //! and ids are mostly chosen by what stands in the table, so that calls meet.
 
 use super::document::{arenas, at_once};
-use super::{Given, Moment, CHUNK, PAGES};
+use super::pair::Source;
+use super::{inside, Given, Moment, CHUNK, PAGES};
 use crate::rng::Rng;
 use sirqobal::lent::{Arena, Call, State, RECORDS, STAMPS};
 use sirqobal::{Ask, Layer};
@@ -185,7 +186,8 @@ impl Player {
         };
     }
 
-    fn any_moment(&self, rng: &mut Rng) -> Moment {
+    /// Any clock with sound settings.
+    pub fn any_moment(&self, rng: &mut Rng) -> Moment {
         Moment {
             ns: rng.bits(),
             delay: match rng.below(12) {
@@ -201,7 +203,8 @@ impl Player {
         }
     }
 
-    fn any_call(&self, rng: &mut Rng, layer: &Layer) -> Call {
+    /// Any call of the theme.
+    pub fn any_call(&self, rng: &mut Rng, layer: &Layer) -> Call {
         let weights = self.theme.weights;
         let mut drawn = rng.below(weights.iter().sum());
         let kind = weights.iter().position(|weight| {
@@ -382,7 +385,7 @@ impl Player {
 
     /// Arenas beside each other or apart, with any bits, deadlines and stamps, and what is left
     /// over past them.
-    fn any_table(&self, rng: &mut Rng) -> Layer {
+    pub fn any_table(&self, rng: &mut Rng) -> Layer {
         let now = sirqobal::now_ms(self.moment.ns);
         let near = |rng: &mut Rng| match rng.below(4) {
             0 => rng.bits() as u32,
@@ -410,24 +413,38 @@ impl Player {
     }
 }
 
+/// Answers by chance, and keeps what was answered.
+pub struct Drawn<'a> {
+    pub player: &'a mut Player,
+    pub rng: &'a mut Rng,
+    pub given: Vec<Given>,
+}
+
+impl Source for Drawn<'_> {
+    fn give(&mut self, layer: &Layer, ask: Ask) -> Given {
+        let given = self.player.given(self.rng, layer, ask);
+        self.given.push(given.clone());
+        given
+    }
+}
+
 /// A record with any bits; one that stands has none past its end.
 fn any_arena(rng: &mut Rng, base: u64, chunks: u64, deadline: u32, stands: bool) -> Arena {
     let mut map = || {
         let dense = rng.below(4);
-        std::array::from_fn(|w| {
-            let past = (32 * (w as u64 + 1)).saturating_sub(chunks).min(32);
-            let inside = if stands {
-                u64::from(u32::MAX) >> past
-            } else {
-                u64::MAX
-            };
+        std::array::from_fn(|word| {
             let bits = match dense {
                 0 => 0,
                 1 => rng.bits() & rng.bits() & rng.bits(),
                 2 => rng.bits() | rng.bits(),
                 _ => rng.bits(),
             };
-            (bits & inside) as u32
+            let mask = if stands {
+                inside(chunks as usize, word)
+            } else {
+                u32::MAX
+            };
+            bits as u32 & mask
         })
     };
     let maps = [map(), map(), map(), map()];

@@ -11,6 +11,14 @@ pub use sirqobal::{Moment, CHUNK};
 
 use sirqobal::lent::Call;
 
+/// The bits of a map's word that are chunks of an arena with so many.
+pub fn inside(chunks: usize, word: usize) -> u32 {
+    match chunks.saturating_sub(32 * word) {
+        n @ 0..32 => (1 << n) - 1,
+        _ => u32::MAX,
+    }
+}
+
 /// The page sizes that row 1 lets pass.
 pub const PAGES: [u64; 5] = [4_096, 8_192, 16_384, 32_768, 65_536];
 

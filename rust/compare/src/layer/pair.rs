@@ -30,6 +30,8 @@ pub struct Agreed {
     pub asked: Vec<(Ask, Option<u64>)>,
     /// The numbers of the calls made while a question was open.
     pub while_open: Vec<u32>,
+    /// All that was called on ours: the call, calls while it asks, and the answers.
+    pub made: Vec<(Moment, Call)>,
 }
 
 /// Our layer and the original's, which is static, in the same state.
@@ -65,7 +67,10 @@ impl Pair {
             ours: &mut self.ours,
             reply,
             source,
-            agreed: Agreed::default(),
+            agreed: Agreed {
+                made: vec![(moment, call)],
+                ..Agreed::default()
+            },
             difference: None,
         };
         // With 1, 3 and 6 the original is not called: it knows no such refusal.
@@ -270,6 +275,8 @@ impl Bridge<'_> {
             base: given.answer.unwrap_or(0),
         };
         self.reply = self.ours.call(given.moment, answer);
+        self.agreed.made.extend(given.before);
+        self.agreed.made.push((given.moment, answer));
         self.agreed.asked.push((ask, given.answer));
         Ok(given.answer)
     }

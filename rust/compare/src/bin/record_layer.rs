@@ -10,7 +10,7 @@
 //! |---|---|---|
 //! | 0 | the layer is emptied: 0, 0 | 1 |
 //! | 1 | the next calls carry: clock in ns, delay | 1 |
-//! | 2 | the next calls carry: decommits 1, off 2, page × 256; default reserve | 1 |
+//! | 2 | the next calls carry: decommits 1, off 2, page × 256 modulo 2^64; default reserve | 1 |
 //! | 3 | two more numbers of the next call | 1 |
 //! | 4 | reserve_os_memory_ex: size; commit 1, allow_large 2, exclusive 4 | number |
 //! | 5 | manage_os_memory_ex: start, size; more: node; is_committed 1, is_large 2, is_zero 4, exclusive 8, mapped 16, reserved 32 | number |
@@ -32,7 +32,7 @@
 
 use compare_common::layer::draw::{Drawn, Player};
 use compare_common::layer::pair::Pair;
-use compare_common::layer::Moment;
+use compare_common::layer::{Given, Moment, CHUNK, QUIET};
 use compare_common::rng::Rng;
 use compare_common::{args, SEED};
 use sirqobal::lent::{Call, Reply};
@@ -42,11 +42,57 @@ use std::io::{self, Write};
 fn main() -> io::Result<()> {
     let [seed, sequences, calls] = args::read(["--seed", "--sequences", "--calls"], [SEED, 40, 30]);
     let mut sample = Sample::default();
+    sample.sequence(&full_table());
     for n in 0..sequences {
         let made = agreed(&mut Rng::new(seed.wrapping_add(n)), calls);
         sample.sequence(&made);
     }
     io::stdout().lock().write_all(sample.text.as_bytes())
+}
+
+/// 32 arenas, and what is refused then; growth still goes on.
+fn full_table() -> Vec<(Moment, Call)> {
+    let adopt = |place: u64, size: u64| Call::AdoptOsBlock {
+        address: place * CHUNK,
+        size: size * CHUNK,
+    };
+    let mut calls: Vec<Call> = (1..=33).map(|n| adopt(3 * n, 1)).collect();
+    calls.extend([
+        adopt(4, 1),
+        Call::ManageOsMemory {
+            start: 1_000 * CHUNK,
+            size: CHUNK,
+            flags: [true; 3],
+            node: -1,
+            exclusive: false,
+            mapped: false,
+            reserved: true,
+        },
+        Call::ReserveOsMemory {
+            size: 1,
+            commit: true,
+            allow_large: false,
+            exclusive: true,
+        },
+        Call::ChunkAllocN { id: -1, n: 3 },
+        Call::ChunkAllocN { id: -1, n: 2 },
+    ]);
+    let moment = Moment {
+        reserve: CHUNK,
+        ..QUIET
+    };
+    let mut pair = Pair::holding(&Layer::new());
+    let mut made = Vec::new();
+    for call in calls {
+        let yes = Given {
+            answer: Some(2_000 * CHUNK),
+            ..Given::NO
+        };
+        let mut source = vec![yes; 2].into_iter();
+        let agreed = pair.call(moment, call, &mut source);
+        made.extend(agreed.expect("no difference").made);
+    }
+    made
 }
 
 /// A random sequence from the empty layer, on which both sides agree.

@@ -1,48 +1,15 @@
-//! Times the slice pool of both sides in one run: the same calls from the same maps, ours through
-//! the C ABI as users call it, the original called directly. A number is the smallest of the means
-//! of several rounds; the rounds of the two sides take turns.
+//! The slice pool's rows.
 
+use crate::{Case, Side};
 use compare_common::pool::{
     fragmented, mark, stretches, Call, Caller, Words, CHECKERBOARD, EMPTY, FULL,
 };
 use compare_common::rng::Rng;
-use compare_common::{args, SEED};
 use sirqobal::{SlicePool, SLICES, SLICE_SIZE};
-use std::fs;
 use std::hint::black_box;
 use std::time::{Duration, Instant};
 
-const ROUNDS: usize = 15;
-
-/// The least time that a round takes, so that reading the clock does not count.
-const ROUND: Duration = Duration::from_millis(2);
-
-fn main() {
-    let [seed] = args::read(["--seed"], [SEED]);
-    println!("{}, seed {seed}", cpu_model());
-    println!();
-    let numbers = ["Rust ns/op", "ours ns/op", "Rust/ours"];
-    row("case", "slices", "first answer", numbers);
-    let lines = [43, 7, 13, 11, 11, 11].map(|width| "-".repeat(width));
-    println!("|{}:|", lines.join(":|").replacen(':', "", 1));
-    for case in cases(&mut Rng::new(seed)) {
-        case.run();
-    }
-}
-
-fn row(name: &str, slices: &str, answer: &str, numbers: [&str; 3]) {
-    let [rust, ours, ratio] = numbers;
-    println!("| {name:<41} | {slices:>6} | {answer:>12} | {rust:>10} | {ours:>10} | {ratio:>10} |");
-}
-
-fn cpu_model() -> String {
-    let info = fs::read_to_string("/proc/cpuinfo").unwrap_or_default();
-    let model = info.lines().find(|line| line.starts_with("model name"));
-    let name = model.and_then(|line| line.split_once(':'));
-    name.map_or("unknown CPU".into(), |(_, name)| name.trim().into())
-}
-
-struct Case {
+struct Row {
     name: String,
     /// Slices in a run or range; none if they differ.
     slices: Option<u64>,
@@ -58,7 +25,7 @@ enum Work {
 }
 
 /// One of the two pools.
-trait Side {
+trait Pool {
     fn set(&mut self, words: &Words);
     fn words(&self) -> Words;
     fn claim(&mut self, slices: u64) -> Option<u64>;
@@ -74,7 +41,7 @@ trait Side {
 
 struct Rust;
 
-impl Side for Rust {
+impl Pool for Rust {
     fn set(&mut self, words: &Words) {
         oracle::set_pool_words(words);
     }
@@ -92,7 +59,7 @@ impl Side for Rust {
     }
 }
 
-impl Side for SlicePool {
+impl Pool for SlicePool {
     fn set(&mut self, words: &Words) {
         self.set_words(words);
     }
@@ -110,25 +77,34 @@ impl Side for SlicePool {
     }
 }
 
-impl Case {
-    fn run(&self) {
-        let mut pool = SlicePool::new();
-        let answers = self.answers(&mut Rust);
-        let alike = answers == self.answers(&mut pool) && Rust.words() == *pool.words();
-        assert!(alike, "{}: the sides differ", self.name);
-        let (mut rust, mut ours) = (f64::MAX, f64::MAX);
-        for _ in 0..ROUNDS {
-            rust = rust.min(self.round(&mut Rust));
-            ours = ours.min(self.round(&mut pool));
-        }
-        let slices = self.slices.map_or("any".into(), |n| n.to_string());
-        let numbers = [rust, ours, rust / ours].map(|number| format!("{number:.2}"));
-        let numbers = numbers.each_ref().map(String::as_str);
-        row(&self.name, &slices, &answers[0], numbers);
+impl Case for Row {
+    fn name(&self) -> String {
+        self.name.clone()
     }
 
+    fn detail(&self) -> [String; 2] {
+        let slices = self.slices.map_or("any".into(), |n| n.to_string());
+        [slices, self.answers(&mut Rust).swap_remove(0)]
+    }
+
+    fn check(&self) {
+        let mut pool = SlicePool::new();
+        let alike =
+            self.answers(&mut Rust) == self.answers(&mut pool) && Rust.words() == *pool.words();
+        assert!(alike, "{}: the sides differ", self.name);
+    }
+
+    fn run(&self, side: Side, times: usize) -> (Duration, usize) {
+        match side {
+            Side::Rust => self.run_on(&mut Rust, times),
+            Side::Ours => self.run_on(&mut SlicePool::new(), times),
+        }
+    }
+}
+
+impl Row {
     /// What the calls answer, in words: nobody is timed at wrong work.
-    fn answers(&self, side: &mut impl Side) -> Vec<String> {
+    fn answers(&self, side: &mut impl Pool) -> Vec<String> {
         side.set(&self.start);
         let text = |call, answer| match (call, answer) {
             (Call::Claim { .. }, Some(address)) => format!("slice {}", address / SLICE_SIZE),
@@ -148,30 +124,24 @@ impl Case {
         }
     }
 
-    /// The mean time of an operation, in nanoseconds.
-    fn round(&self, side: &mut impl Side) -> f64 {
-        let mut spent = Duration::ZERO;
-        let mut operations = 0;
-        let mut batch = 1;
-        while spent < ROUND {
-            side.set(&self.start);
-            match &self.work {
-                Work::ClaimAndFree(slices) => {
-                    spent += claim_and_free(side, *slices, batch);
-                    operations += batch;
-                    batch *= 2;
-                }
-                Work::Calls(calls) => {
+    fn run_on(&self, side: &mut impl Pool, times: usize) -> (Duration, usize) {
+        side.set(&self.start);
+        match &self.work {
+            Work::ClaimAndFree(slices) => (claim_and_free(side, *slices, times), times),
+            Work::Calls(calls) => {
+                let passes = times.div_ceil(calls.len());
+                let mut spent = Duration::ZERO;
+                for _ in 0..passes {
+                    side.set(&self.start);
                     spent += make_calls(side, calls);
-                    operations += calls.len();
                 }
+                (spent, passes * calls.len())
             }
         }
-        spent.as_nanos() as f64 / operations as f64
     }
 }
 
-fn claim_and_free(side: &mut impl Side, slices: u64, times: usize) -> Duration {
+fn claim_and_free(side: &mut impl Pool, slices: u64, times: usize) -> Duration {
     let start = Instant::now();
     for _ in 0..times {
         if let Some(address) = side.claim(black_box(slices)) {
@@ -181,7 +151,7 @@ fn claim_and_free(side: &mut impl Side, slices: u64, times: usize) -> Duration {
     start.elapsed()
 }
 
-fn make_calls(side: &mut impl Side, calls: &[Call]) -> Duration {
+fn make_calls(side: &mut impl Pool, calls: &[Call]) -> Duration {
     let start = Instant::now();
     for call in calls {
         black_box(side.call(black_box(*call)));
@@ -189,10 +159,10 @@ fn make_calls(side: &mut impl Side, calls: &[Call]) -> Duration {
     start.elapsed()
 }
 
-fn cases(rng: &mut Rng) -> Vec<Case> {
+pub fn cases(rng: &mut Rng) -> Vec<Box<dyn Case>> {
     let mut cases = Vec::new();
     let mut pairs = |name: &str, start: &Words, runs: &[u64]| {
-        cases.extend(runs.iter().map(|n| Case {
+        cases.extend(runs.iter().map(|n| Row {
             name: name.into(),
             slices: Some(*n),
             start: *start,
@@ -240,7 +210,7 @@ fn cases(rng: &mut Rng) -> Vec<Case> {
     }
 
     for (percent, map) in &densities {
-        cases.extend([1, 2, 4].map(|slices| Case {
+        cases.extend([1, 2, 4].map(|slices| Row {
             name: format!("{percent} % free: 200 claims in a row"),
             slices: Some(slices),
             start: *map,
@@ -249,7 +219,7 @@ fn cases(rng: &mut Rng) -> Vec<Case> {
     }
     cases.extend([1, 64, 4_096, 65_535].map(|n| {
         let starts = (1..SLICES as u64 - n + 1).step_by(n as usize);
-        Case {
+        Row {
             name: "nothing free: free all, range by range".into(),
             slices: Some(n),
             start: EMPTY,
@@ -257,13 +227,16 @@ fn cases(rng: &mut Rng) -> Vec<Case> {
         }
     }));
     let start = stretches(rng, 300);
-    cases.push(Case {
+    cases.push(Row {
         name: "stretches to 300: 2,000 random calls".into(),
         slices: None,
         start,
         work: Work::Calls(mixed(rng, &start)),
     });
-    cases
+    let boxed = cases
+        .into_iter()
+        .map(|case| Box::new(case) as Box<dyn Case>);
+    boxed.collect()
 }
 
 /// A random sequence from this map, the frees among it chosen by the original's grants.

@@ -1,0 +1,407 @@
+//! The arena layer's rows. All chunks are committed, so that only sweeps ask; the host says yes.
+
+use crate::{Case, Side};
+use compare_common::layer::document::arenas;
+use compare_common::layer::pair::Pair;
+use compare_common::layer::{inside, CHUNK, QUIET};
+use compare_common::rng::Rng;
+use oracle::layer as rust;
+use sirqobal::lent::{self, Arena, Call, Reply, State, QUESTION, RECORDS, STAMPS};
+use sirqobal::Layer;
+use std::hint::black_box;
+use std::ptr;
+use std::time::{Duration, Instant};
+
+/// What an operation is. Each leaves the table as it was.
+#[derive(Clone, Copy)]
+enum Work {
+    /// `chunk_alloc`, and the release of the chunk.
+    One,
+    /// `chunk_alloc_n`, and the release of the run.
+    Run,
+    /// The release of a run alone: it need not be held.
+    Release,
+    /// A pending release of a run and a forced sweep that purges it.
+    Sweep,
+    /// A sweep that is not due anywhere.
+    NotDue,
+    /// `owns`.
+    Find,
+    /// `arena_area`: for ours, row 1 and hardly anything else.
+    Look,
+}
+
+struct Row {
+    name: String,
+    work: Work,
+    /// Chunks of the run.
+    n: usize,
+    /// An arena's id, or -1.
+    id: i32,
+    /// Where a release, a sweep or a search by address is.
+    address: u64,
+    table: Layer,
+}
+
+impl Case for Row {
+    fn name(&self) -> String {
+        self.name.clone()
+    }
+
+    fn detail(&self) -> [String; 2] {
+        let reply = self.first_call(&mut self.table.clone());
+        let answer = match (self.work, reply.number) {
+            (Work::One | Work::Run, 0) => {
+                let count = arenas(&self.table).len();
+                let at = |id: usize| self.table.records()[id].base;
+                let id = (0..count).rev().find(|id| at(*id) <= reply.address);
+                let start = id.map_or(0, |id| (reply.address - at(id)) / CHUNK);
+                format!("{} in {}", start, id.unwrap_or(0))
+            }
+            (Work::Find, 0) => reply.owns.to_string(),
+            (_, 0) => "granted".into(),
+            (_, QUESTION) => "asks".into(),
+            (_, number) => format!("refused {number}"),
+        };
+        [self.n.to_string(), answer]
+    }
+
+    /// One operation on both sides, answers and all state compared.
+    fn check(&self) {
+        let mut pair = Pair::holding(&self.table);
+        let mut yes = vec![YES; self.n].into_iter();
+        let first = pair.call(QUIET, self.call(), &mut yes).expect(&self.name);
+        if let Work::One | Work::Run = self.work {
+            if first.reply.number == 0 {
+                let release = self.release(first.reply.address, false);
+                pair.call(QUIET, release, &mut yes).expect(&self.name);
+            }
+        }
+        if let Work::Sweep = self.work {
+            let sweep = Call::PurgeDue { force: true };
+            let swept = pair.call(QUIET, sweep, &mut yes).expect(&self.name);
+            assert_eq!(swept.reply.count, self.n);
+        }
+    }
+
+    fn run(&self, side: Side, times: usize) -> (Duration, usize) {
+        let spent = match side {
+            Side::Rust => {
+                drop(Pair::holding(&self.table));
+                rust::carry(rust::Script::NONE, 4_096);
+                self.time(times, || self.rust())
+            }
+            Side::Ours => {
+                let mut ours = Ours::holding(&self.table);
+                self.time(times, || self.ours(&mut ours))
+            }
+        };
+        (spent, times)
+    }
+}
+
+const YES: compare_common::layer::Given = compare_common::layer::Given {
+    before: Vec::new(),
+    moment: QUIET,
+    answer: Some(0),
+};
+
+impl Row {
+    fn time(&self, times: usize, mut operation: impl FnMut()) -> Duration {
+        let start = Instant::now();
+        for _ in 0..times {
+            operation();
+        }
+        start.elapsed()
+    }
+
+    /// The first call of an operation.
+    fn call(&self) -> Call {
+        match self.work {
+            Work::One => Call::ChunkAlloc { id: self.id },
+            Work::Run => Call::ChunkAllocN {
+                id: self.id,
+                n: self.n,
+            },
+            Work::Release => self.release(self.address, false),
+            Work::Sweep => self.release(self.address, true),
+            Work::NotDue => Call::PurgeDue { force: false },
+            Work::Find => Call::Owns {
+                address: self.address,
+            },
+            Work::Look => Call::ArenaArea { id: self.id },
+        }
+    }
+
+    fn first_call(&self, layer: &mut Layer) -> Reply {
+        layer.call(QUIET, self.call())
+    }
+
+    fn release(&self, address: u64, pending: bool) -> Call {
+        Call::ChunkRelease {
+            address,
+            n: self.n,
+            told: -1,
+            pending,
+        }
+    }
+
+    fn rust(&self) {
+        use oracle::arena;
+        let at = |address: u64| ptr::without_provenance_mut(black_box(address) as usize);
+        let (id, n) = (black_box(self.id), black_box(self.n));
+        match self.work {
+            Work::One => {
+                if let Some((chunk, _)) = arena::chunk_alloc(id) {
+                    black_box(arena::chunk_free(black_box(chunk)));
+                }
+            }
+            Work::Run => {
+                if let Some((run, _)) = arena::chunk_alloc_n(id, n) {
+                    black_box(arena::chunk_free_n(black_box(run), n));
+                }
+            }
+            Work::Release => {
+                black_box(arena::chunk_free_n(at(self.address), n));
+            }
+            Work::Sweep => {
+                arena::chunk_release(at(self.address), n, None, true);
+                black_box(rust::purge_due(&mut Yes, true));
+            }
+            Work::NotDue => {
+                black_box(arena::purge_due(false));
+            }
+            Work::Find => {
+                black_box(arena::owns(at(self.address)));
+            }
+            Work::Look => {
+                black_box(arena::arena_area(id));
+            }
+        }
+    }
+
+    fn ours(&self, ours: &mut Ours) {
+        let reply = ours.call(black_box(self.call()));
+        match self.work {
+            Work::One | Work::Run if reply.number == 0 => {
+                ours.call(self.release(black_box(reply.address), false));
+            }
+            Work::Sweep => {
+                let mut reply = ours.call(Call::PurgeDue { force: true });
+                while reply.number == QUESTION {
+                    reply = ours.call(Call::Answer {
+                        kind: reply.kind,
+                        yes: true,
+                        base: 0,
+                    });
+                }
+            }
+            _ => {}
+        }
+    }
+}
+
+struct Yes;
+
+impl rust::Host for Yes {
+    fn answer(&mut self, _question: rust::Question) -> Option<u64> {
+        Some(0)
+    }
+}
+
+/// A table as a C program keeps it.
+struct Ours {
+    records: Vec<Arena>,
+    stamps: Vec<u32>,
+    state: State,
+}
+
+impl Ours {
+    fn holding(layer: &Layer) -> Ours {
+        Ours {
+            records: layer.records().to_vec(),
+            stamps: layer.stamps().to_vec(),
+            state: layer.state(),
+        }
+    }
+
+    fn call(&mut self, call: Call) -> Reply {
+        let settings = QUIET.settings();
+        let (records, stamps) = (&mut self.records, &mut self.stamps);
+        let reply = lent::call(records, stamps, self.state, QUIET.ns, settings, call);
+        self.state = reply.state;
+        black_box(reply)
+    }
+}
+
+const BASE: u64 = 1 << 40;
+
+/// The base of the arena with this id in the tables here.
+fn base(id: usize) -> u64 {
+    BASE + id as u64 * 2_048 * CHUNK
+}
+
+/// So many shared arenas, all committed and dirty, with these used bits.
+fn table(count: usize, chunks: usize, used: impl Fn(usize, usize) -> bool) -> Layer {
+    let mut records = [Arena::EMPTY; RECORDS];
+    for (id, arena) in records.iter_mut().enumerate().take(count) {
+        let all: [u32; 32] = std::array::from_fn(|word| inside(chunks, word));
+        let map = std::array::from_fn(|word| {
+            let bits = (0..32).filter(|bit| used(id, 32 * word + bit));
+            bits.map(|bit| 1 << bit).sum::<u32>() & all[word]
+        });
+        *arena = Arena {
+            base: base(id),
+            chunks,
+            owned: true,
+            node: -1,
+            used: map,
+            dirty: all,
+            committed: all,
+            ..Arena::EMPTY
+        };
+    }
+    let state = State {
+        count,
+        ..State::EMPTY
+    };
+    Layer::from_table(&records, &[0; STAMPS], state)
+}
+
+pub fn cases(rng: &mut Rng) -> Vec<Box<dyn Case>> {
+    let half: Vec<bool> = (0..1_024).map(|_| rng.percent(50)).collect();
+    let mut rows = Vec::new();
+    let mut row = |name: &str, work: Work, n: usize, id: i32, address: u64, table: &Layer| {
+        rows.push(Box::new(Row {
+            name: name.into(),
+            work,
+            n,
+            id,
+            address,
+            table: table.clone(),
+        }) as Box<dyn Case>);
+    };
+
+    let empty = table(1, 1_024, |_, _| false);
+    let small = table(1, 32, |_, _| false);
+    let nearly = table(1, 1_024, |_, chunk| chunk < 1_016);
+    let many = table(32, 1_024, |_, _| false);
+    let behind = table(32, 1_024, |id, _| id < 31);
+    for (name, table) in [
+        ("pair, 1 empty arena of 32", &small),
+        ("pair, 1 empty arena of 1,024", &empty),
+        ("pair, 1,016 of 1,024 used", &nearly),
+        ("pair, 32 empty arenas", &many),
+        ("pair, behind 31 full arenas", &behind),
+    ] {
+        row(name, Work::One, 1, -1, 0, table);
+    }
+    row(
+        "pair, arena 31 of 32, by its id",
+        Work::One,
+        1,
+        31,
+        0,
+        &behind,
+    );
+
+    let board = table(1, 1_024, |_, chunk| chunk % 2 == 0 && chunk < 900);
+    let random = table(1, 1_024, |_, chunk| chunk < 900 && half[chunk]);
+    for n in [2, 8, 64] {
+        let full = table(1, 1_024, move |_, chunk| chunk < 1_024 - n);
+        for (name, table) in [
+            ("run, empty arena of 1,024", &empty),
+            ("run, checkerboard before it", &board),
+            ("run, half used before it", &random),
+            ("run, nearly full arena", &full),
+            ("run, behind 31 full arenas", &behind),
+        ] {
+            row(name, Work::Run, n, -1, 0, table);
+        }
+    }
+    row("run, empty arena of 1,024", Work::Run, 512, -1, 0, &empty);
+    row("run, empty arena of 1,024", Work::Run, 1_024, -1, 0, &empty);
+    let board32 = table(32, 1_024, |_, chunk| chunk % 2 == 0);
+    row(
+        "run, 32 checkerboards: refused",
+        Work::Run,
+        2,
+        -1,
+        0,
+        &board32,
+    );
+
+    for n in [1, 64, 512, 1_024] {
+        row("release alone, 1 arena", Work::Release, n, 0, BASE, &empty);
+    }
+    row(
+        "release alone, last of 32 arenas",
+        Work::Release,
+        1,
+        0,
+        base(31),
+        &many,
+    );
+    for n in [1, 32, 256, 1_024] {
+        row(
+            "release and forced sweep, all yes",
+            Work::Sweep,
+            n,
+            0,
+            BASE,
+            &empty,
+        );
+    }
+    row(
+        "release and sweep, last of 32 arenas",
+        Work::Sweep,
+        32,
+        0,
+        base(31),
+        &many,
+    );
+    for count in [1, 32] {
+        let name = format!("sweep, nothing armed, {count} arenas");
+        row(
+            &name,
+            Work::NotDue,
+            0,
+            0,
+            0,
+            &table(count, 1_024, |_, _| false),
+        );
+    }
+    for count in [1, 8, 32] {
+        let all = table(count, 1_024, |_, _| false);
+        let name = format!("find an address, {count} arenas, in the last");
+        row(&name, Work::Find, 1, 0, base(count - 1) + 5, &all);
+    }
+    row(
+        "find an address, 32 arenas, in none",
+        Work::Find,
+        1,
+        0,
+        5,
+        &many,
+    );
+    for (count, chunks) in [
+        (0, 1),
+        (1, 1),
+        (1, 1_024),
+        (8, 1_024),
+        (16, 1_024),
+        (32, 1),
+        (32, 1_024),
+    ] {
+        let name = format!("area: row 1 alone, {count} arenas of {chunks}");
+        row(
+            &name,
+            Work::Look,
+            1,
+            0,
+            0,
+            &table(count, chunks, |_, _| false),
+        );
+    }
+    rows
+}

@@ -76,6 +76,10 @@ fn sequence(rng: &mut Rng, calls: u64, counts: &mut Counts) -> Result<(), String
         };
         counts.note(last, &moment, &call, &agreed, &pair.ours);
     }
+    let (rust, ours) = (oracle::layer::print(), pair.ours.to_string());
+    if rust != ours {
+        return Err(format!("arenas_print: Rust\n{rust}ours\n{ours}"));
+    }
     match pair.rest_is_untouched() {
         true => Ok(()),
         false => Err("records or stamps past the arenas were written".into()),

@@ -1,7 +1,7 @@
 //! What document 01 says of a call, as far as the original does not: which refusal it is. Written
 //! from the document's table "Turned down" and its orders alone, and plainly: chunk by chunk.
 
-use super::{inside, Moment, CHUNK};
+use super::{inside, Moment, CHUNK, PAGES};
 use sirqobal::lent::{Arena, Call, State};
 use sirqobal::Layer;
 
@@ -48,7 +48,7 @@ pub fn cannot_register(layer: &Layer, size: u64, base: u64) -> Option<u32> {
     let chunks = size.div_ceil(CHUNK);
     first([
         (chunks == 0 || chunks > 1_024, 12),
-        (base % CHUNK != 0, 7),
+        (!whole(base), 7),
         (layer.state().count == 32, 13),
     ])
 }
@@ -79,7 +79,7 @@ fn adopt(layer: &Layer, address: u64, size: u64) -> Option<u32> {
     };
     let early = first([
         (size == 0, 4),
-        (address % CHUNK != 0 || size % CHUNK != 0, 7),
+        (!whole(address) || !whole(size), 7),
         (no_range(layer, address, size), 6),
     ]);
     if early.is_some() || arenas(layer).iter().any(grows) {
@@ -98,7 +98,7 @@ fn release(layer: &Layer, address: u64, n: usize) -> Option<u32> {
         return Some(8);
     };
     let run_end = u128::from(address) + n as u128 * u128::from(CHUNK);
-    first([(address % CHUNK != 0, 7), (run_end > end(arena), 9)])
+    first([(!whole(address), 7), (run_end > end(arena), 9)])
 }
 
 /// Whether an arena that this id means has n neighbouring clear used bits.
@@ -133,8 +133,12 @@ pub fn product_is_past(size: u64) -> bool {
     product + u128::from(CHUNK) > u128::from(u64::MAX)
 }
 
+fn whole(number: u64) -> bool {
+    number.is_multiple_of(CHUNK)
+}
+
 fn sound_page(page: u64) -> bool {
-    [4_096, 8_192, 16_384, 32_768, 65_536].contains(&page)
+    PAGES.contains(&page)
 }
 
 pub fn arenas(layer: &Layer) -> &[Arena] {
@@ -176,7 +180,7 @@ fn bad_record(arena: &Arena) -> bool {
         |map: &&[u32; 32]| (0..32).any(|word| map[word] & !inside(arena.chunks, word) != 0);
     !(1..=1_024).contains(&arena.chunks)
         || arena.base == 0
-        || arena.base % CHUNK != 0
+        || !whole(arena.base)
         || end(arena) > u128::from(u64::MAX)
         || maps.iter().any(past_end)
 }

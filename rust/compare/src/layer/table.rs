@@ -1,5 +1,5 @@
-//! Refusals 1, 2, 3 and 6, which the original does not have, as a table of cases with the numbers of
-//! document 01. None of them may change a byte of what is lent.
+//! Document 01's own example of each refusal, and refusals 1, 2, 3 and 6, which the original does not
+//! have, as a table of cases with the document's numbers. A refusal changes no byte of what is lent.
 
 use super::{Moment, CHUNK, QUIET};
 use sirqobal::lent::{self, Arena, Call, Reply, State, RECORDS, STAMPS};
@@ -57,6 +57,8 @@ pub struct Cases {
 /// Runs the whole table.
 pub fn run() -> Cases {
     let mut cases = Cases::default();
+    cases.examples();
+    cases.example_answers();
     cases.lengths();
     cases.pages();
     cases.broken();
@@ -89,6 +91,68 @@ impl Cases {
             self.wrong.push(format!(
                 "{what}: {call:?}: document {number}, ours {reply:?}"
             ));
+        }
+    }
+
+    /// The column "Example" of the table "Turned down", but for rows that need more than one call.
+    fn examples(&mut self) {
+        let moment = Moment { off: true, ..QUIET };
+        let claim = |id, n| Call::ChunkAllocN { id, n };
+        let adopt = |address, size| Call::AdoptOsBlock { address, size };
+        let release = |address, n| Call::ChunkRelease {
+            address,
+            n,
+            told: -1,
+            pending: false,
+        };
+        let rows = [
+            (3, answer(1, true, 0)),
+            (4, claim(0, 0)),
+            (5, claim(-1, 1)),
+            (6, adopt(1_073_741_824, CHUNK)),
+            (7, release(1_073_741_825, 1)),
+            (8, release(1_207_959_552, 1)),
+            (9, release(BASE, 5)),
+            (10, claim(0, 5)),
+            (12, adopt(68_719_476_736, 34_393_292_800)),
+            (15, manage(1, CHUNK, true)),
+            (16, manage(CHUNK, 2 * CHUNK, false)),
+        ];
+        for (number, call) in rows {
+            self.case("example", &example(), moment, call, number);
+        }
+        let mut short = example();
+        short.stamps.truncate(32_767);
+        self.case("example", &short, QUIET, claim(0, 1), 1);
+        for (_, purging) in questions().into_iter().filter(|(kind, _)| *kind == 2) {
+            self.case("example", &purging, QUIET, claim(0, 1), 2);
+        }
+        let mut full = example();
+        for block in 2..=32 {
+            full.state = full.call(QUIET, adopt(block * BASE, CHUNK)).state;
+        }
+        self.case("example", &full, QUIET, adopt(33 * BASE, CHUNK), 13);
+    }
+
+    /// Rows 11 and 14: a call, then no. The table is then as it was before the call.
+    fn example_answers(&mut self) {
+        let reserve = Call::ReserveOsMemory {
+            size: CHUNK,
+            commit: false,
+            allow_large: false,
+            exclusive: false,
+        };
+        for (call, kind, number) in [(Call::ChunkAlloc { id: 0 }, 1, 11), (reserve, 3, 14)] {
+            self.cases += 1;
+            let mut table = example();
+            table.state = table.call(QUIET, call).state;
+            let reply = table.call(QUIET, answer(kind, false, 0));
+            table.state = reply.state;
+            if reply.number != number || !table.is(&example()) {
+                self.wrong.push(format!(
+                    "{call:?}, then no: document {number}, ours {reply:?}"
+                ));
+            }
         }
     }
 
@@ -163,9 +227,8 @@ impl Cases {
         for (open, table) in questions().into_iter().chain([(0, example())]) {
             for kind in kinds.into_iter().filter(|kind| open == 0 || *kind != open) {
                 for yes in [false, true] {
-                    let base = 8 * BASE;
-                    let answer = Call::Answer { kind, yes, base };
-                    self.case(&format!("question {open} open"), &table, QUIET, answer, 3);
+                    let call = answer(kind, yes, 8 * BASE);
+                    self.case(&format!("question {open} open"), &table, QUIET, call, 3);
                 }
             }
         }
@@ -238,11 +301,7 @@ impl Cases {
         let mut waits = tables[0].clone();
         waits.state = claim;
         tables.push(waits);
-        let answer = |base| Call::Answer {
-            kind: 3,
-            yes: true,
-            base,
-        };
+        let answer = |base| answer(3, true, base);
         for table in &tables {
             for base in [
                 0,
@@ -278,6 +337,10 @@ impl Cases {
     }
 }
 
+fn answer(kind: u32, yes: bool, base: u64) -> Call {
+    Call::Answer { kind, yes, base }
+}
+
 fn manage(start: u64, size: u64, reserved: bool) -> Call {
     Call::ManageOsMemory {
         start,
@@ -292,11 +355,7 @@ fn manage(start: u64, size: u64, reserved: bool) -> Call {
 
 /// A call of each kind that a sound idle table grants or asks about, and answers of each kind.
 fn calls() -> Vec<Call> {
-    let answer = |kind, yes| Call::Answer {
-        kind,
-        yes,
-        base: 8 * BASE,
-    };
+    let answer = |kind, yes| answer(kind, yes, 8 * BASE);
     let mut calls = vec![
         Call::ReserveOsMemory {
             size: CHUNK,

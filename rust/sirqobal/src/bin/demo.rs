@@ -103,5 +103,5 @@ fn pages(chunks: &Chunks) -> impl Iterator<Item = usize> + Clone {
 fn resident() -> u64 {
     let statm = fs::read_to_string("/proc/self/statm").unwrap_or_default();
     let pages = statm.split(' ').nth(1).and_then(|n| n.parse::<u64>().ok());
-    pages.unwrap_or(0) * page_size() >> 20
+    (pages.unwrap_or(0) * page_size()) >> 20
 }

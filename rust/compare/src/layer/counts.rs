@@ -1,7 +1,7 @@
 //! What a run reached.
 
 use super::document::arenas;
-use super::pair::{claims, Agreed};
+use super::pair::{claims, ones, Agreed};
 use super::{Moment, CHUNK, PAGES};
 use sirqobal::lent::Call;
 use sirqobal::{Ask, Layer};
@@ -18,7 +18,7 @@ pub struct Counts {
 }
 
 /// What the sequences are to reach, beside every refusal from 4 to 16.
-const WANTED: [&str; 16] = [
+const WANTED: [&str; 18] = [
     "growth",
     "default reserve: yes",
     "default reserve: no",
@@ -28,6 +28,8 @@ const WANTED: [&str; 16] = [
     "commit no, second search",
     "sweep over several arenas, yes and no",
     "milliseconds wrapped",
+    "deadline 0 became 1, release",
+    "deadline 0 became 1, sweep",
     "32 arenas",
     "run over a word border",
     "page 4096",
@@ -65,6 +67,12 @@ impl Counts {
         self.reach("32 arenas", layer.state().count == 32);
         if let Some(place) = PAGES.iter().position(|page| *page == moment.page) {
             self.reach(WANTED[WANTED.len() - PAGES.len() + place], true);
+        }
+        let became_one = ones(layer) > agreed.ones;
+        match call {
+            Call::ChunkRelease { .. } => self.reach("deadline 0 became 1, release", became_one),
+            Call::PurgeDue { .. } => self.reach("deadline 0 became 1, sweep", became_one),
+            _ => {}
         }
         if let Call::AdoptOsBlock { .. } = call {
             let stays = agreed.before.count == layer.state().count;

@@ -1,7 +1,7 @@
 //! Random sequences of layer calls: tables to start from, calls, and the host's answers. Addresses
 //! and ids are mostly chosen by what stands in the table, so that calls meet.
 
-use super::document::{arenas, at_once};
+use super::document::arenas;
 use super::pair::Source;
 use super::{inside, Given, Moment, CHUNK, PAGES};
 use crate::rng::Rng;
@@ -126,19 +126,10 @@ impl Player {
             _ => Some(rng.bits()),
         };
         let moment = self.any_moment(rng);
-        // A base that is refused with 6 leaves the question open: the last answer is none of these.
-        let closes = |base: &u64| {
-            let answer = Call::Answer {
-                kind: ask.kind(),
-                yes: true,
-                base: *base,
-            };
-            at_once(layer, &moment, &answer).is_none()
-        };
         Given {
             before,
             moment,
-            answer: answer.filter(closes),
+            answer,
         }
     }
 
@@ -173,10 +164,19 @@ impl Player {
             _ => rng.below(4),
         };
         let ns = ms * 1_000_000 + rng.below(900_000);
-        match rng.below(30) {
-            0 => self.moment.ns.wrapping_sub(ns), // the clock goes back
+        match rng.below(60) {
+            0 | 1 => self.moment.ns.wrapping_sub(ns), // the clock goes back
+            2 => self.delay_before_wrap(),
             _ => self.moment.ns.wrapping_add(ns),
         }
+    }
+
+    /// So long before the milliseconds wrap as the delay is: what is released now is due at 0.
+    fn delay_before_wrap(&self) -> u64 {
+        let turn = self.moment.ns / 1_000_000 >> 32;
+        let delay = u64::from(sirqobal::delay_ms(self.moment.delay));
+        let ms = ((turn + 1) << 32).wrapping_sub(delay);
+        ms.wrapping_mul(1_000_000)
     }
 
     fn draw_settings(&mut self, rng: &mut Rng) {

@@ -32,6 +32,14 @@ pub struct Agreed {
     pub while_open: Vec<u32>,
     /// All that was called on ours: the call, calls while it asks, and the answers.
     pub made: Vec<(Moment, Call)>,
+    /// Arenas whose deadline was 1 before.
+    pub ones: usize,
+}
+
+/// Arenas whose deadline is 1: as 0 becomes when it is armed.
+pub fn ones(layer: &Layer) -> usize {
+    let arenas = document::arenas(layer).iter();
+    arenas.filter(|arena| arena.deadline == 1).count()
 }
 
 /// Our layer and the original's, which is static, in the same state.
@@ -61,6 +69,7 @@ impl Pair {
     ) -> Result<Agreed, String> {
         let refused = document::at_once(&self.ours, &moment, &call);
         let before = self.ours.state();
+        let ones = ones(&self.ours);
         let reply = self.ours.call(moment, call);
         carry(&moment, &call);
         let mut bridge = Bridge {
@@ -69,6 +78,7 @@ impl Pair {
             source,
             agreed: Agreed {
                 made: vec![(moment, call)],
+                ones,
                 ..Agreed::default()
             },
             difference: None,
@@ -269,22 +279,31 @@ impl Bridge<'_> {
         if !given.before.is_empty() {
             same_state(self.ours)?;
         }
-        let answer = Call::Answer {
+        let answer = |base: Option<u64>| Call::Answer {
             kind: ask.kind(),
-            yes: given.answer.is_some(),
-            base: given.answer.unwrap_or(0),
+            yes: base.is_some(),
+            base: base.unwrap_or(0),
         };
-        self.reply = self.ours.call(given.moment, answer);
+        // A base that is refused with 6 leaves our question open, and the original registers it.
+        let closes = |base: &u64| {
+            let call = answer(Some(*base));
+            document::at_once(self.ours, &given.moment, &call).is_none()
+        };
+        let given_answer = given.answer.filter(closes);
+        self.reply = self.ours.call(given.moment, answer(given_answer));
         self.agreed.made.extend(given.before);
-        self.agreed.made.push((given.moment, answer));
-        self.agreed.asked.push((ask, given.answer));
-        Ok(given.answer)
+        self.agreed.made.push((given.moment, answer(given_answer)));
+        self.agreed.asked.push((ask, given_answer));
+        Ok(given_answer)
     }
 
     /// A call on ours while a question is open: a query answers, all else is refused, and nothing
     /// changes.
     fn disturb(&mut self, moment: &Moment, call: Call, state: State) -> Result<(), String> {
         let number = document::at_once(self.ours, moment, &call);
+        if let (None, Call::Answer { .. }) = (number, call) {
+            return Ok(()); // it would close the question: in a list with calls left out
+        }
         let reply = self.ours.call(*moment, call);
         let looked = match number {
             None => looked(call),

@@ -9,16 +9,20 @@ use sirqobal::Layer;
 pub fn smallest(start: &Layer, steps: &[Step]) -> String {
     let differs = |steps: &[Step]| Pair::holding(start).play(steps).err();
     let mut steps = steps.to_vec();
-    let mut place = steps.len();
-    while place > 0 {
-        place -= 1;
-        let step = steps.remove(place);
-        match differs(&steps) {
-            Some((last, _)) => {
-                steps.truncate(last + 1);
-                place = place.min(steps.len());
+    loop {
+        let before = steps.len();
+        let mut place = steps.len();
+        while place > 0 {
+            place -= 1;
+            let step = steps.remove(place);
+            match differs(&steps) {
+                Some((last, _)) => steps.truncate(last + 1),
+                None => steps.insert(place, step),
             }
-            None => steps.insert(place, step),
+            place = place.min(steps.len());
+        }
+        if steps.len() == before {
+            break;
         }
     }
     for place in 0..steps.len() {

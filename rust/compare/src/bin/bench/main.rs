@@ -36,9 +36,10 @@ pub trait Case {
     fn run(&self, side: Side, times: usize) -> (Duration, usize);
 }
 
-/// The tables, each made from a seed.
-const TABLES: [(&str, fn(&mut Rng) -> Vec<Box<dyn Case>>); 2] =
-    [("Slice pool", pool::cases), ("Arena layer", layer::cases)];
+/// The rows of a table, made from a seed.
+type Cases = fn(&mut Rng) -> Vec<Box<dyn Case>>;
+
+const TABLES: [(&str, Cases); 2] = [("Slice pool", pool::cases), ("Arena layer", layer::cases)];
 
 fn main() {
     let [seed, table, row, side, times] = args::read(

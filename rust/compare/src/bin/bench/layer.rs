@@ -285,12 +285,14 @@ pub fn cases(rng: &mut Rng) -> Vec<Box<dyn Case>> {
     let empty = table(1, 1_024, |_, _| false);
     let small = table(1, 32, |_, _| false);
     let nearly = table(1, 1_024, |_, chunk| chunk < 1_016);
+    let some = table(8, 1_024, |_, _| false);
     let many = table(32, 1_024, |_, _| false);
     let behind = table(32, 1_024, |id, _| id < 31);
     for (name, table) in [
         ("pair, 1 empty arena of 32", &small),
         ("pair, 1 empty arena of 1,024", &empty),
         ("pair, 1,016 of 1,024 used", &nearly),
+        ("pair, 8 empty arenas", &some),
         ("pair, 32 empty arenas", &many),
         ("pair, behind 31 full arenas", &behind),
     ] {

@@ -70,34 +70,9 @@ impl Pair {
         let refused = document::at_once(&self.ours, &moment, &call);
         let before = self.ours.state();
         let ones = ones(&self.ours);
-        let reply = self.ours.call(moment, call);
-        carry(&moment, &call);
-        let mut bridge = Bridge {
-            ours: &mut self.ours,
-            reply,
-            source,
-            agreed: Agreed {
-                made: vec![(moment, call)],
-                ones,
-                ..Agreed::default()
-            },
-            difference: None,
-        };
-        // With 1, 3 and 6 the original is not called: it knows no such refusal.
-        let rust = match refused {
-            Some(1 | 3 | 6) => REFUSED,
-            _ => bridge.rust(call),
-        };
-        if let Some(difference) = bridge.difference {
-            return Err(difference);
-        }
-        let Bridge { reply, agreed, .. } = bridge;
-        let said = match (refused, rust.number) {
-            (Some(number), 0) => return Err(format!("document {number}, the Rust grants it")),
-            (Some(number), _) => self::refused(number),
-            (None, u32::MAX) => return Err("the Rust refuses it, document 01 does not".into()),
-            (None, _) => rust,
-        };
+        let (rust, agreed) = self.both(moment, call, source, refused)?;
+        let reply = agreed.reply;
+        let said = numbered(refused, rust)?;
         let expected = Reply {
             state: idle(said.number, before, reply.state),
             ..said
@@ -112,10 +87,41 @@ impl Pair {
             }
         }
         Ok(Agreed {
-            reply,
             before,
+            ones,
             ..agreed
         })
+    }
+
+    /// Makes the call on both sides. What the original answers, and what happened on ours.
+    fn both(
+        &mut self,
+        moment: Moment,
+        call: Call,
+        source: &mut dyn Source,
+        refused: Option<u32>,
+    ) -> Result<(Reply, Agreed), String> {
+        let reply = self.ours.call(moment, call);
+        carry(&moment, &call);
+        let mut bridge = Bridge {
+            ours: &mut self.ours,
+            source,
+            agreed: Agreed {
+                reply,
+                made: vec![(moment, call)],
+                ..Agreed::default()
+            },
+            difference: None,
+        };
+        // With 1, 3 and 6 the original is not called: it knows no such refusal.
+        let rust = match refused {
+            Some(1 | 3 | 6) => REFUSED,
+            _ => bridge.rust(call),
+        };
+        match bridge.difference {
+            Some(difference) => Err(difference),
+            None => Ok((rust, bridge.agreed)),
+        }
     }
 
     /// Whether the records and stamps past the arenas that stand are as they were lent.
@@ -142,6 +148,16 @@ pub fn claims(call: &Call) -> Option<(i32, usize)> {
         Call::ChunkAlloc { id } | Call::ChunkClaim { id } => Some((id, 1)),
         Call::ChunkAllocN { id, n } => Some((id, n)),
         _ => None,
+    }
+}
+
+/// The original's answer with the number that the document gives a refusal.
+fn numbered(refused: Option<u32>, rust: Reply) -> Result<Reply, String> {
+    match (refused, rust.number) {
+        (Some(number), 0) => Err(format!("document {number}, the Rust grants it")),
+        (Some(number), _) => Ok(self::refused(number)),
+        (None, u32::MAX) => Err("the Rust refuses it, document 01 does not".into()),
+        (None, _) => Ok(rust),
     }
 }
 
@@ -181,8 +197,8 @@ fn carry(moment: &Moment, call: &Call) {
 /// Stands as the original's OS while ours waits for the same answer.
 struct Bridge<'a> {
     ours: &'a mut Layer,
-    reply: Reply,
     source: &'a mut dyn Source,
+    /// What happened; its reply is our last.
     agreed: Agreed,
     difference: Option<String>,
 }
@@ -265,10 +281,13 @@ impl Bridge<'_> {
     /// Both sides ask the same in the same state; ours is answered and goes on.
     fn exchange(&mut self, question: rust::Question) -> Result<Option<u64>, String> {
         let ask = same_question(question);
-        if Ask::of(&self.reply) != Some(ask) {
-            return Err(format!("the Rust asks {ask:?}, ours {:?}", self.reply));
+        if Ask::of(&self.agreed.reply) != Some(ask) {
+            return Err(format!(
+                "the Rust asks {ask:?}, ours {:?}",
+                self.agreed.reply
+            ));
         }
-        only_asks(&self.reply)?;
+        only_asks(&self.agreed.reply)?;
         let state = self.ours.state();
         waits(self.ours, &ask)?;
         same_state(self.ours)?;
@@ -290,7 +309,7 @@ impl Bridge<'_> {
             document::at_once(self.ours, &given.moment, &call).is_none()
         };
         let given_answer = given.answer.filter(closes);
-        self.reply = self.ours.call(given.moment, answer(given_answer));
+        self.agreed.reply = self.ours.call(given.moment, answer(given_answer));
         self.agreed.made.extend(given.before);
         self.agreed.made.push((given.moment, answer(given_answer)));
         self.agreed.asked.push((ask, given_answer));

@@ -96,42 +96,26 @@ impl Cases {
 
     /// The column "Example" of the table "Turned down", but for rows that need more than one call.
     fn examples(&mut self) {
-        let moment = Moment { off: true, ..QUIET };
-        let claim = |id, n| Call::ChunkAllocN { id, n };
-        let adopt = |address, size| Call::AdoptOsBlock { address, size };
-        let release = |address, n| Call::ChunkRelease {
-            address,
-            n,
-            told: -1,
-            pending: false,
+        let (moment, rows) = example_rows();
+        let adopt = |block: u64| Call::AdoptOsBlock {
+            address: block * BASE,
+            size: CHUNK,
         };
-        let rows = [
-            (3, answer(1, true, 0)),
-            (4, claim(0, 0)),
-            (5, claim(-1, 1)),
-            (6, adopt(1_073_741_824, CHUNK)),
-            (7, release(1_073_741_825, 1)),
-            (8, release(1_207_959_552, 1)),
-            (9, release(BASE, 5)),
-            (10, claim(0, 5)),
-            (12, adopt(68_719_476_736, 34_393_292_800)),
-            (15, manage(1, CHUNK, true)),
-            (16, manage(CHUNK, 2 * CHUNK, false)),
-        ];
+        let claim = Call::ChunkAlloc { id: 0 };
         for (number, call) in rows {
             self.case("example", &example(), moment, call, number);
         }
         let mut short = example();
         short.stamps.truncate(32_767);
-        self.case("example", &short, QUIET, claim(0, 1), 1);
+        self.case("example", &short, QUIET, claim, 1);
         for (_, purging) in questions().into_iter().filter(|(kind, _)| *kind == 2) {
-            self.case("example", &purging, QUIET, claim(0, 1), 2);
+            self.case("example", &purging, QUIET, claim, 2);
         }
         let mut full = example();
         for block in 2..=32 {
-            full.state = full.call(QUIET, adopt(block * BASE, CHUNK)).state;
+            full.state = full.call(QUIET, adopt(block)).state;
         }
-        self.case("example", &full, QUIET, adopt(33 * BASE, CHUNK), 13);
+        self.case("example", &full, QUIET, adopt(33), 13);
     }
 
     /// Rows 11 and 14: a call, then no. The table is then as it was before the call.
@@ -335,6 +319,33 @@ impl Cases {
             self.case(what, table, moment, call, number);
         }
     }
+}
+
+/// The examples that are one call on the example's table, with arenas off.
+fn example_rows() -> (Moment, [(u32, Call); 11]) {
+    let claim = |id, n| Call::ChunkAllocN { id, n };
+    let adopt = |address, size| Call::AdoptOsBlock { address, size };
+    let release = |address, n| Call::ChunkRelease {
+        address,
+        n,
+        told: -1,
+        pending: false,
+    };
+    let moment = Moment { off: true, ..QUIET };
+    let rows = [
+        (3, answer(1, true, 0)),
+        (4, claim(0, 0)),
+        (5, claim(-1, 1)),
+        (6, adopt(1_073_741_824, CHUNK)),
+        (7, release(1_073_741_825, 1)),
+        (8, release(1_207_959_552, 1)),
+        (9, release(BASE, 5)),
+        (10, claim(0, 5)),
+        (12, adopt(68_719_476_736, 34_393_292_800)),
+        (15, manage(1, CHUNK, true)),
+        (16, manage(CHUNK, 2 * CHUNK, false)),
+    ];
+    (moment, rows)
 }
 
 fn answer(kind: u32, yes: bool, base: u64) -> Call {
@@ -559,3 +570,41 @@ const SOUND: &[Change] = &[
         purge(&mut t.state);
     }),
 ];
+
+#[cfg(test)]
+mod tests {
+    use super::super::document::{at_once, broken, has_run};
+    use super::*;
+    use sirqobal::Layer;
+
+    fn layer(table: &Table) -> Layer {
+        let records = table.records[..].try_into().unwrap();
+        Layer::from_table(records, table.stamps[..].try_into().unwrap(), table.state)
+    }
+
+    // The judge of the random sequences, against the document's own examples.
+    #[test]
+    fn judged_as_the_examples_say() {
+        let layer = layer(&example());
+        let (moment, rows) = example_rows();
+        for (number, call) in rows {
+            let at_once = at_once(&layer, &moment, &call);
+            assert_eq!(at_once, (number != 10).then_some(number), "{call:?}");
+        }
+        assert!(has_run(&layer, 0, 4) && !has_run(&layer, 0, 5));
+    }
+
+    #[test]
+    fn broken_as_the_tables_say() {
+        let is_broken = |(_, change): &Change| {
+            let mut table = example();
+            change(&mut table);
+            broken(&table.records, &table.stamps, &table.state, 4_096)
+        };
+        assert!(DAMAGES.iter().all(is_broken));
+        assert!(!SOUND.iter().any(is_broken));
+        for (_, open) in questions() {
+            assert!(!broken(&open.records, &open.stamps, &open.state, 4_096));
+        }
+    }
+}

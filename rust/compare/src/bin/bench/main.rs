@@ -14,10 +14,11 @@ use compare_common::{args, SEED};
 use std::fs;
 use std::time::Duration;
 
-const ROUNDS: usize = 15;
+/// Many and short, so that some are not disturbed by what else the machine does.
+const ROUNDS: usize = 75;
 
 /// The least time that a round takes, so that reading the clock does not count.
-const ROUND: Duration = Duration::from_millis(2);
+const ROUND: Duration = Duration::from_micros(400);
 
 #[derive(Clone, Copy, PartialEq, Eq)]
 pub enum Side {
@@ -89,24 +90,28 @@ fn one(cases: &[Box<dyn Case>], row: usize, side: u64, times: usize) {
 }
 
 fn time(case: &dyn Case) {
-    let (mut rust, mut ours) = (f64::MAX, f64::MAX);
+    let times = [Side::Rust, Side::Ours].map(|side| (side, enough(case, side)));
+    let mut best = [f64::MAX; 2];
     for _ in 0..ROUNDS {
-        rust = rust.min(round(case, Side::Rust));
-        ours = ours.min(round(case, Side::Ours));
+        for (best, (side, times)) in best.iter_mut().zip(times) {
+            let (spent, operations) = case.run(side, times);
+            *best = best.min(spent.as_nanos() as f64 / operations as f64);
+        }
     }
+    let [rust, ours] = best;
     let [n, answer] = case.detail();
     let numbers = [rust, ours, rust / ours].map(|number| format!("{number:.2}"));
     let [rust, ours, ratio] = numbers.each_ref().map(String::as_str);
     print([&case.name(), &n, &answer, rust, ours, ratio]);
 }
 
-/// The mean time of an operation, in nanoseconds.
-fn round(case: &dyn Case, side: Side) -> f64 {
+/// So many operations that they take a round.
+fn enough(case: &dyn Case, side: Side) -> usize {
     let mut times = 1;
     loop {
         let (spent, operations) = case.run(side, times);
         if spent >= ROUND {
-            return spent.as_nanos() as f64 / operations as f64;
+            return operations;
         }
         times = operations * 2;
     }

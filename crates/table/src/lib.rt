@@ -1,23 +1,23 @@
 // The lent table of records: the few functions that reach into the slice, and the one scan over it that
 // serves every question. All decisions on one record are made by value, in the crates below.
 ghost use mathlib.Core.Path.{_≡_};
-ghost use mathlib.Core.Bool.{true, _&&_};
-ghost use Prim.Native.Nat.{ℕ, _<_, _≤_};
+ghost use mathlib.Core.Bool.{true, not, _&&_};
+ghost use Prim.Native.Nat.{ℕ, _+_, _*_, _^_, _<_, _≤_};
 ghost use lib.Dec.{eqb, leb};
 ghost use lib.ListN.{length, getD, set};
 ghost use Rattle.runs.specs.declared.Found.the-variants.{At, Nothing};
 ghost use Rattle.runs.specs.Lowest.{all};
 ghost use Rattle.options.specs.Options.{pageSizeSound};
-ghost use Rattle.lookup.specs.Place.{bytesOf};
 ghost use Rattle.lookup.specs.Soundness.{soundArena};
 ghost use Rattle.layer.specs.World.{blank};
-ghost use Rattle.layer.specs.Table.{at, isAt, apart, soundLent};
+ghost use Rattle.layer.specs.Table.{at, isAt, overlaps, apart, soundLent};
 ghost use Rattle.judge.specs.declared.Query.the-variants.{Unsound, Meets};
-ghost use Rattle.judge.specs.Heads.{headOf};
+ghost use Rattle.judge.specs.Heads.{headOf, Covers};
 ghost use Rattle.judge.specs.Scan.{hit, scanOf};
 use arena::Arena;
 use judge::Head;
 use judge::Query;
+use judge::Span;
 use layer::State;
 use runs::Found;
 
@@ -171,31 +171,55 @@ fn is_at(f: Found) -> bool
     }
 }
 
-// What meets the range of a record.
-fn range_query(a: Arena, chunk_size: u64) -> Query
-    requires { ⌜ (a .chunks ≤ 1024) × («chunk_size» ≤ 4294967296) ⌝ }
-    ensures { λ r. ⌜ r ≡ Meets (a .base) (bytesOf «chunk_size» a) ⌝ }
+// Whether a scan found none.
+fn is_nothing(f: Found) -> bool
+    ensures { λ r. ⌜ r ≡ not (isAt f) ⌝ }
 {
-    let area = lookup::area_of(a, chunk_size);
-    Query::Meets {
-        base: area.base,
-        bytes: area.bytes,
+    match f {
+        Found::At(_) => false,
+        Found::Nothing => true,
     }
 }
 
-// Whether the first k arenas, each sound by itself, share no address.
+// What meets the range of a head.
+fn range_query(h: Head, chunk_size: u64) -> Query
+    requires { ⌜ h .base + h .chunks * «chunk_size» < 2 ^ 64 ⌝ }
+    ensures { λ r. ⌜ r ≡ Meets (h .base) (h .chunks * «chunk_size») ⌝ }
+{
+    Query::Meets {
+        base: h.base,
+        bytes: (h.chunks as u64) * chunk_size,
+    }
+}
+
+// Whether the range of a head meets none of the first j arenas. They lie in the span, so a range outside it
+// meets none, and they are not looked at.
+fn meets_none(records: &[Arena], j: usize, chunk_size: u64, s: Span, h: Head) -> bool
+    requires { ⌜ (0 < «chunk_size») × («chunk_size» ≤ 4294967296) × (h .base + h .chunks * «chunk_size» < 2 ^ 64) × Covers «chunk_size» s (now records) j ⌝ }
+    ensures { λ r. ⌜ r ≡ not (overlaps «chunk_size» (now (records .entry)) j (h .base) (h .chunks * «chunk_size»)) ⌝ }
+{
+    if judge::is_outside(s, h, chunk_size) {
+        return true;
+    }
+    let q = range_query(h, chunk_size);
+    let f = scan(records, j, chunk_size, q);
+    is_nothing(f)
+}
+
+// Whether the first k arenas, each sound by itself, share no address. Where they stand in ascending or in
+// descending order, each is looked at once.
 pub fn apart_table(records: &[Arena], k: usize, chunk_size: u64) -> bool
     requires { ⌜ (0 < «chunk_size») × («chunk_size» ≤ 4294967296) × (all (λ i. soundArena «chunk_size» (at (now records) i)) 0 k ≡ true) ⌝ }
     ensures { λ r. ⌜ r ≡ apart «chunk_size» (now (records .entry)) k ⌝ }
 {
+    let mut s = judge::no_span();
     let mut j = 0;
     while j < k {
-        let a = load_or(records, j);
-        let q = range_query(a, chunk_size);
-        let f = scan(records, j, chunk_size, q);
-        if is_at(f) {
+        let h = head_or(records, j);
+        if !meets_none(records, j, chunk_size, s, h) {
             return false;
         }
+        s = judge::span_with(s, h, chunk_size);
         j = j + 1;
     }
     true

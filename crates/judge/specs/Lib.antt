@@ -1,2 +1,3 @@
 pub mod Scan
 pub mod Heads
+pub mod Questions

@@ -12,6 +12,7 @@ ghost use Rattle.lookup.specs.Soundness.{soundRange};
 ghost use Rattle.layer.specs.Table.{isAt, meets, askedId, soundQuestion};
 ghost use Rattle.layer.specs.Registering.{grows};
 ghost use Rattle.layer.specs.Claiming.{eligible};
+ghost use Rattle.judge.specs.Questions.{aboutNone};
 ghost use Rattle.judge.specs.Scan.{hit};
 ghost use Rattle.judge.specs.Heads.{headed, asksMaps, headHit, outside};
 use arena::Arena;
@@ -308,6 +309,19 @@ pub fn span_with(s: Span, h: Head, chunk_size: u64) -> Span
 }
 
 // ---- the open question
+
+// Whether the question is about no arena: then no record is looked at for it.
+pub fn is_about_none(q: Question) -> bool
+    ensures { λ r. ⌜ r ≡ aboutNone q ⌝ }
+{
+    match q {
+        Question::Idle => true,
+        Question::Committing { .. } => false,
+        Question::Purging { .. } => false,
+        Question::Reserving { .. } => true,
+        Question::GivingBack { .. } => true,
+    }
+}
 
 // The arena that the question is about; 0 where it is about none.
 pub fn asked_id(q: Question) -> usize

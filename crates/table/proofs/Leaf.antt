@@ -1,5 +1,5 @@
 -- Functions that the crate above has no need of, each called in one step of a walk (`Calls.antt`):
---     load-pass (from a `&[Arena]`), store-step, found-step, nothing-step, hit-step, head-at-pass, no-head-step, head-or-pass, asks-step, hit-head-step, hits-at-pass, is-nothing-step, outside-step, meets-none-pass, no-span-step, span-step, is-at-step, range-step, unsound-step, lent-step, asked-step, question-step
+--     load-pass (from a `&[Arena]`), store-step, found-step, nothing-step, hit-step, head-at-pass, no-head-step, head-or-pass, asks-step, hit-head-step, hits-at-pass, is-nothing-step, outside-step, meets-none-pass, no-span-step, span-step, is-at-step, range-step, unsound-step, lent-step, about-step, asked-step, question-step
 -- Assumes `Given`, the callee's theorem, and that the table of calls is monotone under a frame.
 use mathlib.Core.Path.{_≡_, refl, sym, _∙_, ap, subst}
 use mathlib.Core.Bool.{Bool, true, not, _&&_}
@@ -45,6 +45,7 @@ use Rattle.judge.specs.declared.Query.{Query}
 use Rattle.judge.specs.declared.Query.the-variants.{Unsound, Meets}
 use Rattle.judge.specs.declared.Head.{Head}
 use Rattle.judge.specs.Scan.{hit}
+use Rattle.judge.specs.Questions.{aboutNone}
 use Rattle.judge.specs.Heads.{headOf, asksMaps, headHit, outside, Covers}
 use Rattle.judge.specs.declared.Span.{Span}
 use Rattle.judge.proofs.Span as P
@@ -71,6 +72,8 @@ use Rattle.table.proofs.lent_sound as lent′
 use Rattle.table.proofs.lent_sound.Symbol.{name as #table·lent-sound}
 use Rattle.judge.proofs.hit as hit′
 use Rattle.judge.proofs.hit.Symbol.{name as #judge·hit}
+use Rattle.judge.proofs.is_about_none as about′
+use Rattle.judge.proofs.is_about_none.Symbol.{name as #judge·is-about-none}
 use Rattle.judge.proofs.asked_id as asked′
 use Rattle.judge.proofs.asked_id.Symbol.{name as #judge·asked-id}
 use Rattle.judge.proofs.question_sound as question′
@@ -161,6 +164,9 @@ module _ {M : Type 1} (𝓤 : URA M) (H : Heap 𝓤) (A : Atoms 𝓤) (mem : Mem
 
   abbrev pub Lent : Contract 𝓤
   Lent = tripleOf 𝓤 H A lent′.signature (lent′.spec 𝓤 H A mem run)
+
+  abbrev pub About : Contract 𝓤
+  About = tripleOf 𝓤 H A about′.signature (about′.spec 𝓤 H A mem run)
 
   abbrev pub Asked : Contract 𝓤
   Asked = tripleOf 𝓤 H A asked′.signature (asked′.spec 𝓤 H A mem run)
@@ -384,3 +390,13 @@ module _ {M : Type 1} {𝓤 : URA M} {H : Heap 𝓤} {A : Atoms 𝓤} {K : Type 
       plain-call t site P.the-row (plain (λ _. P.the-row) ∷ plain (λ _. D.the-row) ∷ plain (λ _. u64) ∷ []) (yes, (yes, (yes, tt))) (span-with′.clauses 𝓤 H A mem run) known (s, (d, (S, tt))) (vs ∷ [], (vd ∷ [], (vint w64 S ∷ [], tt)))
       (owns-make 𝓤 H A (P.the-row ∷ D.the-row ∷ u64 ∷ []) (Ises (P.the-row ∷ D.the-row ∷ u64 ∷ [])) (LL.makes P.the-type P′.the-plain 𝓤 H A, (LL.makes D.the-type D′.the-plain 𝓤 H A, (uint-makes 𝓤 H A W w64, tt))) (s, (d, (S, tt))) (vs ∷ [], (vd ∷ [], (vint w64 S ∷ [], tt))) (gs, (gd, ((refl, fS), tt)))) tt (factI 𝓤 _ (emp 𝓤) (fit))
       (λ r. (r .lo ≤ s .lo) × (s .hi ≤ r .hi) × (r .lo ≤ d .base) × (d .base + d .chunks * S ≤ r .hi)) (λ r ws. id⊢ 𝓤 _) ops (λ v r is e. k v r is e)
+
+  pub about-step : K → Site K W Γ C E #judge·is-about-none xs G after → (mem : Memory → SProp 𝓤) (run : Routine → Fun 𝓤) → Triple 𝓤 (C #judge·is-about-none) (About 𝓤 H A mem run)
+      → (q : Question) (vq : Val) → Is N.the-row q (vq ∷ [])
+      → ((h : Item 𝓤) → Opds K W (h ∷ Γ) E xs (vq ∷ []))
+      → Seq K W (i ∷ Γ) (after (vbool (aboutNone q)))
+      → Seq K W (i ∷ Γ) G
+  about-step t site mem run known q vq gq ops k =
+      plain-call t site bool (plain (λ _. N.the-row) ∷ []) (yes, tt) (about′.clauses 𝓤 H A mem run) known (q, tt) (vq ∷ [], tt)
+      (owns-make 𝓤 H A (N.the-row ∷ []) (Ises (N.the-row ∷ [])) (EL.makes N.the-type N′.the-plain 𝓤 H A, tt) (q, tt) (vq ∷ [], tt) (gq, tt)) tt (id⊢ 𝓤 _)
+      (λ r. r ≡ aboutNone q) (λ r ws. id⊢ 𝓤 _) ops (λ v r is e. subst (λ (u : Val). Seq K W (i ∷ Γ) (after u)) (sym (ap only (bool-tells r (v ∷ []) is) ∙ ap vbool e)) k)

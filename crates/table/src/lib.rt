@@ -264,6 +264,9 @@ pub fn row_one(records: &[Arena], stamps: usize, state: State, page: u64, chunk_
     if !apart_table(records, state.count, chunk_size) {
         return false;
     }
+    if judge::is_about_none(state.question) {
+        return true;
+    }
     let id = judge::asked_id(state.question);
     let a = load_or(records, id);
     judge::question_sound(a, state.count, state.question)

@@ -10,8 +10,10 @@ use Rattle.runs.specs.Lowest.{all}
 use Rattle.runs.proofs.SearchLaws.{and-both, all-one}
 use Rattle.arena.specs.declared.Arena.{Arena}
 use Rattle.layer.specs.declared.Sweep.{Sweep}
-use Rattle.layer.specs.declared.Question.the-variants.{Committing, Purging}
+use Rattle.layer.specs.declared.Question.{Question}
+use Rattle.layer.specs.declared.Question.the-variants.{Idle, Committing, Purging, Reserving, GivingBack}
 use Rattle.layer.specs.Table.{soundQuestion}
+use Rattle.open_question.specs.Questions.{aboutNone}
 
 pub no-first : (x y : Bool) → x ≡ false → false ≡ x && y
 no-first true y e = absurd (true≢false e)
@@ -27,6 +29,16 @@ used-inside a start n e = leb-true (start + n) (a .chunks) (and-both (leb (start
 both-then : (x y z t : Bool) → x && y ≡ t → x && (y && z) ≡ t && z
 both-then true y z t e = ap (λ (b : Bool). b && z) e
 both-then false y z t e = ap (λ (b : Bool). b && z) e
+
+-- ---- a question about no arena
+
+pub none-sound : (a : Arena) (k : ℕ) (q : Question) → aboutNone q ≡ true → true ≡ soundQuestion a k q
+unfolding soundQuestion
+none-sound a k Idle e = refl
+none-sound a k (Committing id start n) e = absurd (true≢false (sym e))
+none-sound a k (Purging id chunk sweep) e = absurd (true≢false (sym e))
+none-sound a k (Reserving chunks bytes commit exclusive waiting) e = refl
+none-sound a k (GivingBack cause waiting) e = refl
 
 -- ---- a commit question
 

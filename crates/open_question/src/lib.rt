@@ -6,9 +6,23 @@ ghost use lib.Dec.{leb};
 ghost use Rattle.words.specs.Bits.{bitAt};
 ghost use Rattle.runs.specs.Lowest.{all};
 ghost use Rattle.layer.specs.Table.{askedId, soundQuestion};
+ghost use Rattle.open_question.specs.Questions.{aboutNone};
 use arena::Arena;
 use layer::Question;
 use runs::Found;
+
+// Whether the question is about no arena: then no record is looked at for it.
+pub fn is_about_none(q: Question) -> bool
+    ensures { λ r. ⌜ r ≡ aboutNone q ⌝ }
+{
+    match q {
+        Question::Idle => true,
+        Question::Committing { .. } => false,
+        Question::Purging { .. } => false,
+        Question::Reserving { .. } => true,
+        Question::GivingBack { .. } => true,
+    }
+}
 
 // The arena that the question is about; 0 where it is about none.
 pub fn asked_id(q: Question) -> usize

@@ -1,14 +1,12 @@
 // Parts by value of the scan over the lent records and of row 1: answers, queries, lengths.
 ghost use mathlib.Core.Path.{_≡_};
-ghost use mathlib.Core.Bool.{true, _&&_};
-ghost use Prim.Native.Nat.{_<_, _≤_};
+ghost use mathlib.Core.Bool.{true, not, _&&_};
+ghost use Prim.Native.Nat.{_+_, _*_, _^_, _<_, _≤_};
 ghost use lib.Dec.{eqb, leb};
 ghost use Rattle.runs.specs.declared.Found.the-variants.{At, Nothing};
 ghost use Rattle.options.specs.Options.{pageSizeSound};
-ghost use Rattle.lookup.specs.Place.{bytesOf};
 ghost use Rattle.layer.specs.Table.{isAt};
 ghost use Rattle.judge.specs.declared.Query.the-variants.{Unsound, Meets};
-use arena::Arena;
 use judge::Head;
 use judge::Query;
 use layer::State;
@@ -37,15 +35,24 @@ pub fn is_at(f: Found) -> bool
     }
 }
 
-// What meets the range of a record.
-pub fn range_query(a: Arena, chunk_size: u64) -> Query
-    requires { ⌜ (a .chunks ≤ 1024) × («chunk_size» ≤ 4294967296) ⌝ }
-    ensures { λ r. ⌜ r ≡ Meets (a .base) (bytesOf «chunk_size» a) ⌝ }
+// Whether a scan found none.
+pub fn is_nothing(f: Found) -> bool
+    ensures { λ r. ⌜ r ≡ not (isAt f) ⌝ }
 {
-    let area = lookup::area_of(a, chunk_size);
+    match f {
+        Found::At(_) => false,
+        Found::Nothing => true,
+    }
+}
+
+// What meets the range of a head.
+pub fn range_query(h: Head, chunk_size: u64) -> Query
+    requires { ⌜ h .base + h .chunks * «chunk_size» < 2 ^ 64 ⌝ }
+    ensures { λ r. ⌜ r ≡ Meets (h .base) (h .chunks * «chunk_size») ⌝ }
+{
     Query::Meets {
-        base: area.base,
-        bytes: area.bytes,
+        base: h.base,
+        bytes: (h.chunks as u64) * chunk_size,
     }
 }
 

@@ -1,9 +1,9 @@
 -- Functions that the crate above has no need of, each called in one step of a walk (`Calls.antt`):
---     load-pass (from a `&[Arena]`), store-step, found-step, nothing-step, hit-step, head-at-pass, no-head-step, head-or-pass, asks-step, hit-head-step, hits-at-pass, is-at-step, range-step, unsound-step, lent-step, asked-step, question-step
+--     load-pass (from a `&[Arena]`), store-step, found-step, nothing-step, hit-step, head-at-pass, no-head-step, head-or-pass, asks-step, hit-head-step, hits-at-pass, is-nothing-step, outside-step, meets-none-pass, no-span-step, span-step, is-at-step, range-step, unsound-step, lent-step, about-step, asked-step, question-step
 -- Assumes `Given`, the callee's theorem, and that the table of calls is monotone under a frame.
 use mathlib.Core.Path.{_≡_, refl, sym, _∙_, ap, subst}
-use mathlib.Core.Bool.{Bool, true, _&&_}
-use Prim.Native.Nat.{ℕ, _<_, _≤_, _^_}
+use mathlib.Core.Bool.{Bool, true, not, _&&_}
+use Prim.Native.Nat.{ℕ, _+_, _*_, _<_, _≤_, _^_}
 use mathlib.Core.List.{List, [], _∷_}
 use lib.Dec.{eqb, leb}
 use lib.ListN.{length, getD, set}
@@ -36,17 +36,20 @@ use Rattle.options.specs.Options.{pageSizeSound}
 use Rattle.arena.specs.declared.Arena.{Arena}
 use Rattle.arena.proofs.Arena as T
 use Rattle.arena.proofs.Arena.Laws as T′
-use Rattle.lookup.specs.Place.{bytesOf}
 use Rattle.layer.specs.World.{blank}
 use Rattle.layer.specs.declared.Question.{Question}
-use Rattle.layer.specs.Table.{at, isAt, askedId, soundQuestion}
+use Rattle.layer.specs.Table.{at, isAt, overlaps, askedId, soundQuestion}
 use Rattle.layer.proofs.Question as N
 use Rattle.layer.proofs.Question.Laws as N′
 use Rattle.judge.specs.declared.Query.{Query}
 use Rattle.judge.specs.declared.Query.the-variants.{Unsound, Meets}
 use Rattle.judge.specs.declared.Head.{Head}
 use Rattle.judge.specs.Scan.{hit}
-use Rattle.judge.specs.Heads.{headOf, asksMaps, headHit}
+use Rattle.open_question.specs.Questions.{aboutNone}
+use Rattle.judge.specs.Heads.{headOf, asksMaps, headHit, outside, Covers}
+use Rattle.judge.specs.declared.Span.{Span}
+use Rattle.judge.proofs.Span as P
+use Rattle.judge.proofs.Span.Laws as P′
 use Rattle.judge.proofs.Head as D
 use Rattle.judge.proofs.Head.Laws as D′
 use Rattle.judge.proofs.Query as Q
@@ -69,6 +72,8 @@ use Rattle.row_parts.proofs.lent_sound as lent′
 use Rattle.row_parts.proofs.lent_sound.Symbol.{name as #row-parts·lent-sound}
 use Rattle.judge.proofs.hit as hit′
 use Rattle.judge.proofs.hit.Symbol.{name as #judge·hit}
+use Rattle.open_question.proofs.is_about_none as about′
+use Rattle.open_question.proofs.is_about_none.Symbol.{name as #open-question·is-about-none}
 use Rattle.open_question.proofs.asked_id as asked′
 use Rattle.open_question.proofs.asked_id.Symbol.{name as #open-question·asked-id}
 use Rattle.open_question.proofs.question_sound as question′
@@ -85,6 +90,16 @@ use Rattle.judge.proofs.asks_maps as asks′
 use Rattle.judge.proofs.asks_maps.Symbol.{name as #judge·asks-maps}
 use Rattle.judge.proofs.hit_head as hit-head′
 use Rattle.judge.proofs.hit_head.Symbol.{name as #judge·hit-head}
+use Rattle.row_parts.proofs.is_nothing as is-nothing′
+use Rattle.row_parts.proofs.is_nothing.Symbol.{name as #row-parts·is-nothing}
+use Rattle.table.proofs.meets_none as meets-none′
+use Rattle.table.proofs.meets_none.Symbol.{name as #table·meets-none}
+use Rattle.judge.proofs.is_outside as outside′
+use Rattle.judge.proofs.is_outside.Symbol.{name as #judge·is-outside}
+use Rattle.judge.proofs.no_span as no-span′
+use Rattle.judge.proofs.no_span.Symbol.{name as #judge·no-span}
+use Rattle.judge.proofs.span_with as span-with′
+use Rattle.judge.proofs.span_with.Symbol.{name as #judge·span-with}
 use Rattle.table.proofs.Walk.{Loan, sliceOf, lent, shared}
 use Rattle.table.proofs.Calls.{Site, plain-call, pass-call, shr-call, mut-call}
 
@@ -123,6 +138,21 @@ module _ {M : Type 1} (𝓤 : URA M) (H : Heap 𝓤) (A : Atoms 𝓤) (mem : Mem
   abbrev pub HitsAt : Contract 𝓤
   HitsAt = tripleOf 𝓤 H A hits-at′.signature (hits-at′.spec 𝓤 H A mem run)
 
+  abbrev pub IsNothing : Contract 𝓤
+  IsNothing = tripleOf 𝓤 H A is-nothing′.signature (is-nothing′.spec 𝓤 H A mem run)
+
+  abbrev pub Outside : Contract 𝓤
+  Outside = tripleOf 𝓤 H A outside′.signature (outside′.spec 𝓤 H A mem run)
+
+  abbrev pub MeetsNone : Contract 𝓤
+  MeetsNone = tripleOf 𝓤 H A meets-none′.signature (meets-none′.spec 𝓤 H A mem run)
+
+  abbrev pub NoSpan : Contract 𝓤
+  NoSpan = tripleOf 𝓤 H A no-span′.signature (no-span′.spec 𝓤 H A mem run)
+
+  abbrev pub SpanWith : Contract 𝓤
+  SpanWith = tripleOf 𝓤 H A span-with′.signature (span-with′.spec 𝓤 H A mem run)
+
   abbrev pub IsAt : Contract 𝓤
   IsAt = tripleOf 𝓤 H A is-at′.signature (is-at′.spec 𝓤 H A mem run)
 
@@ -134,6 +164,9 @@ module _ {M : Type 1} (𝓤 : URA M) (H : Heap 𝓤) (A : Atoms 𝓤) (mem : Mem
 
   abbrev pub Lent : Contract 𝓤
   Lent = tripleOf 𝓤 H A lent′.signature (lent′.spec 𝓤 H A mem run)
+
+  abbrev pub About : Contract 𝓤
+  About = tripleOf 𝓤 H A about′.signature (about′.spec 𝓤 H A mem run)
 
   abbrev pub Asked : Contract 𝓤
   Asked = tripleOf 𝓤 H A asked′.signature (asked′.spec 𝓤 H A mem run)
@@ -202,14 +235,14 @@ module _ {M : Type 1} {𝓤 : URA M} {H : Heap 𝓤} {A : Atoms 𝓤} {K : Type 
       (λ r. r ≡ isAt f) (λ r ws. id⊢ 𝓤 _) ops (λ v r is e. subst (λ (u : Val). Seq K W (i ∷ Γ) (after u)) (sym (ap only (bool-tells r (v ∷ []) is) ∙ ap vbool e)) k)
 
   pub range-step : K → Site K W Γ C E #row-parts·range-query xs G after → (mem : Memory → SProp 𝓤) (run : Routine → Fun 𝓤) → Triple 𝓤 (C #row-parts·range-query) (Range 𝓤 H A mem run)
-      → (a : Arena) (va : Val) → Is T.the-row a (va ∷ []) → (S : ℕ) → S < 2 ^ 64 → a .chunks ≤ 1024 → S ≤ 4294967296
-      → ((h : Item 𝓤) → Opds K W (h ∷ Γ) E xs (va ∷ vint w64 S ∷ []))
-      → ((v : Val) → Is Q.the-row (Meets (a .base) (bytesOf S a)) (v ∷ []) → Seq K W (i ∷ Γ) (after v))
+      → (d : Head) (vd : Val) → Is D.the-row d (vd ∷ []) → (S : ℕ) → S < 2 ^ 64 → d .base + d .chunks * S < 2 ^ 64
+      → ((h : Item 𝓤) → Opds K W (h ∷ Γ) E xs (vd ∷ vint w64 S ∷ []))
+      → ((v : Val) → Is Q.the-row (Meets (d .base) (d .chunks * S)) (v ∷ []) → Seq K W (i ∷ Γ) (after v))
       → Seq K W (i ∷ Γ) G
-  range-step t site mem run known a va ga S fS few most ops k =
-      plain-call t site Q.the-row (plain (λ _. T.the-row) ∷ plain (λ _. u64) ∷ []) (yes, (yes, tt)) (range′.clauses 𝓤 H A mem run) known (a, (S, tt)) (va ∷ [], (vint w64 S ∷ [], tt))
-      (owns-make 𝓤 H A (T.the-row ∷ u64 ∷ []) (Ises (T.the-row ∷ u64 ∷ [])) (LL.makes T.the-type T′.the-plain 𝓤 H A, (uint-makes 𝓤 H A W w64, tt)) (a, (S, tt)) (va ∷ [], (vint w64 S ∷ [], tt)) (ga, ((refl, fS), tt))) tt (factI 𝓤 _ (emp 𝓤) (few, most))
-      (λ r. r ≡ Meets (a .base) (bytesOf S a)) (λ r ws. id⊢ 𝓤 _) ops (λ v r is e. k v (subst (λ (o : Query). Is Q.the-row o (v ∷ [])) e is))
+  range-step t site mem run known d vd gd S fS fit ops k =
+      plain-call t site Q.the-row (plain (λ _. D.the-row) ∷ plain (λ _. u64) ∷ []) (yes, (yes, tt)) (range′.clauses 𝓤 H A mem run) known (d, (S, tt)) (vd ∷ [], (vint w64 S ∷ [], tt))
+      (owns-make 𝓤 H A (D.the-row ∷ u64 ∷ []) (Ises (D.the-row ∷ u64 ∷ [])) (LL.makes D.the-type D′.the-plain 𝓤 H A, (uint-makes 𝓤 H A W w64, tt)) (d, (S, tt)) (vd ∷ [], (vint w64 S ∷ [], tt)) (gd, ((refl, fS), tt))) tt (factI 𝓤 _ (emp 𝓤) (fit))
+      (λ r. r ≡ Meets (d .base) (d .chunks * S)) (λ r ws. id⊢ 𝓤 _) ops (λ v r is e. k v (subst (λ (o : Query). Is Q.the-row o (v ∷ [])) e is))
 
   pub unsound-step : K → Site K W Γ C E #row-parts·unsound-query xs G after → (mem : Memory → SProp 𝓤) (run : Routine → Fun 𝓤) → Triple 𝓤 (C #row-parts·unsound-query) (Unsounds 𝓤 H A mem run)
       → ((h : Item 𝓤) → Opds K W (h ∷ Γ) E xs ([]))
@@ -308,3 +341,62 @@ module _ {M : Type 1} {𝓤 : URA M} {H : Heap 𝓤} {A : Atoms 𝓤} {K : Type 
       pass-call t site T.the-row L bool (plain (λ _. usize) ∷ plain (λ _. Q.the-row) ∷ plain (λ _. u64) ∷ []) (yes, (yes, (yes, tt))) (hits-at′.clauses 𝓤 H A mem run) known ys (λ _. (j, (q, (S, tt)))) (λ _. (vint w64 j ∷ [], (vq ∷ [], (vint w64 S ∷ [], tt))))
       (λ _. owns-make 𝓤 H A (usize ∷ Q.the-row ∷ u64 ∷ []) (Ises (usize ∷ Q.the-row ∷ u64 ∷ [])) (uint-makes 𝓤 H A W w64, (EL.makes Q.the-type Q′.the-plain 𝓤 H A, (uint-makes 𝓤 H A W w64, tt))) (j, (q, (S, tt))) (vint w64 j ∷ [], (vq ∷ [], (vint w64 S ∷ [], tt))) ((refl, fj), (gq, ((refl, fS), tt)))) (λ _ _. tt) (λ _ _. factI 𝓤 _ (emp 𝓤) (pos, most))
       (λ r. r ≡ hit S q j (at ys j)) (λ _ _ r ws. id⊢ 𝓤 _) (λ h _. ops h) (λ v r is e. subst (λ (u : Val). Seq K W ((‵ (shared T.the-row L ys) ⊛ i) ∷ Γ) (after u)) (sym (ap only (bool-tells r (v ∷ []) is) ∙ ap vbool e)) k)
+
+  pub is-nothing-step : K → Site K W Γ C E #row-parts·is-nothing xs G after → (mem : Memory → SProp 𝓤) (run : Routine → Fun 𝓤) → Triple 𝓤 (C #row-parts·is-nothing) (IsNothing 𝓤 H A mem run)
+      → (f : Found) (vf : Val) → Is F.the-row f (vf ∷ [])
+      → ((h : Item 𝓤) → Opds K W (h ∷ Γ) E xs (vf ∷ []))
+      → Seq K W (i ∷ Γ) (after (vbool (not (isAt f))))
+      → Seq K W (i ∷ Γ) G
+  is-nothing-step t site mem run known f vf gf ops k =
+      plain-call t site bool (plain (λ _. F.the-row) ∷ []) (yes, tt) (is-nothing′.clauses 𝓤 H A mem run) known (f, tt) (vf ∷ [], tt)
+      (owns-make 𝓤 H A (F.the-row ∷ []) (Ises (F.the-row ∷ [])) (EL.makes F.the-type F′.the-plain 𝓤 H A, tt) (f, tt) (vf ∷ [], tt) (gf, tt)) tt (id⊢ 𝓤 _)
+      (λ r. r ≡ not (isAt f)) (λ r ws. id⊢ 𝓤 _) ops (λ v r is e. subst (λ (u : Val). Seq K W (i ∷ Γ) (after u)) (sym (ap only (bool-tells r (v ∷ []) is) ∙ ap vbool e)) k)
+
+  pub outside-step : K → Site K W Γ C E #judge·is-outside xs G after → (mem : Memory → SProp 𝓤) (run : Routine → Fun 𝓤) → Triple 𝓤 (C #judge·is-outside) (Outside 𝓤 H A mem run)
+      → (s : Span) (vs : Val) → Is P.the-row s (vs ∷ []) → (d : Head) (vd : Val) → Is D.the-row d (vd ∷ []) → (S : ℕ) → S < 2 ^ 64 → d .base + d .chunks * S < 2 ^ 64
+      → ((h : Item 𝓤) → Opds K W (h ∷ Γ) E xs (vs ∷ vd ∷ vint w64 S ∷ []))
+      → Seq K W (i ∷ Γ) (after (vbool (outside S s d)))
+      → Seq K W (i ∷ Γ) G
+  outside-step t site mem run known s vs gs d vd gd S fS fit ops k =
+      plain-call t site bool (plain (λ _. P.the-row) ∷ plain (λ _. D.the-row) ∷ plain (λ _. u64) ∷ []) (yes, (yes, (yes, tt))) (outside′.clauses 𝓤 H A mem run) known (s, (d, (S, tt))) (vs ∷ [], (vd ∷ [], (vint w64 S ∷ [], tt)))
+      (owns-make 𝓤 H A (P.the-row ∷ D.the-row ∷ u64 ∷ []) (Ises (P.the-row ∷ D.the-row ∷ u64 ∷ [])) (LL.makes P.the-type P′.the-plain 𝓤 H A, (LL.makes D.the-type D′.the-plain 𝓤 H A, (uint-makes 𝓤 H A W w64, tt))) (s, (d, (S, tt))) (vs ∷ [], (vd ∷ [], (vint w64 S ∷ [], tt))) (gs, (gd, ((refl, fS), tt)))) tt (factI 𝓤 _ (emp 𝓤) (fit))
+      (λ r. r ≡ outside S s d) (λ r ws. id⊢ 𝓤 _) ops (λ v r is e. subst (λ (u : Val). Seq K W (i ∷ Γ) (after u)) (sym (ap only (bool-tells r (v ∷ []) is) ∙ ap vbool e)) k)
+
+  pub meets-none-pass : K → Site K W Γ C E #table·meets-none xs G after → (mem : Memory → SProp 𝓤) (run : Routine → Fun 𝓤) → Triple 𝓤 (C #table·meets-none) (MeetsNone 𝓤 H A mem run)
+      → (L : Loan) (ys : List Arena) → (j : ℕ) → j < 2 ^ 64 → (S : ℕ) → S < 2 ^ 64 → (s : Span) (vs : Val) → Is P.the-row s (vs ∷ []) → (d : Head) (vd : Val) → Is D.the-row d (vd ∷ []) → 0 < S → S ≤ 4294967296 → d .base + d .chunks * S < 2 ^ 64 → Covers S s ys j
+      → ((h : Item 𝓤) → Opds K W (h ∷ Γ) E xs (sliceOf L ∷ vint w64 j ∷ vint w64 S ∷ vs ∷ vd ∷ []))
+      → Seq K W ((‵ (shared T.the-row L ys) ⊛ i) ∷ Γ) (after (vbool (not (overlaps S ys j (d .base) (d .chunks * S)))))
+      → Seq K W ((‵ (shared T.the-row L ys) ⊛ i) ∷ Γ) G
+  meets-none-pass t site mem run known L ys j fj S fS s vs gs d vd gd pos most fit cov ops k =
+      pass-call t site T.the-row L bool (plain (λ _. usize) ∷ plain (λ _. u64) ∷ plain (λ _. P.the-row) ∷ plain (λ _. D.the-row) ∷ []) (yes, (yes, (yes, (yes, tt)))) (meets-none′.clauses 𝓤 H A mem run) known ys (λ _. (j, (S, (s, (d, tt))))) (λ _. (vint w64 j ∷ [], (vint w64 S ∷ [], (vs ∷ [], (vd ∷ [], tt)))))
+      (λ _. owns-make 𝓤 H A (usize ∷ u64 ∷ P.the-row ∷ D.the-row ∷ []) (Ises (usize ∷ u64 ∷ P.the-row ∷ D.the-row ∷ [])) (uint-makes 𝓤 H A W w64, (uint-makes 𝓤 H A W w64, (LL.makes P.the-type P′.the-plain 𝓤 H A, (LL.makes D.the-type D′.the-plain 𝓤 H A, tt)))) (j, (S, (s, (d, tt)))) (vint w64 j ∷ [], (vint w64 S ∷ [], (vs ∷ [], (vd ∷ [], tt)))) ((refl, fj), ((refl, fS), (gs, (gd, tt))))) (λ _ _. tt) (λ _ _. factI 𝓤 _ (emp 𝓤) (pos, most, fit, cov))
+      (λ r. r ≡ not (overlaps S ys j (d .base) (d .chunks * S))) (λ _ _ r ws. id⊢ 𝓤 _) (λ h _. ops h) (λ v r is e. subst (λ (u : Val). Seq K W ((‵ (shared T.the-row L ys) ⊛ i) ∷ Γ) (after u)) (sym (ap only (bool-tells r (v ∷ []) is) ∙ ap vbool e)) k)
+
+  pub no-span-step : K → Site K W Γ C E #judge·no-span xs G after → (mem : Memory → SProp 𝓤) (run : Routine → Fun 𝓤) → Triple 𝓤 (C #judge·no-span) (NoSpan 𝓤 H A mem run)
+      → ((h : Item 𝓤) → Opds K W (h ∷ Γ) E xs ([]))
+      → ((v : Val) (r : Span) → Is P.the-row r (v ∷ []) → Seq K W (i ∷ Γ) (after v))
+      → Seq K W (i ∷ Γ) G
+  no-span-step t site mem run known ops k =
+      plain-call t site P.the-row ([]) tt (no-span′.clauses 𝓤 H A mem run) known tt tt
+      (id⊢ 𝓤 _) tt (id⊢ 𝓤 _)
+      (λ r. (r .lo ≡ 18446744073709551615) × (r .hi ≡ 0)) (λ r ws. id⊢ 𝓤 _) ops (λ v r is e. k v r is)
+
+  pub span-step : K → Site K W Γ C E #judge·span-with xs G after → (mem : Memory → SProp 𝓤) (run : Routine → Fun 𝓤) → Triple 𝓤 (C #judge·span-with) (SpanWith 𝓤 H A mem run)
+      → (s : Span) (vs : Val) → Is P.the-row s (vs ∷ []) → (d : Head) (vd : Val) → Is D.the-row d (vd ∷ []) → (S : ℕ) → S < 2 ^ 64 → d .base + d .chunks * S < 2 ^ 64
+      → ((h : Item 𝓤) → Opds K W (h ∷ Γ) E xs (vs ∷ vd ∷ vint w64 S ∷ []))
+      → ((v : Val) (r : Span) → Is P.the-row r (v ∷ []) → (r .lo ≤ s .lo) × (s .hi ≤ r .hi) × (r .lo ≤ d .base) × (d .base + d .chunks * S ≤ r .hi) → Seq K W (i ∷ Γ) (after v))
+      → Seq K W (i ∷ Γ) G
+  span-step t site mem run known s vs gs d vd gd S fS fit ops k =
+      plain-call t site P.the-row (plain (λ _. P.the-row) ∷ plain (λ _. D.the-row) ∷ plain (λ _. u64) ∷ []) (yes, (yes, (yes, tt))) (span-with′.clauses 𝓤 H A mem run) known (s, (d, (S, tt))) (vs ∷ [], (vd ∷ [], (vint w64 S ∷ [], tt)))
+      (owns-make 𝓤 H A (P.the-row ∷ D.the-row ∷ u64 ∷ []) (Ises (P.the-row ∷ D.the-row ∷ u64 ∷ [])) (LL.makes P.the-type P′.the-plain 𝓤 H A, (LL.makes D.the-type D′.the-plain 𝓤 H A, (uint-makes 𝓤 H A W w64, tt))) (s, (d, (S, tt))) (vs ∷ [], (vd ∷ [], (vint w64 S ∷ [], tt))) (gs, (gd, ((refl, fS), tt)))) tt (factI 𝓤 _ (emp 𝓤) (fit))
+      (λ r. (r .lo ≤ s .lo) × (s .hi ≤ r .hi) × (r .lo ≤ d .base) × (d .base + d .chunks * S ≤ r .hi)) (λ r ws. id⊢ 𝓤 _) ops (λ v r is e. k v r is e)
+
+  pub about-step : K → Site K W Γ C E #open-question·is-about-none xs G after → (mem : Memory → SProp 𝓤) (run : Routine → Fun 𝓤) → Triple 𝓤 (C #open-question·is-about-none) (About 𝓤 H A mem run)
+      → (q : Question) (vq : Val) → Is N.the-row q (vq ∷ [])
+      → ((h : Item 𝓤) → Opds K W (h ∷ Γ) E xs (vq ∷ []))
+      → Seq K W (i ∷ Γ) (after (vbool (aboutNone q)))
+      → Seq K W (i ∷ Γ) G
+  about-step t site mem run known q vq gq ops k =
+      plain-call t site bool (plain (λ _. N.the-row) ∷ []) (yes, tt) (about′.clauses 𝓤 H A mem run) known (q, tt) (vq ∷ [], tt)
+      (owns-make 𝓤 H A (N.the-row ∷ []) (Ises (N.the-row ∷ [])) (EL.makes N.the-type N′.the-plain 𝓤 H A, tt) (q, tt) (vq ∷ [], tt) (gq, tt)) tt (id⊢ 𝓤 _)
+      (λ r. r ≡ aboutNone q) (λ r ws. id⊢ 𝓤 _) ops (λ v r is e. subst (λ (u : Val). Seq K W (i ∷ Γ) (after u)) (sym (ap only (bool-tells r (v ∷ []) is) ∙ ap vbool e)) k)

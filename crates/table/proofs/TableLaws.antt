@@ -1,25 +1,30 @@
 -- What row 1 says of the table, as the code tests it: by scans. S is the size of a chunk. Assumes nothing.
-use mathlib.Core.Path.{_≡_, refl, sym, ap, _∙_}
-use mathlib.Core.Bool.{Bool, true, false, not, cond, _&&_}
+use mathlib.Core.Path.{_≡_, refl, sym, ap, subst, _∙_}
+use mathlib.Core.Bool.{Bool, true, false, not, cond, _&&_, _||_}
 use mathlib.Core.List.{List, [], _∷_}
-use Prim.Native.Nat.{ℕ, zero, suc, _<_, _≤_}
+use Prim.Native.Nat.{ℕ, zero, suc, _+_, _*_, _^_, _<_, _≤_}
 use native.Mathlib.Omega.{arith}
 use native.Mathlib.Nat.{not-suc-le-zero, le-of-suc-le-suc}
-use lib.Dec.{eqb, leb}
+use borrow.Author.Tests.{ltb-true, ltb-false, leb-true}
+use lib.Dec.{eqb, leb, ltb}
 use lib.ListN.{length, getD}
+use Rattle.runs.specs.declared.Found.{Found}
 use Rattle.runs.specs.declared.Found.the-variants.{At}
 use Rattle.runs.specs.Lowest.{all, least}
-use Rattle.runs.proofs.LowestLaws.{all-free-of}
+use Rattle.runs.proofs.LowestLaws.{all-free-of, least-none}
 use Rattle.options.specs.Options.{pageSizeSound}
 use Rattle.arena.specs.declared.Arena.{Arena}
-use Rattle.lookup.specs.Place.{bytesOf}
+use Rattle.lookup.specs.Place.{bytesOf, endOf}
 use Rattle.lookup.specs.Soundness.{soundArena}
 use Rattle.lookup.proofs.SoundLaws.{arena-facts}
 use Rattle.layer.specs.declared.State.{State}
-use Rattle.layer.specs.Table.{at, isAt, overlaps, apart, askedId, soundQuestion, soundTable, soundLent}
-use Rattle.judge.specs.declared.Query.{Query}
+use Rattle.layer.specs.Table.{at, isAt, meets, overlaps, apart, askedId, soundQuestion, soundTable, soundLent}
+use Rattle.judge.specs.declared.Head.{Head}
+use Rattle.judge.specs.declared.Span.{Span}
 use Rattle.judge.specs.declared.Query.the-variants.{Unsound, Meets}
 use Rattle.judge.specs.Scan.{hit, scanOf}
+use Rattle.judge.specs.Heads.{outside, Covers}
+use Rattle.ranges.proofs.RangeLaws.{no-meeting}
 
 -- ---- sound records
 
@@ -43,18 +48,52 @@ module _ (S : ℕ) (l : List Arena) where
   pub few-at : (k : ℕ) → all (λ i. soundArena S (at l i)) 0 k ≡ true → (j : ℕ) → j < k → at l j .chunks ≤ 1024
   few-at k e j m = arena-facts S (at l j) (all-free-of (λ i. soundArena S (at l i)) 0 k e j (omega arith) (omega arith)) .range .few
 
+  pub ends-at : (k : ℕ) → all (λ i. soundArena S (at l i)) 0 k ≡ true → (j : ℕ) → j < k → at l j .base + at l j .chunks * S < 2 ^ 64
+  ends-at k e j m = arena-facts S (at l j) (all-free-of (λ i. soundArena S (at l i)) 0 k e j (omega arith) (omega arith)) .range .ends
+
   -- ---- apart
 
-  abbrev pub meeting : ℕ → Query
-  meeting j = Meets (at l j .base) (bytesOf S (at l j))
-
   -- record j meets none before it
-  abbrev pub clears : ℕ → Bool
-  clears j = not (isAt (scanOf S l j (meeting j)))
+  abbrev pub alone : ℕ → Bool
+  alone j = not (overlaps S l j (at l j .base) (at l j .chunks * S))
 
-  pub apart-is : (k : ℕ) → all clears 0 k ≡ apart S l k
-  unfolding apart overlaps scanOf hit
+  pub apart-is : (k : ℕ) → all alone 0 k ≡ apart S l k
+  unfolding apart bytesOf
   apart-is k = refl
+
+  -- a scan for what meets the range
+  pub scan-overlaps : (j base bytes : ℕ) → not (isAt (scanOf S l j (Meets base bytes))) ≡ not (overlaps S l j base bytes)
+  unfolding overlaps scanOf hit
+  scan-overlaps j base bytes = refl
+
+  -- any span covers no arena
+  pub covers-none : (s : Span) → Covers S s l 0
+  covers-none s i h = absurd (not-suc-le-zero h)
+
+  -- one arena more, in a span that covers the others and it
+  pub covers-more : (s r : Span) (j : ℕ) → Covers S s l j → (r .lo ≤ s .lo) × (s .hi ≤ r .hi) × (r .lo ≤ at l j .base) × (at l j .base + at l j .chunks * S ≤ r .hi) → Covers S r l (j + 1)
+  unfolding endOf bytesOf
+  covers-more s r j c e i h = go (ltb i j) refl
+    where
+      go : (b : Bool) → ltb i j ≡ b → (r .lo ≤ at l i .base) × (at l i .base + at l i .chunks * S ≤ r .hi)
+      go true t = let d = c i (ltb-true i j t) in (omega (arith, d .0, e .0), omega (arith, d .1, e .1))
+      go false t =
+          let same : i ≡ j = omega (arith, h, ltb-false i j t) in
+          subst (λ (m : ℕ). (r .lo ≤ at l m .base) × (at l m .base + at l m .chunks * S ≤ r .hi)) (sym same) (e .2, e .3)
+
+  -- a range outside the span meets none of them
+  pub outside-alone : (s : Span) (h : Head) (j : ℕ) → Covers S s l j → outside S s h ≡ true → true ≡ not (overlaps S l j (h .base) (h .chunks * S))
+  unfolding overlaps outside endOf bytesOf
+  outside-alone s h j c e =
+      sym (ap (λ (f : Found). not (isAt f)) (least-none (λ i. meets S (at l i) (h .base) (h .chunks * S)) 0 j
+      (λ i _ k. sym (no-meeting S (at l i) (h .base) (h .chunks * S) (λ m. apart-there i (c i (omega (arith, k))) (m .before) (m .after) (leb (s .hi) (h .base)) refl)))))
+    where
+      apart-there : (i : ℕ) → (s .lo ≤ at l i .base) × (at l i .base + at l i .chunks * S ≤ s .hi) → h .base < at l i .base + at l i .chunks * S → at l i .base < h .base + h .chunks * S
+          → (b : Bool) → leb (s .hi) (h .base) ≡ b → ⊥
+      apart-there i d m₁ m₂ true t = omega (arith, d .1, m₁, leb-true (s .hi) (h .base) t)
+      apart-there i d m₁ m₂ false t =
+          let below = leb-true (h .base + h .chunks * S) (s .lo) (sym (ap (λ (b : Bool). b || leb (h .base + h .chunks * S) (s .lo)) t) ∙ e) in
+          omega (arith, d .0, m₂, below)
 
   -- ---- row 1
 

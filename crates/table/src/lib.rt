@@ -1,18 +1,19 @@
 // The lent table of records: the few functions that reach into the slice, and the one scan over it that
 // serves every question. All decisions on one record are made by value, in the crates below.
 ghost use mathlib.Core.Path.{_≡_};
-ghost use mathlib.Core.Bool.{true};
-ghost use Prim.Native.Nat.{_<_, _≤_};
+ghost use mathlib.Core.Bool.{true, not};
+ghost use Prim.Native.Nat.{_+_, _*_, _^_, _<_, _≤_};
 ghost use lib.ListN.{length, getD, set};
 ghost use Rattle.runs.specs.Lowest.{all};
 ghost use Rattle.lookup.specs.Soundness.{soundArena};
 ghost use Rattle.layer.specs.World.{blank};
-ghost use Rattle.layer.specs.Table.{at, apart, soundLent};
-ghost use Rattle.judge.specs.Heads.{headOf};
+ghost use Rattle.layer.specs.Table.{at, overlaps, apart, soundLent};
+ghost use Rattle.judge.specs.Heads.{headOf, Covers};
 ghost use Rattle.judge.specs.Scan.{hit, scanOf};
 use arena::Arena;
 use judge::Head;
 use judge::Query;
+use judge::Span;
 use layer::State;
 use runs::Found;
 
@@ -143,19 +144,34 @@ pub fn scan(records: &[Arena], k: usize, chunk_size: u64, q: Query) -> Found
 
 // ---- row 1
 
-// Whether the first k arenas, each sound by itself, share no address.
+// Whether the range of a head meets none of the first j arenas. They lie in the span, so a range outside it
+// meets none, and they are not looked at.
+fn meets_none(records: &[Arena], j: usize, chunk_size: u64, s: Span, h: Head) -> bool
+    requires { ⌜ (0 < «chunk_size») × («chunk_size» ≤ 4294967296) × (h .base + h .chunks * «chunk_size» < 2 ^ 64) × Covers «chunk_size» s (now records) j ⌝ }
+    ensures { λ r. ⌜ r ≡ not (overlaps «chunk_size» (now (records .entry)) j (h .base) (h .chunks * «chunk_size»)) ⌝ }
+{
+    if judge::is_outside(s, h, chunk_size) {
+        return true;
+    }
+    let q = row_parts::range_query(h, chunk_size);
+    let f = scan(records, j, chunk_size, q);
+    row_parts::is_nothing(f)
+}
+
+// Whether the first k arenas, each sound by itself, share no address. Where they stand in ascending or in
+// descending order, each is looked at once.
 pub fn apart_table(records: &[Arena], k: usize, chunk_size: u64) -> bool
     requires { ⌜ (0 < «chunk_size») × («chunk_size» ≤ 4294967296) × (all (λ i. soundArena «chunk_size» (at (now records) i)) 0 k ≡ true) ⌝ }
     ensures { λ r. ⌜ r ≡ apart «chunk_size» (now (records .entry)) k ⌝ }
 {
+    let mut s = judge::no_span();
     let mut j = 0;
     while j < k {
-        let a = load_or(records, j);
-        let q = row_parts::range_query(a, chunk_size);
-        let f = scan(records, j, chunk_size, q);
-        if row_parts::is_at(f) {
+        let h = head_or(records, j);
+        if !meets_none(records, j, chunk_size, s, h) {
             return false;
         }
+        s = judge::span_with(s, h, chunk_size);
         j = j + 1;
     }
     true
@@ -176,6 +192,9 @@ pub fn row_one(records: &[Arena], stamps: usize, state: State, page: u64, chunk_
     }
     if !apart_table(records, state.count, chunk_size) {
         return false;
+    }
+    if open_question::is_about_none(state.question) {
+        return true;
     }
     let id = open_question::asked_id(state.question);
     let a = load_or(records, id);

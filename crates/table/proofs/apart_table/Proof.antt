@@ -1,7 +1,7 @@
 -- `table::apart_table` meets its contract: a walk of its MIR, by hand. A loop over a `&[Arena]`, with a `return` in a turn. All that it knows of its callees is that each meets its contract.
 -- Assumes nothing.
 use mathlib.Core.Path.{_≡_, refl, sym, ap, subst, _∙_}
-use Prim.Native.Nat.{ℕ, zero, suc, _+_, _<_, _≤_, _^_}
+use Prim.Native.Nat.{ℕ, zero, suc, _+_, _*_, _<_, _≤_, _^_}
 use native.Mathlib.Omega.{arith}
 use native.Mathlib.Nat.{add-zero, zero-add, lt-suc-self, lt-irrefl}
 use mathlib.Core.Bool.{Bool, true, false, not, cond}
@@ -20,12 +20,12 @@ use prog.Wp.{Heap, Env, Wp, WpFn, Tables, atReturn, afterSeq, afterBlock, afterT
 use ghost.Atoms.{Atoms}
 use sound.WpLaws.{fmOf}
 use types.Kit.{Given, Item, Sq, prop, runs, atRet, anyQ, put, ‵, _⊛_, _$_, ! }
-use types.Run.{look, init, store, forget, again, exec, assigns, assigns-last, Below, stop, from, load, lit, true-lit, false-lit, of-opd, bin, and-then, no-more, land, returns, returns-within, params1, pass1, pass0, free0}
+use types.Run.{look, init, store, forget, again, exec, assigns, assigns-last, Below, stop, from, load, lit, true-lit, false-lit, of-opd, un, bin, and-then, no-more, land, returns, returns-within, params1, pass1, pass0, free0}
 use contract.Monad.{Fun, factI}
 use contract.Running.{givenOf, tables, tablesOf}
 use denote.Builtin.{bool, usize, u64}
-use denote.Enum.Laws as EL
 use denote.Exit.{yes}
+use denote.Laws.{Is}
 use denote.Memory.{pointee}
 use denote.Plain.{uint-vals, uint-tells, bool-makes}
 use denote.Signature.{plain}
@@ -34,96 +34,104 @@ use denote.Struct.Laws as LL
 use denote.Triple.Spec.{Meets, tripleOf}
 use denote.Triple.Statement.{Triple}
 use denote.Triple.Table.{entered, cited}
-use Rattle.runs.specs.declared.Found.{Found}
-use Rattle.runs.proofs.Found as F
-use Rattle.runs.proofs.Found.Laws as F′
+use Rattle.runs.specs.Lowest.{all}
 use Rattle.arena.specs.declared.Arena.{Arena}
 use Rattle.arena.proofs.Arena as T
-use Rattle.arena.proofs.Arena.Laws as T′
-use Rattle.judge.specs.declared.Query.{Query}
-use Rattle.judge.proofs.Query as Q
-use Rattle.judge.proofs.Query.Laws as Q′
+use Rattle.lookup.specs.Soundness.{soundArena}
+use Rattle.layer.specs.Table.{at, apart}
+use Rattle.judge.specs.declared.Head.{Head}
+use Rattle.judge.specs.declared.Span.{Span}
+use Rattle.judge.specs.Heads.{headOf, Covers}
+use Rattle.judge.proofs.Head as D
+use Rattle.judge.proofs.Head.Laws as D′
+use Rattle.judge.proofs.Span as P
+use Rattle.judge.proofs.Span.Laws as P′
 use Rattle.table.proofs.Walk.{Loan, Known, shared, sliceOf}
 use Rattle.table.proofs.Locals.{Blocks, envOf, rooms, enters, used, room, if-else, tests, whiles}
 use Rattle.table.proofs.Calls.{in-seq}
 use Rattle.table.proofs.Frame.{DoneS, finishS, shr-meets}
-use Rattle.table.proofs.load_or.Symbol as load-def
-use Rattle.table.proofs.load_or.Symbol.{name as #table·load-or}
-use Rattle.table.proofs.load_or.Met as load-thm
-use Rattle.runs.specs.Lowest.{all}
-use Rattle.lookup.specs.Soundness.{soundArena}
-use Rattle.layer.specs.Table.{at, isAt, apart}
-use Rattle.judge.specs.Scan.{scanOf}
-use Rattle.table.proofs.TableLaws.{few-at, meeting, clears, apart-is}
-use Rattle.table.proofs.Leaf.{Range, IsAt, range-step, is-at-step}
-use Rattle.table.proofs.Steps.{LoadOr, Scan, load-or-pass, scan-pass}
-use Rattle.row_parts.proofs.range_query.Symbol as range-def
-use Rattle.row_parts.proofs.range_query.Symbol.{name as #row-parts·range-query}
-use Rattle.row_parts.proofs.range_query.Met as range-thm
-use Rattle.table.proofs.scan.Symbol as scan-def
-use Rattle.table.proofs.scan.Symbol.{name as #table·scan}
-use Rattle.table.proofs.scan.Met as scan-thm
-use Rattle.row_parts.proofs.is_at.Symbol as is-at-def
-use Rattle.row_parts.proofs.is_at.Symbol.{name as #row-parts·is-at}
-use Rattle.row_parts.proofs.is_at.Met as is-at-thm
+use Rattle.table.proofs.TableLaws.{ends-at, alone, apart-is, covers-none, covers-more}
+use Rattle.table.proofs.Leaf.{NoSpan, HeadOr, MeetsNone, SpanWith, no-span-step, head-or-pass, meets-none-pass, span-step}
+use Rattle.judge.proofs.no_span.Symbol as span-def
+use Rattle.judge.proofs.no_span.Symbol.{name as #judge·no-span}
+use Rattle.judge.proofs.no_span.Met as span-thm
+use Rattle.table.proofs.head_or.Symbol as head-def
+use Rattle.table.proofs.head_or.Symbol.{name as #table·head-or}
+use Rattle.table.proofs.head_or.Met as head-thm
+use Rattle.table.proofs.meets_none.Symbol as none-def
+use Rattle.table.proofs.meets_none.Symbol.{name as #table·meets-none}
+use Rattle.table.proofs.meets_none.Met as none-thm
+use Rattle.judge.proofs.span_with.Symbol as with-def
+use Rattle.judge.proofs.span_with.Symbol.{name as #judge·span-with}
+use Rattle.judge.proofs.span_with.Met as with-thm
 use Rattle.table.proofs.apart_table.Key.{name as #table·apart-table}
 use Rattle.table.proofs.apart_table as apart′
 use Rattle.table.proofs.apart_table.Statement as stated
 use Rattle.table.proofs.apart_table.Code as code
-use Rattle.table.proofs.apart_table.Code.Mir.{turn-1, t-3}
+use Rattle.table.proofs.apart_table.Code.Mir.{turn-1, t-4}
 
 -- ---- the loop's facts, with no walk
 abbrev pred : ℕ → ℕ
 pred zero = zero
 pred (suc k) = k
 
-cond-stops : (b x : Bool) → Holds b → cond (not b) x false ≡ false
-cond-stops true x h = refl
-cond-stops false x h = absurd h
+cond-stops : (b x : Bool) → Holds (not b) → cond b x false ≡ false
+cond-stops true x h = absurd h
+cond-stops false x h = refl
 
-cond-goes : (b x : Bool) → Holds (not b) → cond (not b) x false ≡ x
-cond-goes true x h = absurd h
-cond-goes false x h = refl
+cond-goes : (b x : Bool) → Holds (not (not b)) → cond b x false ≡ x
+cond-goes true x h = refl
+cond-goes false x h = absurd h
 
 module _ (S : ℕ) (ys : List Arena) (n : ℕ) where
-  abbrev met : ℕ → Bool
-  met j = isAt (scanOf S ys j (meeting S ys j))
-
-  -- k records are left, from i on, and each before i meets none before it
+  -- k records are left, from i on; each before i meets none before it, and lies in the span, whose machine value is kept with it
   pub record St : Type 0 where
     pub k : ℕ
     pub i : ℕ
+    pub span : Span
+    pub mach : Val
+    pub is : Is P.the-row span (mach ∷ [])
     pub ends : i + k ≡ n
-    pub clear : all (clears S ys) i k ≡ apart S ys n
+    pub clear : all (alone S ys) i k ≡ apart S ys n
+    pub covers : Covers S span ys i
 
-  fewer : (k i : ℕ) → i + k ≡ n → i < n → (pred k < k) × ((i + 1 + pred k ≡ n) × (all (clears S ys) i k ≡ cond (not (met i)) (all (clears S ys) (i + 1) (pred k)) false))
+  fewer : (k i : ℕ) → i + k ≡ n → i < n → (pred k < k) × ((i + 1 + pred k ≡ n) × (all (alone S ys) i k ≡ cond (alone S ys i) (all (alone S ys) (i + 1) (pred k)) false))
   unfolding all
   fewer zero i e l = absurd (lt-irrefl n (subst (λ (m : ℕ). m < n) (sym (add-zero i) ∙ e) l))
   fewer (suc k) i e l =
       let up : suc i ≡ i + 1 = omega arith in
-      (lt-suc-self k, (omega (arith, e), ap (λ (j : ℕ). cond (not (met i)) (all (clears S ys) j k) false) up))
+      (lt-suc-self k, (omega (arith, e), ap (λ (j : ℕ). cond (alone S ys i) (all (alone S ys) j k) false) up))
 
-  none : (i : ℕ) → all (clears S ys) i 0 ≡ true
+  none : (i : ℕ) → all (alone S ys) i 0 ≡ true
   unfolding all
   none i = refl
 
-  abbrev next : (s : St) → s .i < n → Holds (not (met (s .i))) → St
-  next s l h = record { k = pred (s .k); i = s .i + 1; ends = fewer (s .k) (s .i) (s .ends) l .1 .0; clear = sym (cond-goes (met (s .i)) _ h) ∙ sym (fewer (s .k) (s .i) (s .ends) l .1 .1) ∙ s .clear }
+  abbrev next : (s : St) → s .i < n → Holds (not (not (alone S ys (s .i)))) → (r : Span) (v : Val) → Is P.the-row r (v ∷ []) → Covers S r ys (s .i + 1) → St
+  next s l h r v g c =
+      record {
+        k = pred (s .k);
+        i = s .i + 1;
+        span = r;
+        mach = v;
+        is = g;
+        ends = fewer (s .k) (s .i) (s .ends) l .1 .0;
+        clear = sym (cond-goes (alone S ys (s .i)) _ h) ∙ sym (fewer (s .k) (s .i) (s .ends) l .1 .1) ∙ s .clear;
+        covers = c;
+      }
 
-  here : (s : St) → s .i < n → Holds (met (s .i)) → false ≡ apart S ys n
-  here s l h = sym (cond-stops (met (s .i)) _ h) ∙ sym (fewer (s .k) (s .i) (s .ends) l .1 .1) ∙ s .clear
+  here : (s : St) → s .i < n → Holds (not (alone S ys (s .i))) → false ≡ apart S ys n
+  here s l h = sym (cond-stops (alone S ys (s .i)) _ h) ∙ sym (fewer (s .k) (s .i) (s .ends) l .1 .1) ∙ s .clear
 
   last : (s : St) → Holds (not (ltb (s .i) n)) → true ≡ apart S ys n
   last s h =
       let done : s .k ≡ 0 = omega (arith, s .ends, nltb→le (s .i) n h) in
-      sym (none (s .i)) ∙ subst (λ (k : ℕ). all (clears S ys) (s .i) k ≡ apart S ys n) done (s .clear)
+      sym (none (s .i)) ∙ subst (λ (k : ℕ). all (alone S ys) (s .i) k ≡ apart S ys n) done (s .clear)
 
 abbrev slice : Ty
 slice = sliceTy (tyRef (named 0) imm (pointee (T.the-row .written)))
 
 module _ {M : Type 1} (𝓤 : URA M) (H : Heap 𝓤) (A : Atoms 𝓤) (W : Given 𝓤 H A) (mem : Memory → SProp 𝓤) (run : Routine → Fun 𝓤) (𝓣 : Tables 𝓤 H)
-    (known-load : Triple 𝓤 (𝓣 .C #table·load-or) (LoadOr 𝓤 H A mem run)) (known-range : Triple 𝓤 (𝓣 .C #row-parts·range-query) (Range 𝓤 H A mem run))
-    (known-scan : Triple 𝓤 (𝓣 .C #table·scan) (Scan 𝓤 H A mem run)) (known-is-at : Triple 𝓤 (𝓣 .C #row-parts·is-at) (IsAt 𝓤 H A mem run)) where
+    (known-span : Triple 𝓤 (𝓣 .C #judge·no-span) (NoSpan 𝓤 H A mem run)) (known-head : Triple 𝓤 (𝓣 .C #table·head-or) (HeadOr 𝓤 H A mem run)) (known-none : Triple 𝓤 (𝓣 .C #table·meets-none) (MeetsNone 𝓤 H A mem run)) (known-with : Triple 𝓤 (𝓣 .C #judge·span-with) (SpanWith 𝓤 H A mem run)) where
   module _ (κ : Lft) (q : Share) (γ : GName) (b o : ℕ) (ys : List Arena) (n S : ℕ) where
     abbrev L : Loan
     L = record { κ = κ; q = q; γ = γ; b = b; o = o; n = length ys }
@@ -141,42 +149,38 @@ module _ {M : Type 1} (𝓤 : URA M) (H : Heap 𝓤) (A : Atoms 𝓤) (W : Given
       abbrev En : Env 𝓤 H
       En = envOf 𝓤 H (code.function .locals) bs
 
-      -- the invariant: the slice, and in the locals k, chunk_size and j. The others hold nothing
+      -- the invariant: the slice, and in the locals k, chunk_size, s and j. The others hold nothing
       abbrev I : State → List (Item 𝓤)
-      I s = put 𝓤 H A 9 (‵ (fat fullShare (tyInt w64) (bs .1 .1 .1 .1 .0) 0 (vint w64 (s .i))))
+      I s = put 𝓤 H A 11 (‵ (fat fullShare (tyInt w64) (bs .1 .1 .1 .1 .1 .0) 0 (vint w64 (s .i)))) (put 𝓤 H A 9 (‵ (fat fullShare P′.mir (bs .1 .1 .1 .1 .0) 0 (s .mach)))
           (put 𝓤 H A 7 (‵ (fat fullShare (tyInt w64) (bs .1 .1 .1 .0) 0 (vint w64 S))) (put 𝓤 H A 5 (‵ (fat fullShare (tyInt w64) (bs .1 .1 .0) 0 (vint w64 n))) (put 𝓤 H A 3 (‵ (fat fullShare slice (bs .1 .0) 0 (sliceOf L)))
-          ((‵ (shared T.the-row L ys) ⊛ ‵ ftrue) ∷ rooms 𝓤 H (code.function .locals) bs))))
+          ((‵ (shared T.the-row L ys) ⊛ ‵ ftrue) ∷ rooms 𝓤 H (code.function .locals) bs)))))
 
-      turn : (s : State) → Sq W (I s) (runs (𝓣 .C) (𝓣 .Λ) En turn-1 (anyQ (afterTurn 𝓤 H (Below 𝓤 H A (λ (u v : State). u .k < v .k) I s) (afterBlock 𝓤 H (afterSeq 𝓤 H (Wp 𝓤 H (𝓣 .C) (𝓣 .Λ) En t-3 (atReturn 𝓤 H En Post)) (atReturn 𝓤 H En Post))))))
+      turn : (s : State) → Sq W (I s) (runs (𝓣 .C) (𝓣 .Λ) En turn-1 (anyQ (afterTurn 𝓤 H (Below 𝓤 H A (λ (u v : State). u .k < v .k) I s) (afterBlock 𝓤 H (afterSeq 𝓤 H (Wp 𝓤 H (𝓣 .C) (𝓣 .Λ) En t-4 (atReturn 𝓤 H En Post)) (atReturn 𝓤 H En Post))))))
       unfolding afterTurn
       turn s =
-          let a : Arena = at ys (s .i) in
-          let qu : Query = meeting S ys (s .i) in
-          let fo : Found = scanOf S ys (s .i) qu in
-          assigns ! (bin ! (load ! (from ! (stop !)) (look ! 9 refl)) (load ! (from ! (stop !)) (look ! 5 refl)) tt) (from ! (stop !)) (init ! 17 refl (tt, tt)) $
-          tests ! (load ! (from ! (stop !)) (look ! 17 refl))
+          let d : Head = headOf (at ys (s .i)) in
+          assigns ! (bin ! (load ! (from ! (stop !)) (look ! 11 refl)) (load ! (from ! (stop !)) (look ! 5 refl)) tt) (from ! (stop !)) (init ! 15 refl (tt, tt)) $
+          tests ! (load ! (from ! (stop !)) (look ! 15 refl))
           (λ h. let lt : s .i < n = ltb→lt (s .i) n h in
           let fi : s .i < 2 ^ 64 = omega (arith, lt, fn) in
-          load-or-pass ! (in-seq ! (fmOf 𝓤 H (W .laws) 𝓣)) mem run known-load L ys (s .i) fi (λ _. and-then ! (load ! (from ! (stop !)) (look ! 3 refl)) (and-then ! (load ! (from ! (stop !)) (look ! 9 refl)) (no-more !))) (λ va ga.
-          land ! (from ! (stop !)) (init ! 11 refl (LL.lawful T.the-type T′.the-laws 𝓤 H A W .typed a (va ∷ []) ga .0)) $
-          range-step ! (in-seq ! (fmOf 𝓤 H (W .laws) 𝓣)) mem run known-range a va ga S fS (few-at S ys n ok (s .i) lt) hi
-          (λ _. and-then ! (load ! (from ! (stop !)) (look ! 11 refl)) (and-then ! (load ! (from ! (stop !)) (look ! 7 refl)) (no-more !))) (λ vq gq.
-          land ! (from ! (stop !)) (init ! 13 refl (EL.lawful Q.the-type Q′.the-laws 𝓤 H A W tt .typed qu (vq ∷ []) gq .0)) $
-          scan-pass ! (in-seq ! (fmOf 𝓤 H (W .laws) 𝓣)) mem run known-scan L ys (s .i) fi S fS qu vq gq lo hi
-          (λ _. and-then ! (load ! (from ! (stop !)) (look ! 3 refl)) (and-then ! (load ! (from ! (stop !)) (look ! 9 refl)) (and-then ! (load ! (from ! (stop !)) (look ! 7 refl)) (and-then ! (load ! (from ! (stop !)) (look ! 13 refl)) (no-more !))))) (λ vf gf.
-          land ! (from ! (stop !)) (init ! 15 refl (EL.lawful F.the-type F′.the-laws 𝓤 H A W tt .typed fo (vf ∷ []) gf .0)) $
-          is-at-step ! (in-seq ! (fmOf 𝓤 H (W .laws) 𝓣)) mem run known-is-at fo vf gf (λ _. and-then ! (load ! (from ! (stop !)) (look ! 15 refl)) (no-more !)) (
-          land ! (from ! (stop !)) (init ! 19 refl (tt, tt)) $
-          if-else ! (load ! (from ! (stop !)) (look ! 19 refl))
+          let fit : d .base + d .chunks * S < 2 ^ 64 = ends-at S ys n ok (s .i) lt in
+          head-or-pass ! (in-seq ! (fmOf 𝓤 H (W .laws) 𝓣)) mem run known-head L ys (s .i) fi (λ _. and-then ! (load ! (from ! (stop !)) (look ! 3 refl)) (and-then ! (load ! (from ! (stop !)) (look ! 11 refl)) (no-more !))) (λ vd gd.
+          land ! (from ! (stop !)) (init ! 13 refl (LL.lawful D.the-type D′.the-laws 𝓤 H A W .typed d (vd ∷ []) gd .0)) $
+          meets-none-pass ! (in-seq ! (fmOf 𝓤 H (W .laws) 𝓣)) mem run known-none L ys (s .i) fi S fS (s .span) (s .mach) (s .is) d vd gd lo hi fit (s .covers) (λ _. and-then ! (load ! (from ! (stop !)) (look ! 3 refl)) (and-then ! (load ! (from ! (stop !)) (look ! 11 refl)) (and-then ! (load ! (from ! (stop !)) (look ! 7 refl)) (and-then ! (load ! (from ! (stop !)) (look ! 9 refl)) (and-then ! (load ! (from ! (stop !)) (look ! 13 refl)) (no-more !)))))) (
+          land ! (from ! (stop !)) (store ! 15 refl (tt, tt)) $
+          assigns ! (un ! (load ! (from ! (stop !)) (look ! 15 refl)) tt) (from ! (stop !)) (init ! 17 refl (tt, tt)) $
+          if-else ! (load ! (from ! (stop !)) (look ! 17 refl))
           (λ w. assigns ! (of-opd ! (false-lit !)) (from ! (stop !)) (init ! 1 refl (tt, tt)) $
-          returns-within ! Post refl (look ! 1 refl) $ used ! $ used ! $ used ! $ used ! $ used ! $ used ! $ used ! $ used ! $ used ! $ used ! $ free0 ! $
+          returns-within ! Post refl (look ! 1 refl) $ used ! $ used ! $ used ! $ used ! $ used ! $ used ! $ used ! $ used ! $ used ! $ free0 ! $
           finishS 𝓤 H A T.the-row L bool ys χ W (‵ ftrue) (vbool false) false refl (here S ys n s lt w))
-          (λ w. assigns-last ! (bin ! (load ! (from ! (stop !)) (look ! 9 refl)) (lit ! tt) (record { fits = omega (arith, lt, fn) })) (from ! (stop !)) (store ! 9 refl (tt, record { fits = omega (arith, lt, fn) })) $
-          forget ! 11 refl $ forget ! 13 refl $ forget ! 15 refl $ forget ! 17 refl $ forget ! 19 refl $
-          again ! (λ (u v : State). u .k < v .k) I s (next S ys n s lt w) (fewer S ys n (s .k) (s .i) (s .ends) lt .0)))))))
-          (λ h. exec ! (𝓣 .C) (𝓣 .Λ) En t-3 (atRet En Post) $
+          (λ w. span-step ! (in-seq ! (fmOf 𝓤 H (W .laws) 𝓣)) mem run known-with (s .span) (s .mach) (s .is) d vd gd S fS fit (λ _. and-then ! (load ! (from ! (stop !)) (look ! 9 refl)) (and-then ! (load ! (from ! (stop !)) (look ! 13 refl)) (and-then ! (load ! (from ! (stop !)) (look ! 7 refl)) (no-more !)))) (λ vr r gr e.
+          land ! (from ! (stop !)) (store ! 9 refl (LL.lawful P.the-type P′.the-laws 𝓤 H A W .typed r (vr ∷ []) gr .0)) $
+          assigns-last ! (bin ! (load ! (from ! (stop !)) (look ! 11 refl)) (lit ! tt) (record { fits = omega (arith, lt, fn) })) (from ! (stop !)) (store ! 11 refl (tt, record { fits = omega (arith, lt, fn) })) $
+          forget ! 13 refl $ forget ! 15 refl $ forget ! 17 refl $
+          again ! (λ (u v : State). u .k < v .k) I s (next S ys n s lt w r vr gr (covers-more S ys (s .span) r (s .i) (s .covers) e)) (fewer S ys n (s .k) (s .i) (s .ends) lt .0))))))
+          (λ h. exec ! (𝓣 .C) (𝓣 .Λ) En t-4 (atRet En Post) $
           assigns ! (of-opd ! (true-lit !)) (from ! (stop !)) (init ! 1 refl (tt, tt)) $
-          returns ! (look ! 1 refl) $ used ! $ used ! $ used ! $ used ! $ used ! $ room ! $ room ! $ room ! $ used ! $ room ! $ free0 ! $
+          returns ! (look ! 1 refl) $ used ! $ used ! $ used ! $ used ! $ used ! $ used ! $ room ! $ used ! $ room ! $ free0 ! $
           finishS 𝓤 H A T.the-row L bool ys χ W (‵ ftrue) (vbool true) true refl (last S ys n s h))
 
     walk : Known T.the-row L ys → n < 2 ^ 64 → S < 2 ^ 64 → 0 < S → S ≤ 4294967296 → all (λ m. soundArena S (at ys m)) 0 n ≡ true
@@ -184,8 +188,10 @@ module _ {M : Type 1} (𝓤 : URA M) (H : Heap 𝓤) (A : Atoms 𝓤) (W : Given
     walk kn fn fS lo hi ok =
         enters ! code.function (λ bs. params1 ! $
         pass1 ! (init ! 3 refl (tt, (tt, (record { fits = kn .1 .0 }, tt)))) $ pass1 ! (init ! 5 refl (tt, record { fits = fn })) $ pass1 ! (init ! 7 refl (tt, record { fits = fS })) $ pass0 ! $
-        assigns ! (of-opd ! (lit ! tt)) (from ! (stop !)) (init ! 9 refl (tt, record { fits = lit< tt })) $
-        whiles ! 𝓣 (I kn fn fS lo hi ok bs) (λ (s : State). s .k) (turn kn fn fS lo hi ok bs) (record { k = n; i = 0; ends = zero-add n; clear = apart-is S ys n }))
+        no-span-step ! (in-seq ! (fmOf 𝓤 H (W .laws) 𝓣)) mem run known-span (λ _. no-more !) (λ vr r gr.
+        land ! (from ! (stop !)) (init ! 9 refl (LL.lawful P.the-type P′.the-laws 𝓤 H A W .typed r (vr ∷ []) gr .0)) $
+        assigns ! (of-opd ! (lit ! tt)) (from ! (stop !)) (init ! 11 refl (tt, record { fits = lit< tt })) $
+        whiles ! 𝓣 (I kn fn fS lo hi ok bs) (λ (s : State). s .k) (turn kn fn fS lo hi ok bs) (record { k = n; i = 0; span = r; mach = vr; is = gr; ends = zero-add n; clear = apart-is S ys n; covers = covers-none S ys r })))
 
   apart-meets : Meets 𝓤 H A apart′.signature (WpFn 𝓤 H (𝓣 .C) (𝓣 .Λ) code.function) (apart′.spec 𝓤 H A mem run)
   apart-meets = shr-meets 𝓤 H A W T.the-row bool (plain (λ _. usize) ∷ plain (λ _. u64) ∷ []) (yes, (yes, tt)) (apart′.clauses 𝓤 H A mem run)
@@ -201,7 +207,7 @@ apart-table-spec 𝓤 H 𝓜 𝓖 𝓡 =
     entered 𝓤 H (tripleOf 𝓤 H (𝓖 .A) apart′.signature (apart′.spec 𝓤 H (𝓖 .A) (𝓜 .mem) (𝓡 .run)))
     (tables 𝓤 H 𝓜 𝓡 code.env .C) (tables 𝓤 H 𝓜 𝓡 code.env .Λ) #table·apart-table code.function (code.unfolded 𝓤 H 𝓜 𝓡)
     (apart-meets 𝓤 H (𝓖 .A) (givenOf 𝓤 H 𝓜 𝓖) (𝓜 .mem) (𝓡 .run) (tablesOf 𝓤 H 𝓜 (tables 𝓤 H 𝓜 𝓡 code.env))
-    (cited 𝓤 H (LoadOr 𝓤 H (𝓖 .A) (𝓜 .mem) (𝓡 .run)) 𝓜 𝓡 code.env #table·load-or load-def.routine code.calls-table·load-or (load-thm.met 𝓤 H 𝓜 𝓖 𝓡))
-    (cited 𝓤 H (Range 𝓤 H (𝓖 .A) (𝓜 .mem) (𝓡 .run)) 𝓜 𝓡 code.env #row-parts·range-query range-def.routine code.calls-row-parts·range-query (range-thm.met 𝓤 H 𝓜 𝓖 𝓡))
-    (cited 𝓤 H (Scan 𝓤 H (𝓖 .A) (𝓜 .mem) (𝓡 .run)) 𝓜 𝓡 code.env #table·scan scan-def.routine code.calls-table·scan (scan-thm.met 𝓤 H 𝓜 𝓖 𝓡))
-    (cited 𝓤 H (IsAt 𝓤 H (𝓖 .A) (𝓜 .mem) (𝓡 .run)) 𝓜 𝓡 code.env #row-parts·is-at is-at-def.routine code.calls-row-parts·is-at (is-at-thm.met 𝓤 H 𝓜 𝓖 𝓡)))
+    (cited 𝓤 H (NoSpan 𝓤 H (𝓖 .A) (𝓜 .mem) (𝓡 .run)) 𝓜 𝓡 code.env #judge·no-span span-def.routine code.calls-judge·no-span (span-thm.met 𝓤 H 𝓜 𝓖 𝓡))
+    (cited 𝓤 H (HeadOr 𝓤 H (𝓖 .A) (𝓜 .mem) (𝓡 .run)) 𝓜 𝓡 code.env #table·head-or head-def.routine code.calls-table·head-or (head-thm.met 𝓤 H 𝓜 𝓖 𝓡))
+    (cited 𝓤 H (MeetsNone 𝓤 H (𝓖 .A) (𝓜 .mem) (𝓡 .run)) 𝓜 𝓡 code.env #table·meets-none none-def.routine code.calls-table·meets-none (none-thm.met 𝓤 H 𝓜 𝓖 𝓡))
+    (cited 𝓤 H (SpanWith 𝓤 H (𝓖 .A) (𝓜 .mem) (𝓡 .run)) 𝓜 𝓡 code.env #judge·span-with with-def.routine code.calls-judge·span-with (with-thm.met 𝓤 H 𝓜 𝓖 𝓡)))

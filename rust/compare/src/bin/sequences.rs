@@ -4,7 +4,7 @@
 //! compared with document 01 by a table of cases first.
 
 use compare_common::layer::counts::Counts;
-use compare_common::layer::draw::{Drawn, Player};
+use compare_common::layer::draw::{turn, Player};
 use compare_common::layer::pair::Pair;
 use compare_common::layer::smallest::smallest;
 use compare_common::layer::{table, Step};
@@ -57,20 +57,10 @@ fn sequence(rng: &mut Rng, calls: u64, counts: &mut Counts) -> Result<(), String
     let mut pair = Pair::holding(&start);
     let mut steps: Vec<Step> = Vec::new();
     for _ in 0..calls {
-        let (moment, call) = player.call(rng, &pair.ours);
-        let mut drawn = Drawn {
-            player: &mut player,
-            rng,
-            given: Vec::new(),
-        };
-        let agreed = pair.call(moment, call, &mut drawn);
-        let given = drawn.given;
+        let (step, agreed) = turn(&mut player, rng, &mut pair);
+        let (moment, call) = (step.moment, step.call);
         let last = steps.last().map_or(moment.ns, |step| step.moment.ns);
-        steps.push(Step {
-            moment,
-            call,
-            given,
-        });
+        steps.push(step);
         let Ok(agreed) = agreed else {
             return Err(smallest(&start, &steps));
         };

@@ -2,8 +2,8 @@
 //! and ids are mostly chosen by what stands in the table, so that calls meet.
 
 use super::document::arenas;
-use super::pair::Source;
-use super::{inside, Given, Moment, CHUNK, PAGES};
+use super::pair::{Agreed, Pair, Source};
+use super::{inside, Given, Moment, Step, CHUNK, PAGES};
 use crate::rng::Rng;
 use sirqobal::lent::{Arena, Call, State, RECORDS, STAMPS};
 use sirqobal::{Ask, Layer};
@@ -413,11 +413,28 @@ impl Player {
     }
 }
 
+/// Draws one call and makes it on both sides, with drawn answers to what it asks.
+pub fn turn(player: &mut Player, rng: &mut Rng, pair: &mut Pair) -> (Step, Result<Agreed, String>) {
+    let (moment, call) = player.call(rng, &pair.ours);
+    let mut drawn = Drawn {
+        player,
+        rng,
+        given: Vec::new(),
+    };
+    let agreed = pair.call(moment, call, &mut drawn);
+    let step = Step {
+        moment,
+        call,
+        given: drawn.given,
+    };
+    (step, agreed)
+}
+
 /// Answers by chance, and keeps what was answered.
-pub struct Drawn<'a> {
-    pub player: &'a mut Player,
-    pub rng: &'a mut Rng,
-    pub given: Vec<Given>,
+struct Drawn<'a> {
+    player: &'a mut Player,
+    rng: &'a mut Rng,
+    given: Vec<Given>,
 }
 
 impl Source for Drawn<'_> {

@@ -57,8 +57,8 @@ use Rattle.adopt_os_block.proofs.block_query as block-query′
 use Rattle.adopt_os_block.proofs.block_query.Symbol.{name as #adopt-os-block·block-query}
 use Rattle.adopt_os_block.proofs.growth_query as growth-query′
 use Rattle.adopt_os_block.proofs.growth_query.Symbol.{name as #adopt-os-block·growth-query}
-use Rattle.table.proofs.Walk.{Loan, sliceOf, lent}
-use Rattle.table.proofs.Calls.{Site, plain-call, shr-call}
+use Rattle.records.proofs.Walk.{Loan, sliceOf, lent}
+use Rattle.records.proofs.Calls.{Site, plain-call, shr-call}
 
 -- the contracts that a walk cites
 module _ {M : Type 1} (𝓤 : URA M) (H : Heap 𝓤) (A : Atoms 𝓤) (mem : Memory → SProp 𝓤) (run : Routine → Fun 𝓤) where

@@ -64,7 +64,7 @@ fn adopt_writing(
     let g = growth_query(address, size, CHUNK);
     let growing = table::scan(records, k, CHUNK, g);
     let j = entry::stored_at(growing);
-    let a = table::load_or(records, j);
+    let a = records::load_or(records, j);
     let d = adopting::adopt_core(ok, state, address, size, met, growing, a, CHUNK);
     adopted(growing, d)
 }

@@ -46,8 +46,8 @@ use Rattle.commit_answer.proofs.CommitLaws.{Room}
 use Rattle.purge_answer.specs.Part.{Purgeable, purgeLeft}
 use Rattle.memory_answer.specs.Part.{Reservable, memoryLeft}
 use Rattle.answer.specs.Call.{goesFor, ownReply, Answerable, answerOn}
-use Rattle.table.proofs.Walk.{Loan, sliceOf, lent}
-use Rattle.table.proofs.Calls.{Site, plain-call, mut-call, mut2-call}
+use Rattle.records.proofs.Walk.{Loan, sliceOf, lent}
+use Rattle.records.proofs.Calls.{Site, plain-call, mut-call, mut2-call}
 use Rattle.answer.proofs.goes_commit as goes-commit′
 use Rattle.answer.proofs.goes_commit.Symbol.{name as #answer·goes-commit}
 use Rattle.answer.proofs.goes_purge as goes-purge′

@@ -47,7 +47,7 @@ use Rattle.arena_area.proofs.place_of as place-of′
 use Rattle.arena_area.proofs.place_of.Symbol.{name as #arena-area·place-of}
 use Rattle.arena_area.proofs.area_reply as area-reply′
 use Rattle.arena_area.proofs.area_reply.Symbol.{name as #arena-area·area-reply}
-use Rattle.table.proofs.Calls.{Site, plain-call}
+use Rattle.records.proofs.Calls.{Site, plain-call}
 
 -- the contracts that a walk cites
 module _ {M : Type 1} (𝓤 : URA M) (H : Heap 𝓤) (A : Atoms 𝓤) (mem : Memory → SProp 𝓤) (run : Routine → Fun 𝓤) where

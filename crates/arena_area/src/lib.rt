@@ -125,6 +125,6 @@ pub fn arena_area(
     let page = entry::page_of(settings);
     let ok = table::row_one(records, stamps.len(), state, page, CHUNK);
     let j = place_of(id);
-    let a = table::load_or(records, j);
+    let a = records::load_or(records, j);
     area_reply(ok, state, j, a, CHUNK)
 }

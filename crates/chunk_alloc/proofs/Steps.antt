@@ -67,8 +67,8 @@ use Rattle.chunk_alloc.proofs.reply_of as reply′
 use Rattle.chunk_alloc.proofs.reply_of.Symbol.{name as #chunk-alloc·reply-of}
 use Rattle.chunk_alloc.proofs.claim_at as claim′
 use Rattle.chunk_alloc.proofs.claim_at.Symbol.{name as #chunk-alloc·claim-at}
-use Rattle.table.proofs.Walk.{Loan, sliceOf, lent}
-use Rattle.table.proofs.Calls.{Site, plain-call, mut2-call}
+use Rattle.records.proofs.Walk.{Loan, sliceOf, lent}
+use Rattle.records.proofs.Calls.{Site, plain-call, mut2-call}
 
 -- what a claim makes of the record, and its reply
 abbrev pub served : Arena → Reply → Served

@@ -55,10 +55,10 @@ fn claim_at(
     let q = serves_query(id, n);
     let f = table::scan(records, k, CHUNK, q);
     let i = entry::stored_at(f);
-    let a = table::load_or(records, i);
+    let a = records::load_or(records, i);
     let d = claims::claim_core(ok, state, settings, id, n, commits, f, a, CHUNK);
     let b = arena_of(d);
-    table::store_if(records, i, b);
+    records::store_if(records, i, b);
     reply_of(d)
 }
 

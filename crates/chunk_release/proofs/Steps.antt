@@ -1,4 +1,4 @@
--- The functions that `chunk_release` calls beside the table's, each called in one step of its walk (`Rattle.table.proofs.Calls`). A value that is plain data is passed with its machine value and that the one is the other's.
+-- The functions that `chunk_release` calls beside the table's, each called in one step of its walk (`Rattle.records.proofs.Calls`). A value that is plain data is passed with its machine value and that the one is the other's.
 -- Assumes `Given`, the callee's theorem, and that the table of calls is monotone under a frame.
 use mathlib.Core.Path.{_≡_, refl, sym, _∙_, ap, subst}
 use mathlib.Core.Bool.{Bool}
@@ -46,8 +46,8 @@ use Rattle.layer.proofs.Settings.Laws as B′
 use Rattle.layer.specs.declared.Reply.{Reply}
 use Rattle.layer.proofs.Reply as P
 use Rattle.releases.specs.Core.{releaseCount, releaseAnswer, releaseArena, stampsAfter}
-use Rattle.table.proofs.Walk.{Loan, sliceOf, lent}
-use Rattle.table.proofs.Calls.{Site, plain-call, mut-call}
+use Rattle.records.proofs.Walk.{Loan, sliceOf, lent}
+use Rattle.records.proofs.Calls.{Site, plain-call, mut-call}
 use Rattle.chunk_release.proofs.release_ms as ms′
 use Rattle.chunk_release.proofs.release_ms.Symbol.{name as #chunk-release·release-ms}
 use Rattle.chunk_release.proofs.release_delay as delay′

@@ -54,11 +54,11 @@ pub fn chunk_release(
     let k = releases::release_count(ok, state, n);
     let f = table::scan(records, k, CHUNK, entry::holds_query(address));
     let i = entry::stored_at(f);
-    let a = table::load_or(records, i);
+    let a = records::load_or(records, i);
     let ms = release_ms(ns);
     let delay = release_delay(settings);
     let b = releases::release_arena(address, n, told, pending, ms, delay, f, a, CHUNK);
-    table::store_if(records, i, b);
+    records::store_if(records, i, b);
     releases::release_stamps(stamps, address, n, pending, ms, f, a, CHUNK);
     releases::release_answer(ok, state, address, n, f, a, CHUNK)
 }

@@ -36,7 +36,7 @@ use Rattle.layer.specs.Answering.{commitArena, commitReply}
 use Rattle.claims.specs.declared.Served.{Served}
 use Rattle.claims.proofs.Served as D
 use Rattle.claims.proofs.Served.Laws as D′
-use Rattle.table.proofs.Calls.{Site, plain-call}
+use Rattle.records.proofs.Calls.{Site, plain-call}
 use Rattle.commit_answer.specs.Run.{runId, runStart, runLength}
 use Rattle.commit_answer.proofs.CommitLaws.{Room}
 use Rattle.commit_answer.proofs.run_place as place′

@@ -94,9 +94,9 @@ pub fn commit_part(
         × (now (records .exit) ≡ cond go (set (now (records .entry)) (committingId (state .question)) (commitArena (at (now (records .entry)) (committingId (state .question))) (committingStart (state .question)) (committingLength (state .question)) granted)) (now (records .entry))) ⌝ }
 {
     let i = run_place(go, state);
-    let a = table::load_or(records, i);
+    let a = records::load_or(records, i);
     let s = serve(a, go, state, granted, chunk_size);
     let b = record_of(s);
-    table::store_if(records, i, b);
+    records::store_if(records, i, b);
     reply_of(s)
 }

@@ -34,7 +34,7 @@ use Rattle.judge.specs.declared.Query.{Query}
 use Rattle.judge.specs.declared.Query.the-variants.{Holds}
 use Rattle.judge.proofs.Query as Q
 use Rattle.registers.specs.Core.{storedAt}
-use Rattle.table.proofs.Calls.{Site, plain-call}
+use Rattle.records.proofs.Calls.{Site, plain-call}
 use Rattle.entry.proofs.page_of as page′
 use Rattle.entry.proofs.page_of.Symbol.{name as #entry·page-of}
 use Rattle.entry.proofs.holds_query as holds′

@@ -57,8 +57,8 @@ use Rattle.manage_os_memory.proofs.manage_writing as manage-writing′
 use Rattle.manage_os_memory.proofs.manage_writing.Symbol.{name as #manage-os-memory·manage-writing}
 use Rattle.manage_os_memory.proofs.manage_query as manage-query′
 use Rattle.manage_os_memory.proofs.manage_query.Symbol.{name as #manage-os-memory·manage-query}
-use Rattle.table.proofs.Walk.{Loan, sliceOf, lent}
-use Rattle.table.proofs.Calls.{Site, plain-call, shr-call}
+use Rattle.records.proofs.Walk.{Loan, sliceOf, lent}
+use Rattle.records.proofs.Calls.{Site, plain-call, shr-call}
 
 -- the contracts that a walk cites
 module _ {M : Type 1} (𝓤 : URA M) (H : Heap 𝓤) (A : Atoms 𝓤) (mem : Memory → SProp 𝓤) (run : Routine → Fun 𝓤) where

@@ -44,8 +44,8 @@ use Rattle.layer.proofs.Reply as P
 use Rattle.judge.specs.declared.Query.{Query}
 use Rattle.judge.specs.declared.Query.the-variants.{Meets, Serves}
 use Rattle.judge.proofs.Query as Q
-use Rattle.table.proofs.Walk.{Loan, sliceOf, lent}
-use Rattle.table.proofs.Calls.{Site, plain-call, shr-call, mut-call}
+use Rattle.records.proofs.Walk.{Loan, sliceOf, lent}
+use Rattle.records.proofs.Calls.{Site, plain-call, shr-call, mut-call}
 use Rattle.claims.specs.declared.Served.{Served}
 use Rattle.claims.specs.Core.{searchArena, searchReply}
 use Rattle.claims.proofs.Served as D

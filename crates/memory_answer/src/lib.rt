@@ -216,10 +216,10 @@ fn search_again(records: &mut [Arena], m: Memory, chunk_size: u64) -> Reply
     let q = again_query(m);
     let f = table::scan(records, k, chunk_size, q);
     let i = entry::stored_at(f);
-    let a = table::load_or(records, i);
+    let a = records::load_or(records, i);
     let d = ended(m, a, f, chunk_size);
     let b = record_of(d);
-    table::store_if(records, i, b);
+    records::store_if(records, i, b);
     reply_of(d)
 }
 

@@ -41,8 +41,8 @@ use Rattle.sweeps.specs.declared.Stay.{Stay}
 use Rattle.answers.specs.Core.{purgingId, purgingChunk, purgingSweep}
 use Rattle.sweeping.specs.Going.{nextPlace}
 use Rattle.purge_answer.specs.Part.{Fit, Stays, placeOf, countOf, sweepFor}
-use Rattle.table.proofs.Walk.{Loan, sliceOf, lent}
-use Rattle.table.proofs.Calls.{Site, plain-call, shr-call}
+use Rattle.records.proofs.Walk.{Loan, sliceOf, lent}
+use Rattle.records.proofs.Calls.{Site, plain-call, shr-call}
 use Rattle.purge_answer.proofs.place_of as place′
 use Rattle.purge_answer.proofs.place_of.Symbol.{name as #purge-answer·place-of}
 use Rattle.purge_answer.proofs.count_of as count′

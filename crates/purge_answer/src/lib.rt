@@ -120,10 +120,10 @@ pub fn purge_part(
     let i = place_of(go, state);
     let count = count_of(go, state);
     let v = sweep_for(go, state, granted);
-    let a = table::load_or(records, i);
+    let a = records::load_or(records, i);
     let s = purge_at(stamps, go, state, a, granted, chunk_size);
     let left = sweeping::arena_left(s);
-    table::store_if(records, i, left);
+    records::store_if(records, i, left);
     let from = rest_from(i, s, count);
     let mark = sweeping::mark_of(state);
     let rest = sweeping::sweep_on(records, stamps, from, count, mark, v, chunk_size);

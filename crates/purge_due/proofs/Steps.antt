@@ -44,7 +44,7 @@ use Rattle.purge_due.proofs.sweep_of.Symbol.{name as #purge-due·sweep-
 use Rattle.registers.specs.Core.{gated}
 use Rattle.registers.proofs.gate as gate′
 use Rattle.registers.proofs.gate.Symbol.{name as #registers·gate}
-use Rattle.table.proofs.Calls.{Site, plain-call}
+use Rattle.records.proofs.Calls.{Site, plain-call}
 
 -- the contracts that a walk cites
 module _ {M : Type 1} (𝓤 : URA M) (H : Heap 𝓤) (A : Atoms 𝓤) (mem : Memory → SProp 𝓤) (run : Routine → Fun 𝓤) where

@@ -30,7 +30,7 @@ use Rattle.layer.proofs.Reply as Y
 use Rattle.reserving.specs.Core.{reserveAnswer}
 use Rattle.reserving.proofs.reserve_core as reserve-core′
 use Rattle.reserving.proofs.reserve_core.Symbol.{name as #reserving·reserve-core}
-use Rattle.table.proofs.Calls.{Site, plain-call}
+use Rattle.records.proofs.Calls.{Site, plain-call}
 
 -- the contracts that a walk cites
 module _ {M : Type 1} (𝓤 : URA M) (H : Heap 𝓤) (A : Atoms 𝓤) (mem : Memory → SProp 𝓤) (run : Routine → Fun 𝓤) where

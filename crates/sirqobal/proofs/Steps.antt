@@ -59,7 +59,7 @@ use Rattle.surface.proofs.kind_of as kind-of′
 use Rattle.surface.proofs.kind_of.Symbol.{name as #surface·kind-of}
 use Rattle.surface.proofs.reply_of as reply-of′
 use Rattle.surface.proofs.reply_of.Symbol.{name as #surface·reply-of}
-use Rattle.table.proofs.Calls.{Site, plain-call}
+use Rattle.records.proofs.Calls.{Site, plain-call}
 
 -- the contracts that a walk cites
 module _ {M : Type 1} (𝓤 : URA M) (H : Heap 𝓤) (A : Atoms 𝓤) (mem : Memory → SProp 𝓤) (run : Routine → Fun 𝓤) where

@@ -51,8 +51,8 @@ use Rattle.sweeping.proofs.next_place as next′
 use Rattle.sweeping.proofs.next_place.Symbol.{name as #sweeping·next-place}
 use Rattle.sweeping.proofs.sweep_on as on′
 use Rattle.sweeping.proofs.sweep_on.Symbol.{name as #sweeping·sweep-on}
-use Rattle.table.proofs.Walk.{Loan, sliceOf, lent}
-use Rattle.table.proofs.Calls.{Site, plain-call, shr-call, mut2-call}
+use Rattle.records.proofs.Walk.{Loan, sliceOf, lent}
+use Rattle.records.proofs.Calls.{Site, plain-call, shr-call, mut2-call}
 use Rattle.sweeping.proofs.arena_left as arena′
 use Rattle.sweeping.proofs.arena_left.Symbol.{name as #sweeping·arena-left}
 use Rattle.sweeping.proofs.reply_left as reply′

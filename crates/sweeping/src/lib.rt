@@ -79,10 +79,10 @@ pub fn sweep_on(
     let mut i = from;
     let mut reply = sweeps::swept_reply(count, mark, w);
     while i < count {
-        let a = table::load_or(records, i);
+        let a = records::load_or(records, i);
         let s = stay_at(stamps, i, a, w, count, mark, chunk_size);
         let left = arena_left(s);
-        table::store_if(records, i, left);
+        records::store_if(records, i, left);
         reply = reply_left(s);
         i = next_place(i, s, count);
     }

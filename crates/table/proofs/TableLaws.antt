@@ -1,13 +1,13 @@
 -- What row 1 says of the table, as the code tests it: by scans. S is the size of a chunk. Assumes nothing.
 use mathlib.Core.Path.{_≡_, refl, sym, ap, subst, _∙_}
 use mathlib.Core.Bool.{Bool, true, false, not, cond, _&&_, _||_}
-use mathlib.Core.List.{List, [], _∷_}
+use mathlib.Core.List.{List}
 use Prim.Native.Nat.{ℕ, zero, suc, _+_, _*_, _^_, _<_, _≤_}
 use native.Mathlib.Omega.{arith}
-use native.Mathlib.Nat.{not-suc-le-zero, le-of-suc-le-suc}
+use native.Mathlib.Nat.{not-suc-le-zero}
 use borrow.Author.Tests.{ltb-true, ltb-false, leb-true}
 use lib.Dec.{eqb, leb, ltb}
-use lib.ListN.{length, getD}
+use lib.ListN.{length}
 use Rattle.runs.specs.declared.Found.{Found}
 use Rattle.runs.specs.declared.Found.the-variants.{At}
 use Rattle.runs.specs.Lowest.{all, least}
@@ -111,9 +111,3 @@ module _ (S : ℕ) (l : List Arena) where
       inside true true false d r = refl
       inside true false c d r = refl
       inside false b c d r = refl
-
--- past the end of a list there is the default
-pub past : (l : List Arena) (i : ℕ) (d : Arena) → length l ≤ i → d ≡ getD l i d
-past [] i d h = refl
-past (x ∷ l) zero d h = absurd (not-suc-le-zero h)
-past (x ∷ l) (suc i) d h = past l i d (le-of-suc-le-suc h)

@@ -1,9 +1,9 @@
-// The lent table of records: the few functions that reach into the slice, and the one scan over it that
-// serves every question. All decisions on one record are made by value, in the crates below.
+// The lent table of records: the one scan over it that serves every question, and row 1. All decisions on one
+// record are made by value, in the crates below.
 ghost use mathlib.Core.Path.{_≡_};
 ghost use mathlib.Core.Bool.{true, not};
 ghost use Prim.Native.Nat.{_+_, _*_, _^_, _<_, _≤_};
-ghost use lib.ListN.{length, getD, set};
+ghost use lib.ListN.{length, getD};
 ghost use Rattle.runs.specs.Lowest.{all};
 ghost use Rattle.lookup.specs.Soundness.{soundArena};
 ghost use Rattle.layer.specs.World.{blank};
@@ -17,39 +17,6 @@ use judge::Span;
 use layer::State;
 use runs::Found;
 
-// A record with nothing in it.
-pub fn blank_arena() -> Arena
-    ensures { λ r. ⌜ r ≡ blank ⌝ }
-{
-    Arena {
-        base: 0,
-        chunks: 0,
-        exclusive: false,
-        owned: false,
-        node: 0,
-        deadline: 0,
-        used: [0; 32],
-        dirty: [0; 32],
-        committed: [0; 32],
-        pending: [0; 32],
-    }
-}
-
-// How many records are lent.
-pub fn count(records: &[Arena]) -> usize
-    ensures { λ r. ⌜ r ≡ length (now (records .entry)) ⌝ }
-{
-    records.len()
-}
-
-// The record at an id of the table.
-fn load(records: &[Arena], i: usize) -> Arena
-    requires { ⌜ i < length (now records) ⌝ }
-    ensures { λ r. ⌜ r ≡ getD (now (records .entry)) i blank ⌝ }
-{
-    records[i]
-}
-
 // The head of the record at an id of the table, read where it lies.
 fn head_at(records: &[Arena], i: usize) -> Head
     requires { ⌜ i < length (now records) ⌝ }
@@ -61,24 +28,6 @@ fn head_at(records: &[Arena], i: usize) -> Head
         exclusive: records[i].exclusive,
         owned: records[i].owned,
     }
-}
-
-// The record at an id of the table is written.
-fn store(records: &mut [Arena], i: usize, v: Arena)
-    requires { ⌜ i < length (now records) ⌝ }
-    ensures { λ _. ⌜ now (records .exit) ≡ set (now (records .entry)) i v ⌝ }
-{
-    records[i] = v;
-}
-
-// The record at an id; a blank one past the end.
-pub fn load_or(records: &[Arena], id: usize) -> Arena
-    ensures { λ r. ⌜ r ≡ getD (now (records .entry)) id blank ⌝ }
-{
-    if id < records.len() {
-        return load(records, id);
-    }
-    blank_arena()
 }
 
 // The head of a blank record.
@@ -103,15 +52,6 @@ fn head_or(records: &[Arena], id: usize) -> Head
     no_head()
 }
 
-// The record at an id is written; past the end nothing is.
-pub fn store_if(records: &mut [Arena], id: usize, a: Arena)
-    ensures { λ _. ⌜ now (records .exit) ≡ set (now (records .entry)) id a ⌝ }
-{
-    if id < records.len() {
-        store(records, id, a);
-    }
-}
-
 // ---- the scan
 
 // Whether the query hits the record at id i, which is copied only where the maps are asked.
@@ -121,7 +61,7 @@ fn hits_at(records: &[Arena], i: usize, q: Query, chunk_size: u64) -> bool
 {
     let h = head_or(records, i);
     if judge::asks_maps(q, i, h, chunk_size) {
-        let a = load_or(records, i);
+        let a = records::load_or(records, i);
         return judge::hit(q, i, a, chunk_size);
     }
     judge::hit_head(q, i, h, chunk_size)
@@ -197,6 +137,6 @@ pub fn row_one(records: &[Arena], stamps: usize, state: State, page: u64, chunk_
         return true;
     }
     let id = open_question::asked_id(state.question);
-    let a = load_or(records, id);
+    let a = records::load_or(records, id);
     open_question::question_sound(a, state.count, state.question)
 }

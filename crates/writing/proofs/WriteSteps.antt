@@ -29,8 +29,8 @@ use Rattle.arena.proofs.Arena as T
 use Rattle.layer.specs.declared.Reply.{Reply}
 use Rattle.layer.proofs.Reply as Y
 use Rattle.registers.specs.Core.{stampsWith}
-use Rattle.table.proofs.Walk.{Loan, sliceOf, lent}
-use Rattle.table.proofs.Calls.{Site, plain-call, mut-call, mut2-call}
+use Rattle.records.proofs.Walk.{Loan, sliceOf, lent}
+use Rattle.records.proofs.Calls.{Site, plain-call, mut-call, mut2-call}
 use Rattle.writing.specs.declared.Writing.{Writing}
 use Rattle.writing.specs.Places.{recordPlace}
 use Rattle.writing.proofs.Writing as X

@@ -79,7 +79,7 @@ pub fn write(records: &mut [Arena], stamps: &mut [u32], w: Writing) -> Reply
     let place = record_place(w);
     let a = record_of(w);
     let id = stamped_of(w);
-    table::store_if(records, place, a);
+    records::store_if(records, place, a);
     zero_stamps(stamps, id);
     reply_of(w)
 }

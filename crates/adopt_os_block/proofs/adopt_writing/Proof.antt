@@ -48,13 +48,14 @@ use Rattle.registers.proofs.Registering.Laws as D′
 use Rattle.writing.specs.declared.Writing.{Writing}
 use Rattle.writing.proofs.Writing as X
 use Rattle.writing.proofs.Writing.Laws as X′
-use Rattle.table.proofs.Walk.{Loan, Known, shared, sliceOf}
-use Rattle.table.proofs.Locals.{enters, used}
-use Rattle.table.proofs.Calls.{in-seq}
+use Rattle.records.proofs.Walk.{Loan, Known, shared, sliceOf}
+use Rattle.records.proofs.Locals.{enters, used}
+use Rattle.records.proofs.Calls.{in-seq}
 use Rattle.entry.proofs.EntrySteps.{Stored, stored-step}
-use Rattle.table.proofs.Frame.{DoneS, finishS, shr-meets}
-use Rattle.table.proofs.Steps.{Row, Scan, LoadOr, row-pass, scan-pass, load-or-pass}
-use Rattle.table.proofs.Big.{big-lit}
+use Rattle.records.proofs.Frame.{DoneS, finishS, shr-meets}
+use Rattle.records.proofs.Steps.{LoadOr, load-or-pass}
+use Rattle.table.proofs.Steps.{Row, Scan, row-pass, scan-pass}
+use Rattle.records.proofs.Big.{big-lit}
 use Rattle.layer.specs.Table.{soundLent}
 use Rattle.adopt_os_block.proofs.AdoptLaws.{grown-fits}
 use Rattle.adopt_os_block.proofs.Steps.{AdoptCount, AdoptCore, Adopted, BlockQuery, GrowthQuery, adopt-count-step, adopt-core-step, adopted-step, block-query-step, growth-query-step}
@@ -84,9 +85,9 @@ use Rattle.adopt_os_block.proofs.growth_query.Met as growth-query-thm
 use Rattle.entry.proofs.stored_at.Symbol as stored-def
 use Rattle.entry.proofs.stored_at.Symbol.{name as #entry·stored-at}
 use Rattle.entry.proofs.stored_at.Met as stored-thm
-use Rattle.table.proofs.load_or.Symbol as load-def
-use Rattle.table.proofs.load_or.Symbol.{name as #table·load-or}
-use Rattle.table.proofs.load_or.Met as load-thm
+use Rattle.records.proofs.load_or.Symbol as load-def
+use Rattle.records.proofs.load_or.Symbol.{name as #records·load-or}
+use Rattle.records.proofs.load_or.Met as load-thm
 use Rattle.adopting.proofs.adopt_core.Symbol as adopt-core-def
 use Rattle.adopting.proofs.adopt_core.Symbol.{name as #adopting·adopt-core}
 use Rattle.adopting.proofs.adopt_core.Met as adopt-core-thm
@@ -105,7 +106,7 @@ module _ {M : Type 1} (𝓤 : URA M) (H : Heap 𝓤) (A : Atoms 𝓤) (W : Given
     (known-scan : Triple 𝓤 (𝓣 .C #table·scan) (Scan 𝓤 H A mem run))
     (known-growth-query : Triple 𝓤 (𝓣 .C #adopt-os-block·growth-query) (GrowthQuery 𝓤 H A mem run))
     (known-stored : Triple 𝓤 (𝓣 .C #entry·stored-at) (Stored 𝓤 H A mem run))
-    (known-load : Triple 𝓤 (𝓣 .C #table·load-or) (LoadOr 𝓤 H A mem run))
+    (known-load : Triple 𝓤 (𝓣 .C #records·load-or) (LoadOr 𝓤 H A mem run))
     (known-adopt-core : Triple 𝓤 (𝓣 .C #adopting·adopt-core) (AdoptCore 𝓤 H A mem run))
     (known-adopted : Triple 𝓤 (𝓣 .C #adopt-os-block·adopted) (Adopted 𝓤 H A mem run)) where
   module _ (κ : Lft) (q : Share) (γ : GName) (b o : ℕ) (ys : List Arena) (stamps : ℕ) (state : State) (page : ℕ) (address : ℕ) (size : ℕ) where
@@ -184,6 +185,6 @@ adopt-writing-spec 𝓤 H 𝓜 𝓖 𝓡 =
     (cited 𝓤 H (Scan 𝓤 H (𝓖 .A) (𝓜 .mem) (𝓡 .run)) 𝓜 𝓡 code.env #table·scan scan-def.routine code.calls-table·scan (scan-thm.met 𝓤 H 𝓜 𝓖 𝓡))
     (cited 𝓤 H (GrowthQuery 𝓤 H (𝓖 .A) (𝓜 .mem) (𝓡 .run)) 𝓜 𝓡 code.env #adopt-os-block·growth-query growth-query-def.routine code.calls-adopt-os-block·growth-query (growth-query-thm.met 𝓤 H 𝓜 𝓖 𝓡))
     (cited 𝓤 H (Stored 𝓤 H (𝓖 .A) (𝓜 .mem) (𝓡 .run)) 𝓜 𝓡 code.env #entry·stored-at stored-def.routine code.calls-entry·stored-at (stored-thm.met 𝓤 H 𝓜 𝓖 𝓡))
-    (cited 𝓤 H (LoadOr 𝓤 H (𝓖 .A) (𝓜 .mem) (𝓡 .run)) 𝓜 𝓡 code.env #table·load-or load-def.routine code.calls-table·load-or (load-thm.met 𝓤 H 𝓜 𝓖 𝓡))
+    (cited 𝓤 H (LoadOr 𝓤 H (𝓖 .A) (𝓜 .mem) (𝓡 .run)) 𝓜 𝓡 code.env #records·load-or load-def.routine code.calls-records·load-or (load-thm.met 𝓤 H 𝓜 𝓖 𝓡))
     (cited 𝓤 H (AdoptCore 𝓤 H (𝓖 .A) (𝓜 .mem) (𝓡 .run)) 𝓜 𝓡 code.env #adopting·adopt-core adopt-core-def.routine code.calls-adopting·adopt-core (adopt-core-thm.met 𝓤 H 𝓜 𝓖 𝓡))
     (cited 𝓤 H (Adopted 𝓤 H (𝓖 .A) (𝓜 .mem) (𝓡 .run)) 𝓜 𝓡 code.env #adopt-os-block·adopted adopted-def.routine code.calls-adopt-os-block·adopted (adopted-thm.met 𝓤 H 𝓜 𝓖 𝓡)))

@@ -50,12 +50,12 @@ use Rattle.layer.proofs.Settings.Laws as G′
 use Rattle.layer.proofs.Kind as J
 use Rattle.layer.proofs.Kind.Laws as J′
 use Rattle.answer.specs.Call.{answerOn}
-use Rattle.table.proofs.Walk.{Loan, Known, lent, sliceOf}
-use Rattle.table.proofs.Locals.{enters, used}
-use Rattle.table.proofs.Calls.{in-seq}
-use Rattle.table.proofs.Frame.{Done2, finish2, mut2-meets}
+use Rattle.records.proofs.Walk.{Loan, Known, lent, sliceOf}
+use Rattle.records.proofs.Locals.{enters, used}
+use Rattle.records.proofs.Calls.{in-seq}
+use Rattle.records.proofs.Frame.{Done2, finish2, mut2-meets}
 use Rattle.table.proofs.Steps.{Row, row-step}
-use Rattle.table.proofs.Big.{big-lit}
+use Rattle.records.proofs.Big.{big-lit}
 use Rattle.answer.proofs.CallLaws.{sound-answerable, answer-is}
 use Rattle.answer.proofs.Steps.{AnswerOn, answer-on-step}
 use Rattle.table.proofs.row_one.Symbol as row-def

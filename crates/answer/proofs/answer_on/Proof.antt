@@ -46,10 +46,10 @@ use Rattle.layer.proofs.Kind as J
 use Rattle.layer.proofs.Kind.Laws as J′
 use Rattle.answers.specs.Core.{gated}
 use Rattle.answer.specs.Call.{goesFor, ownReply, Answerable, answerOn}
-use Rattle.table.proofs.Walk.{Loan, Known, lent, sliceOf}
-use Rattle.table.proofs.Locals.{enters, used}
-use Rattle.table.proofs.Calls.{in-seq}
-use Rattle.table.proofs.Frame.{Done2, finish2, mut2-meets}
+use Rattle.records.proofs.Walk.{Loan, Known, lent, sliceOf}
+use Rattle.records.proofs.Locals.{enters, used}
+use Rattle.records.proofs.Calls.{in-seq}
+use Rattle.records.proofs.Frame.{Done2, finish2, mut2-meets}
 use Rattle.answer.proofs.CallLaws.{first, second, third, thirdStamps, commit-fits, purge-fits, memory-fits, comes}
 use Rattle.answer.proofs.Steps.{GoesCommit, GoesPurge, GoesMemory, CommitPart, PurgePart, MemoryPart, ReplyFor, goes-commit-step, goes-purge-step, goes-memory-step, commit-part-step, purge-part-step, memory-part-step, reply-for-step}
 use Rattle.answer.proofs.goes_commit.Symbol as goes-commit-def

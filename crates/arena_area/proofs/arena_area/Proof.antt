@@ -46,13 +46,14 @@ use Rattle.layer.proofs.Reply.Laws as Y′
 use Rattle.layer.specs.declared.Settings.{Settings}
 use Rattle.layer.proofs.Settings as G
 use Rattle.layer.proofs.Settings.Laws as G′
-use Rattle.table.proofs.Walk.{Loan, Known, shared, sliceOf}
-use Rattle.table.proofs.Locals.{enters, used}
-use Rattle.table.proofs.Calls.{in-seq}
+use Rattle.records.proofs.Walk.{Loan, Known, shared, sliceOf}
+use Rattle.records.proofs.Locals.{enters, used}
+use Rattle.records.proofs.Calls.{in-seq}
 use Rattle.entry.proofs.EntrySteps.{Page, page-step}
-use Rattle.table.proofs.Steps.{Row, LoadOr, row-pass, load-or-pass}
+use Rattle.records.proofs.Steps.{LoadOr, load-or-pass}
+use Rattle.table.proofs.Steps.{Row, row-pass}
 use Rattle.arena_area.proofs.Two.{Done, finish, meets}
-use Rattle.table.proofs.Big.{big-lit}
+use Rattle.records.proofs.Big.{big-lit}
 use Rattle.arena_area.proofs.AreaLaws.{passes, few, area-step}
 use Rattle.arena_area.proofs.AreaSteps.{PlaceOf, AreaReply, place-of-step, area-reply-step}
 use Rattle.layer.specs.World.{replyOf, worldOf}
@@ -69,9 +70,9 @@ use Rattle.table.proofs.row_one.Met as row-thm
 use Rattle.arena_area.proofs.place_of.Symbol as place-def
 use Rattle.arena_area.proofs.place_of.Symbol.{name as #arena-area·place-of}
 use Rattle.arena_area.proofs.place_of.Met as place-thm
-use Rattle.table.proofs.load_or.Symbol as load-def
-use Rattle.table.proofs.load_or.Symbol.{name as #table·load-or}
-use Rattle.table.proofs.load_or.Met as load-thm
+use Rattle.records.proofs.load_or.Symbol as load-def
+use Rattle.records.proofs.load_or.Symbol.{name as #records·load-or}
+use Rattle.records.proofs.load_or.Met as load-thm
 use Rattle.arena_area.proofs.area_reply.Symbol as reply-def
 use Rattle.arena_area.proofs.area_reply.Symbol.{name as #arena-area·area-reply}
 use Rattle.arena_area.proofs.area_reply.Met as reply-thm
@@ -84,7 +85,7 @@ module _ {M : Type 1} (𝓤 : URA M) (H : Heap 𝓤) (A : Atoms 𝓤) (W : Given
     (known-page : Triple 𝓤 (𝓣 .C #entry·page-of) (Page 𝓤 H A mem run))
     (known-row : Triple 𝓤 (𝓣 .C #table·row-one) (Row 𝓤 H A mem run))
     (known-place : Triple 𝓤 (𝓣 .C #arena-area·place-of) (PlaceOf 𝓤 H A mem run))
-    (known-load : Triple 𝓤 (𝓣 .C #table·load-or) (LoadOr 𝓤 H A mem run))
+    (known-load : Triple 𝓤 (𝓣 .C #records·load-or) (LoadOr 𝓤 H A mem run))
     (known-reply : Triple 𝓤 (𝓣 .C #arena-area·area-reply) (AreaReply 𝓤 H A mem run)) where
   module _ (κ κ′ : Lft) (q q′ : Share) (γ γ′ : GName) (b o b′ o′ : ℕ) (ys : List Arena) (us : List ℕ) (state : State) (ns : ℕ) (settings : Settings) (id : ℤ) where
     abbrev L : Loan
@@ -147,5 +148,5 @@ arena-area-spec 𝓤 H 𝓜 𝓖 𝓡 =
     (cited 𝓤 H (Page 𝓤 H (𝓖 .A) (𝓜 .mem) (𝓡 .run)) 𝓜 𝓡 code.env #entry·page-of page-def.routine code.calls-entry·page-of (page-thm.met 𝓤 H 𝓜 𝓖 𝓡))
     (cited 𝓤 H (Row 𝓤 H (𝓖 .A) (𝓜 .mem) (𝓡 .run)) 𝓜 𝓡 code.env #table·row-one row-def.routine code.calls-table·row-one (row-thm.met 𝓤 H 𝓜 𝓖 𝓡))
     (cited 𝓤 H (PlaceOf 𝓤 H (𝓖 .A) (𝓜 .mem) (𝓡 .run)) 𝓜 𝓡 code.env #arena-area·place-of place-def.routine code.calls-arena-area·place-of (place-thm.met 𝓤 H 𝓜 𝓖 𝓡))
-    (cited 𝓤 H (LoadOr 𝓤 H (𝓖 .A) (𝓜 .mem) (𝓡 .run)) 𝓜 𝓡 code.env #table·load-or load-def.routine code.calls-table·load-or (load-thm.met 𝓤 H 𝓜 𝓖 𝓡))
+    (cited 𝓤 H (LoadOr 𝓤 H (𝓖 .A) (𝓜 .mem) (𝓡 .run)) 𝓜 𝓡 code.env #records·load-or load-def.routine code.calls-records·load-or (load-thm.met 𝓤 H 𝓜 𝓖 𝓡))
     (cited 𝓤 H (AreaReply 𝓤 H (𝓖 .A) (𝓜 .mem) (𝓡 .run)) 𝓜 𝓡 code.env #arena-area·area-reply reply-def.routine code.calls-arena-area·area-reply (reply-thm.met 𝓤 H 𝓜 𝓖 𝓡)))

@@ -49,13 +49,13 @@ use Rattle.runs.proofs.Found as F
 use Rattle.runs.proofs.Found.Laws as F′
 use Rattle.judge.proofs.Query as Q
 use Rattle.judge.proofs.Query.Laws as Q′
-use Rattle.table.proofs.Walk.{Loan, Known, shared, sliceOf}
-use Rattle.table.proofs.Locals.{enters, used}
-use Rattle.table.proofs.Calls.{in-seq}
+use Rattle.records.proofs.Walk.{Loan, Known, shared, sliceOf}
+use Rattle.records.proofs.Locals.{enters, used}
+use Rattle.records.proofs.Calls.{in-seq}
 use Rattle.entry.proofs.EntrySteps.{Page, HoldsQuery, page-step, holds-step}
 use Rattle.table.proofs.Steps.{Row, Scan, row-pass, scan-pass}
 use Rattle.arena_area.proofs.Two.{Done, finish, meets}
-use Rattle.table.proofs.Big.{big-lit}
+use Rattle.records.proofs.Big.{big-lit}
 use Rattle.arena_area.proofs.AreaLaws.{passes, owns-step}
 use Rattle.arena_area.proofs.AreaSteps.{LookedAt, OwnsReply, looked-at-step, owns-reply-step}
 use Rattle.layer.specs.World.{replyOf, worldOf}

@@ -46,10 +46,10 @@ use Rattle.layer.proofs.Settings as Y
 use Rattle.layer.proofs.Settings.Laws as Y′
 use Rattle.layer.proofs.Reply as P
 use Rattle.layer.proofs.Reply.Laws as P′
-use Rattle.table.proofs.Walk.{Loan, Known, lent, sliceOf}
-use Rattle.table.proofs.Locals.{enters, used}
-use Rattle.table.proofs.Frame.{Done2, finish2, mut2-meets}
-use Rattle.table.proofs.Calls.{in-seq}
+use Rattle.records.proofs.Walk.{Loan, Known, lent, sliceOf}
+use Rattle.records.proofs.Locals.{enters, used}
+use Rattle.records.proofs.Frame.{Done2, finish2, mut2-meets}
+use Rattle.records.proofs.Calls.{in-seq}
 use Rattle.layer.specs.World.{Leaves}
 use Rattle.chunk_alloc.proofs.Steps.{Claim, claim-step}
 use Rattle.chunk_alloc.proofs.claim_at.Symbol as claim-def

@@ -61,15 +61,16 @@ use Rattle.claims.specs.Core.{claimCount, searchArena, claimReply}
 use Rattle.claims.proofs.Served as D
 use Rattle.claims.proofs.Served.Laws as D′
 use Rattle.registers.specs.Core.{storedAt}
-use Rattle.table.proofs.Walk.{Loan, Known, lent, sliceOf}
-use Rattle.table.proofs.Locals.{enters, used}
-use Rattle.table.proofs.Frame.{Done2, finish2, mut2-meets}
-use Rattle.table.proofs.Calls.{in-seq}
-use Rattle.table.proofs.Steps.{Row, Scan, LoadOr, StoreIf, row-step, scan-step, load-or-step, store-if-step}
+use Rattle.records.proofs.Walk.{Loan, Known, lent, sliceOf}
+use Rattle.records.proofs.Locals.{enters, used}
+use Rattle.records.proofs.Frame.{Done2, finish2, mut2-meets}
+use Rattle.records.proofs.Calls.{in-seq}
+use Rattle.records.proofs.Steps.{LoadOr, StoreIf, load-or-step, store-if-step}
+use Rattle.table.proofs.Steps.{Row, Scan, row-step, scan-step}
 use Rattle.layer.specs.World.{Leaves}
 use Rattle.chunk_alloc.proofs.EntryLaws.{claimed, claimed-sound}
 use Rattle.entry.proofs.EntrySteps.{Page, Stored, page-step, stored-step}
-use Rattle.table.proofs.Big.{big-lit}
+use Rattle.records.proofs.Big.{big-lit}
 use Rattle.chunk_alloc.proofs.Steps.{Count, Asks, Core, ArenaOf, ReplyOf, served, count-step, query-step, core-step, arena-step, reply-step}
 use Rattle.entry.proofs.page_of.Symbol as page-def
 use Rattle.entry.proofs.page_of.Symbol.{name as #entry·page-of}
@@ -89,18 +90,18 @@ use Rattle.table.proofs.scan.Met as scan-thm
 use Rattle.entry.proofs.stored_at.Symbol as stored-def
 use Rattle.entry.proofs.stored_at.Symbol.{name as #entry·stored-at}
 use Rattle.entry.proofs.stored_at.Met as stored-thm
-use Rattle.table.proofs.load_or.Symbol as load-def
-use Rattle.table.proofs.load_or.Symbol.{name as #table·load-or}
-use Rattle.table.proofs.load_or.Met as load-thm
+use Rattle.records.proofs.load_or.Symbol as load-def
+use Rattle.records.proofs.load_or.Symbol.{name as #records·load-or}
+use Rattle.records.proofs.load_or.Met as load-thm
 use Rattle.claims.proofs.claim_core.Symbol as core-def
 use Rattle.claims.proofs.claim_core.Symbol.{name as #claims·claim-core}
 use Rattle.claims.proofs.claim_core.Met as core-thm
 use Rattle.chunk_alloc.proofs.arena_of.Symbol as arena-def
 use Rattle.chunk_alloc.proofs.arena_of.Symbol.{name as #chunk-alloc·arena-of}
 use Rattle.chunk_alloc.proofs.arena_of.Met as arena-thm
-use Rattle.table.proofs.store_if.Symbol as store-def
-use Rattle.table.proofs.store_if.Symbol.{name as #table·store-if}
-use Rattle.table.proofs.store_if.Met as store-thm
+use Rattle.records.proofs.store_if.Symbol as store-def
+use Rattle.records.proofs.store_if.Symbol.{name as #records·store-if}
+use Rattle.records.proofs.store_if.Met as store-thm
 use Rattle.chunk_alloc.proofs.reply_of.Symbol as reply-def
 use Rattle.chunk_alloc.proofs.reply_of.Symbol.{name as #chunk-alloc·reply-of}
 use Rattle.chunk_alloc.proofs.reply_of.Met as reply-thm
@@ -111,7 +112,7 @@ use Rattle.chunk_alloc.proofs.claim_at.Code as code
 
 module _ {M : Type 1} (𝓤 : URA M) (H : Heap 𝓤) (A : Atoms 𝓤) (W : Given 𝓤 H A) (mem : Memory → SProp 𝓤) (run : Routine → Fun 𝓤) (𝓣 : Tables 𝓤 H)
     (known-page : Triple 𝓤 (𝓣 .C #entry·page-of) (Page 𝓤 H A mem run)) (known-row : Triple 𝓤 (𝓣 .C #table·row-one) (Row 𝓤 H A mem run)) (known-count : Triple 𝓤 (𝓣 .C #claims·claim-count) (Count 𝓤 H A mem run)) (known-query : Triple 𝓤 (𝓣 .C #chunk-alloc·serves-query) (Asks 𝓤 H A mem run)) (known-scan : Triple 𝓤 (𝓣 .C #table·scan) (Scan 𝓤 H A mem run)) (known-stored : Triple 𝓤 (𝓣 .C #entry·stored-at) (Stored 𝓤 H A mem run))
-    (known-load : Triple 𝓤 (𝓣 .C #table·load-or) (LoadOr 𝓤 H A mem run)) (known-core : Triple 𝓤 (𝓣 .C #claims·claim-core) (Core 𝓤 H A mem run)) (known-arena : Triple 𝓤 (𝓣 .C #chunk-alloc·arena-of) (ArenaOf 𝓤 H A mem run)) (known-store : Triple 𝓤 (𝓣 .C #table·store-if) (StoreIf 𝓤 H A mem run)) (known-reply : Triple 𝓤 (𝓣 .C #chunk-alloc·reply-of) (ReplyOf 𝓤 H A mem run)) where
+    (known-load : Triple 𝓤 (𝓣 .C #records·load-or) (LoadOr 𝓤 H A mem run)) (known-core : Triple 𝓤 (𝓣 .C #claims·claim-core) (Core 𝓤 H A mem run)) (known-arena : Triple 𝓤 (𝓣 .C #chunk-alloc·arena-of) (ArenaOf 𝓤 H A mem run)) (known-store : Triple 𝓤 (𝓣 .C #records·store-if) (StoreIf 𝓤 H A mem run)) (known-reply : Triple 𝓤 (𝓣 .C #chunk-alloc·reply-of) (ReplyOf 𝓤 H A mem run)) where
   module _ (κ κ′ : Lft) (q q′ : Share) (γ γ′ : GName) (b o b′ o′ : ℕ) (ys : List Arena) (us : List ℕ) (s : State) (c : Settings) (id : ℤ) (n : ℕ) (w : Bool) where
     abbrev L : Loan
     L = record { κ = κ; q = q; γ = γ; b = b; o = o; n = length ys }
@@ -211,8 +212,8 @@ claim-at-spec 𝓤 H 𝓜 𝓖 𝓡 =
     (cited 𝓤 H (Asks 𝓤 H (𝓖 .A) (𝓜 .mem) (𝓡 .run)) 𝓜 𝓡 code.env #chunk-alloc·serves-query query-def.routine code.calls-chunk-alloc·serves-query (query-thm.met 𝓤 H 𝓜 𝓖 𝓡))
     (cited 𝓤 H (Scan 𝓤 H (𝓖 .A) (𝓜 .mem) (𝓡 .run)) 𝓜 𝓡 code.env #table·scan scan-def.routine code.calls-table·scan (scan-thm.met 𝓤 H 𝓜 𝓖 𝓡))
     (cited 𝓤 H (Stored 𝓤 H (𝓖 .A) (𝓜 .mem) (𝓡 .run)) 𝓜 𝓡 code.env #entry·stored-at stored-def.routine code.calls-entry·stored-at (stored-thm.met 𝓤 H 𝓜 𝓖 𝓡))
-    (cited 𝓤 H (LoadOr 𝓤 H (𝓖 .A) (𝓜 .mem) (𝓡 .run)) 𝓜 𝓡 code.env #table·load-or load-def.routine code.calls-table·load-or (load-thm.met 𝓤 H 𝓜 𝓖 𝓡))
+    (cited 𝓤 H (LoadOr 𝓤 H (𝓖 .A) (𝓜 .mem) (𝓡 .run)) 𝓜 𝓡 code.env #records·load-or load-def.routine code.calls-records·load-or (load-thm.met 𝓤 H 𝓜 𝓖 𝓡))
     (cited 𝓤 H (Core 𝓤 H (𝓖 .A) (𝓜 .mem) (𝓡 .run)) 𝓜 𝓡 code.env #claims·claim-core core-def.routine code.calls-claims·claim-core (core-thm.met 𝓤 H 𝓜 𝓖 𝓡))
     (cited 𝓤 H (ArenaOf 𝓤 H (𝓖 .A) (𝓜 .mem) (𝓡 .run)) 𝓜 𝓡 code.env #chunk-alloc·arena-of arena-def.routine code.calls-chunk-alloc·arena-of (arena-thm.met 𝓤 H 𝓜 𝓖 𝓡))
-    (cited 𝓤 H (StoreIf 𝓤 H (𝓖 .A) (𝓜 .mem) (𝓡 .run)) 𝓜 𝓡 code.env #table·store-if store-def.routine code.calls-table·store-if (store-thm.met 𝓤 H 𝓜 𝓖 𝓡))
+    (cited 𝓤 H (StoreIf 𝓤 H (𝓖 .A) (𝓜 .mem) (𝓡 .run)) 𝓜 𝓡 code.env #records·store-if store-def.routine code.calls-records·store-if (store-thm.met 𝓤 H 𝓜 𝓖 𝓡))
     (cited 𝓤 H (ReplyOf 𝓤 H (𝓖 .A) (𝓜 .mem) (𝓡 .run)) 𝓜 𝓡 code.env #chunk-alloc·reply-of reply-def.routine code.calls-chunk-alloc·reply-of (reply-thm.met 𝓤 H 𝓜 𝓖 𝓡)))

@@ -55,11 +55,12 @@ use Rattle.layer.specs.World.{reply}
 use Rattle.judge.specs.declared.Query.the-variants.{Holds}
 use Rattle.judge.proofs.Query as Q
 use Rattle.judge.proofs.Query.Laws as Q′
-use Rattle.table.proofs.Walk.{Loan, Known, lent, sliceOf}
-use Rattle.table.proofs.Locals.{enters, used}
-use Rattle.table.proofs.Frame.{Done2, finish2, mut2-meets}
-use Rattle.table.proofs.Calls.{in-seq, swaps}
-use Rattle.table.proofs.Steps.{Row, Scan, LoadOr, StoreIf, row-step, scan-step, load-or-step, store-if-step}
+use Rattle.records.proofs.Walk.{Loan, Known, lent, sliceOf}
+use Rattle.records.proofs.Locals.{enters, used}
+use Rattle.records.proofs.Frame.{Done2, finish2, mut2-meets}
+use Rattle.records.proofs.Calls.{in-seq, swaps}
+use Rattle.records.proofs.Steps.{LoadOr, StoreIf, load-or-step, store-if-step}
+use Rattle.table.proofs.Steps.{Row, Scan, row-step, scan-step}
 use Rattle.registers.specs.Core.{storedAt}
 use Rattle.entry.proofs.page_of.Symbol as page-def
 use Rattle.entry.proofs.page_of.Symbol.{name as #entry·page-of}
@@ -79,9 +80,9 @@ use Rattle.table.proofs.scan.Met as scan-thm
 use Rattle.entry.proofs.stored_at.Symbol as stored-def
 use Rattle.entry.proofs.stored_at.Symbol.{name as #entry·stored-at}
 use Rattle.entry.proofs.stored_at.Met as stored-thm
-use Rattle.table.proofs.load_or.Symbol as load-def
-use Rattle.table.proofs.load_or.Symbol.{name as #table·load-or}
-use Rattle.table.proofs.load_or.Met as load-thm
+use Rattle.records.proofs.load_or.Symbol as load-def
+use Rattle.records.proofs.load_or.Symbol.{name as #records·load-or}
+use Rattle.records.proofs.load_or.Met as load-thm
 use Rattle.chunk_release.proofs.release_ms.Symbol as ms-def
 use Rattle.chunk_release.proofs.release_ms.Symbol.{name as #chunk-release·release-ms}
 use Rattle.chunk_release.proofs.release_ms.Met as ms-thm
@@ -91,9 +92,9 @@ use Rattle.chunk_release.proofs.release_delay.Met as delay-thm
 use Rattle.releases.proofs.release_arena.Symbol as arena-def
 use Rattle.releases.proofs.release_arena.Symbol.{name as #releases·release-arena}
 use Rattle.releases.proofs.release_arena.Met as arena-thm
-use Rattle.table.proofs.store_if.Symbol as store-def
-use Rattle.table.proofs.store_if.Symbol.{name as #table·store-if}
-use Rattle.table.proofs.store_if.Met as store-thm
+use Rattle.records.proofs.store_if.Symbol as store-def
+use Rattle.records.proofs.store_if.Symbol.{name as #records·store-if}
+use Rattle.records.proofs.store_if.Met as store-thm
 use Rattle.releases.proofs.release_stamps.Symbol as stamps-def
 use Rattle.releases.proofs.release_stamps.Symbol.{name as #releases·release-stamps}
 use Rattle.releases.proofs.release_stamps.Met as stamps-thm
@@ -102,7 +103,7 @@ use Rattle.releases.proofs.release_answer.Symbol.{name as #releases·release-an
 use Rattle.releases.proofs.release_answer.Met as answer-thm
 use Rattle.chunk_release.proofs.CallLaws.{okOf, countOf, foundOf, arenaOf, replyOf, newOf, stampsOf, stepOf, found-in, found-few, ends}
 use Rattle.entry.proofs.EntrySteps.{Page, HoldsQuery, Stored, page-step, holds-step, stored-step}
-use Rattle.table.proofs.Big.{big-lit}
+use Rattle.records.proofs.Big.{big-lit}
 use Rattle.chunk_release.proofs.Steps.{Ms, Delay, Count, ArenaOf, StampsOf, AnswerOf, ms-step, delay-step, count-step, arena-step, stamps-step, answer-step}
 use Rattle.chunk_release.proofs.chunk_release.Key.{name as #chunk-release·chunk-release}
 use Rattle.chunk_release.proofs.chunk_release as chunk-release′
@@ -116,11 +117,11 @@ module _ {M : Type 1} (𝓤 : URA M) (H : Heap 𝓤) (A : Atoms 𝓤) (W : Given
     (known-holds : Triple 𝓤 (𝓣 .C #entry·holds-query) (HoldsQuery 𝓤 H A mem run))
     (known-scan : Triple 𝓤 (𝓣 .C #table·scan) (Scan 𝓤 H A mem run))
     (known-stored : Triple 𝓤 (𝓣 .C #entry·stored-at) (Stored 𝓤 H A mem run))
-    (known-load : Triple 𝓤 (𝓣 .C #table·load-or) (LoadOr 𝓤 H A mem run))
+    (known-load : Triple 𝓤 (𝓣 .C #records·load-or) (LoadOr 𝓤 H A mem run))
     (known-ms : Triple 𝓤 (𝓣 .C #chunk-release·release-ms) (Ms 𝓤 H A mem run))
     (known-delay : Triple 𝓤 (𝓣 .C #chunk-release·release-delay) (Delay 𝓤 H A mem run))
     (known-arena : Triple 𝓤 (𝓣 .C #releases·release-arena) (ArenaOf 𝓤 H A mem run))
-    (known-store : Triple 𝓤 (𝓣 .C #table·store-if) (StoreIf 𝓤 H A mem run))
+    (known-store : Triple 𝓤 (𝓣 .C #records·store-if) (StoreIf 𝓤 H A mem run))
     (known-stamps : Triple 𝓤 (𝓣 .C #releases·release-stamps) (StampsOf 𝓤 H A mem run))
     (known-answer : Triple 𝓤 (𝓣 .C #releases·release-answer) (AnswerOf 𝓤 H A mem run)) where
   module _ (κ κ′ : Lft) (q q′ : Share) (γ γ′ : GName) (bk o bk′ o′ : ℕ) (ys : List Arena) (us : List ℕ) (state : State) (ns : ℕ) (settings : Settings) (address n : ℕ) (told : Commitment) (pending : Bool) where
@@ -241,10 +242,10 @@ chunk-release-spec 𝓤 H 𝓜 𝓖 𝓡 =
     (cited 𝓤 H (HoldsQuery 𝓤 H (𝓖 .A) (𝓜 .mem) (𝓡 .run)) 𝓜 𝓡 code.env #entry·holds-query holds-def.routine code.calls-entry·holds-query (holds-thm.met 𝓤 H 𝓜 𝓖 𝓡))
     (cited 𝓤 H (Scan 𝓤 H (𝓖 .A) (𝓜 .mem) (𝓡 .run)) 𝓜 𝓡 code.env #table·scan scan-def.routine code.calls-table·scan (scan-thm.met 𝓤 H 𝓜 𝓖 𝓡))
     (cited 𝓤 H (Stored 𝓤 H (𝓖 .A) (𝓜 .mem) (𝓡 .run)) 𝓜 𝓡 code.env #entry·stored-at stored-def.routine code.calls-entry·stored-at (stored-thm.met 𝓤 H 𝓜 𝓖 𝓡))
-    (cited 𝓤 H (LoadOr 𝓤 H (𝓖 .A) (𝓜 .mem) (𝓡 .run)) 𝓜 𝓡 code.env #table·load-or load-def.routine code.calls-table·load-or (load-thm.met 𝓤 H 𝓜 𝓖 𝓡))
+    (cited 𝓤 H (LoadOr 𝓤 H (𝓖 .A) (𝓜 .mem) (𝓡 .run)) 𝓜 𝓡 code.env #records·load-or load-def.routine code.calls-records·load-or (load-thm.met 𝓤 H 𝓜 𝓖 𝓡))
     (cited 𝓤 H (Ms 𝓤 H (𝓖 .A) (𝓜 .mem) (𝓡 .run)) 𝓜 𝓡 code.env #chunk-release·release-ms ms-def.routine code.calls-chunk-release·release-ms (ms-thm.met 𝓤 H 𝓜 𝓖 𝓡))
     (cited 𝓤 H (Delay 𝓤 H (𝓖 .A) (𝓜 .mem) (𝓡 .run)) 𝓜 𝓡 code.env #chunk-release·release-delay delay-def.routine code.calls-chunk-release·release-delay (delay-thm.met 𝓤 H 𝓜 𝓖 𝓡))
     (cited 𝓤 H (ArenaOf 𝓤 H (𝓖 .A) (𝓜 .mem) (𝓡 .run)) 𝓜 𝓡 code.env #releases·release-arena arena-def.routine code.calls-releases·release-arena (arena-thm.met 𝓤 H 𝓜 𝓖 𝓡))
-    (cited 𝓤 H (StoreIf 𝓤 H (𝓖 .A) (𝓜 .mem) (𝓡 .run)) 𝓜 𝓡 code.env #table·store-if store-def.routine code.calls-table·store-if (store-thm.met 𝓤 H 𝓜 𝓖 𝓡))
+    (cited 𝓤 H (StoreIf 𝓤 H (𝓖 .A) (𝓜 .mem) (𝓡 .run)) 𝓜 𝓡 code.env #records·store-if store-def.routine code.calls-records·store-if (store-thm.met 𝓤 H 𝓜 𝓖 𝓡))
     (cited 𝓤 H (StampsOf 𝓤 H (𝓖 .A) (𝓜 .mem) (𝓡 .run)) 𝓜 𝓡 code.env #releases·release-stamps stamps-def.routine code.calls-releases·release-stamps (stamps-thm.met 𝓤 H 𝓜 𝓖 𝓡))
     (cited 𝓤 H (AnswerOf 𝓤 H (𝓖 .A) (𝓜 .mem) (𝓡 .run)) 𝓜 𝓡 code.env #releases·release-answer answer-def.routine code.calls-releases·release-answer (answer-thm.met 𝓤 H 𝓜 𝓖 𝓡)))

@@ -44,11 +44,11 @@ use Rattle.layer.specs.Answering.{commitArena, commitReply}
 use Rattle.claims.proofs.Served as D
 use Rattle.claims.proofs.Served.Laws as D′
 use Rattle.answers.specs.Core.{committingId, committingStart, committingLength}
-use Rattle.table.proofs.Walk.{Loan, Known, lent, sliceOf}
-use Rattle.table.proofs.Locals.{enters, used}
-use Rattle.table.proofs.Calls.{in-seq}
-use Rattle.table.proofs.Frame.{Done, finish, mut-meets}
-use Rattle.table.proofs.Steps.{LoadOr, StoreIf, load-or-step, store-if-step}
+use Rattle.records.proofs.Walk.{Loan, Known, lent, sliceOf}
+use Rattle.records.proofs.Locals.{enters, used}
+use Rattle.records.proofs.Calls.{in-seq}
+use Rattle.records.proofs.Frame.{Done, finish, mut-meets}
+use Rattle.records.proofs.Steps.{LoadOr, StoreIf, load-or-step, store-if-step}
 use Rattle.commit_answer.specs.Run.{runId}
 use Rattle.commit_answer.proofs.CommitLaws.{Room, room, replied, left}
 use Rattle.commit_answer.proofs.Steps.{RunPlace, Serve, RecordOf, ReplyOf, place-step, serve-step, record-of-step, reply-of-step}
@@ -64,12 +64,12 @@ use Rattle.commit_answer.proofs.record_of.Met as record-of-thm
 use Rattle.commit_answer.proofs.reply_of.Symbol as reply-of-def
 use Rattle.commit_answer.proofs.reply_of.Symbol.{name as #commit-answer·reply-of}
 use Rattle.commit_answer.proofs.reply_of.Met as reply-of-thm
-use Rattle.table.proofs.load_or.Symbol as load-def
-use Rattle.table.proofs.load_or.Symbol.{name as #table·load-or}
-use Rattle.table.proofs.load_or.Met as load-thm
-use Rattle.table.proofs.store_if.Symbol as store-def
-use Rattle.table.proofs.store_if.Symbol.{name as #table·store-if}
-use Rattle.table.proofs.store_if.Met as store-thm
+use Rattle.records.proofs.load_or.Symbol as load-def
+use Rattle.records.proofs.load_or.Symbol.{name as #records·load-or}
+use Rattle.records.proofs.load_or.Met as load-thm
+use Rattle.records.proofs.store_if.Symbol as store-def
+use Rattle.records.proofs.store_if.Symbol.{name as #records·store-if}
+use Rattle.records.proofs.store_if.Met as store-thm
 use Rattle.commit_answer.proofs.commit_part.Key.{name as #commit-answer·commit-part}
 use Rattle.commit_answer.proofs.commit_part as commit-part′
 use Rattle.commit_answer.proofs.commit_part.Statement as stated
@@ -77,10 +77,10 @@ use Rattle.commit_answer.proofs.commit_part.Code as code
 
 module _ {M : Type 1} (𝓤 : URA M) (H : Heap 𝓤) (A : Atoms 𝓤) (W : Given 𝓤 H A) (mem : Memory → SProp 𝓤) (run : Routine → Fun 𝓤) (𝓣 : Tables 𝓤 H)
     (known-place : Triple 𝓤 (𝓣 .C #commit-answer·run-place) (RunPlace 𝓤 H A mem run))
-    (known-load : Triple 𝓤 (𝓣 .C #table·load-or) (LoadOr 𝓤 H A mem run))
+    (known-load : Triple 𝓤 (𝓣 .C #records·load-or) (LoadOr 𝓤 H A mem run))
     (known-serve : Triple 𝓤 (𝓣 .C #commit-answer·serve) (Serve 𝓤 H A mem run))
     (known-record-of : Triple 𝓤 (𝓣 .C #commit-answer·record-of) (RecordOf 𝓤 H A mem run))
-    (known-store : Triple 𝓤 (𝓣 .C #table·store-if) (StoreIf 𝓤 H A mem run))
+    (known-store : Triple 𝓤 (𝓣 .C #records·store-if) (StoreIf 𝓤 H A mem run))
     (known-reply-of : Triple 𝓤 (𝓣 .C #commit-answer·reply-of) (ReplyOf 𝓤 H A mem run)) where
   module _ (κ : Lft) (q : Share) (γ : GName) (b o : ℕ) (ys : List Arena) (go : Bool) (z : State) (granted : Bool) (S : ℕ) where
     abbrev L : Loan
@@ -141,8 +141,8 @@ commit-part-spec 𝓤 H 𝓜 𝓖 𝓡 =
     (tables 𝓤 H 𝓜 𝓡 code.env .C) (tables 𝓤 H 𝓜 𝓡 code.env .Λ) #commit-answer·commit-part code.function (code.unfolded 𝓤 H 𝓜 𝓡)
     (commit-part-meets 𝓤 H (𝓖 .A) (givenOf 𝓤 H 𝓜 𝓖) (𝓜 .mem) (𝓡 .run) (tablesOf 𝓤 H 𝓜 (tables 𝓤 H 𝓜 𝓡 code.env))
     (cited 𝓤 H (RunPlace 𝓤 H (𝓖 .A) (𝓜 .mem) (𝓡 .run)) 𝓜 𝓡 code.env #commit-answer·run-place place-def.routine code.calls-commit-answer·run-place (place-thm.met 𝓤 H 𝓜 𝓖 𝓡))
-    (cited 𝓤 H (LoadOr 𝓤 H (𝓖 .A) (𝓜 .mem) (𝓡 .run)) 𝓜 𝓡 code.env #table·load-or load-def.routine code.calls-table·load-or (load-thm.met 𝓤 H 𝓜 𝓖 𝓡))
+    (cited 𝓤 H (LoadOr 𝓤 H (𝓖 .A) (𝓜 .mem) (𝓡 .run)) 𝓜 𝓡 code.env #records·load-or load-def.routine code.calls-records·load-or (load-thm.met 𝓤 H 𝓜 𝓖 𝓡))
     (cited 𝓤 H (Serve 𝓤 H (𝓖 .A) (𝓜 .mem) (𝓡 .run)) 𝓜 𝓡 code.env #commit-answer·serve serve-def.routine code.calls-commit-answer·serve (serve-thm.met 𝓤 H 𝓜 𝓖 𝓡))
     (cited 𝓤 H (RecordOf 𝓤 H (𝓖 .A) (𝓜 .mem) (𝓡 .run)) 𝓜 𝓡 code.env #commit-answer·record-of record-of-def.routine code.calls-commit-answer·record-of (record-of-thm.met 𝓤 H 𝓜 𝓖 𝓡))
-    (cited 𝓤 H (StoreIf 𝓤 H (𝓖 .A) (𝓜 .mem) (𝓡 .run)) 𝓜 𝓡 code.env #table·store-if store-def.routine code.calls-table·store-if (store-thm.met 𝓤 H 𝓜 𝓖 𝓡))
+    (cited 𝓤 H (StoreIf 𝓤 H (𝓖 .A) (𝓜 .mem) (𝓡 .run)) 𝓜 𝓡 code.env #records·store-if store-def.routine code.calls-records·store-if (store-thm.met 𝓤 H 𝓜 𝓖 𝓡))
     (cited 𝓤 H (ReplyOf 𝓤 H (𝓖 .A) (𝓜 .mem) (𝓡 .run)) 𝓜 𝓡 code.env #commit-answer·reply-of reply-of-def.routine code.calls-commit-answer·reply-of (reply-of-thm.met 𝓤 H 𝓜 𝓖 𝓡)))

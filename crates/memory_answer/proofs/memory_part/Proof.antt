@@ -47,10 +47,10 @@ use Rattle.writing.proofs.Writing as Y
 use Rattle.writing.proofs.Writing.Laws as Y′
 use Rattle.writing.proofs.WriteSteps.{Write, write-step}
 use Rattle.memory_answer.specs.Part.{writingOf, foundOf, againReply, againRecords, Reservable, memoryLeft}
-use Rattle.table.proofs.Walk.{Loan, Known, lent, sliceOf}
-use Rattle.table.proofs.Locals.{enters, used}
-use Rattle.table.proofs.Calls.{in-seq}
-use Rattle.table.proofs.Frame.{Done2, finish2, mut2-meets}
+use Rattle.records.proofs.Walk.{Loan, Known, lent, sliceOf}
+use Rattle.records.proofs.Locals.{enters, used}
+use Rattle.records.proofs.Calls.{in-seq}
+use Rattle.records.proofs.Frame.{Done2, finish2, mut2-meets}
 use Rattle.memory_answer.proofs.PartLaws.{stamps-long, written, looked-sound, comes}
 use Rattle.memory_answer.proofs.Steps.{MemoryDecided, AsWritten, SearchAgain, memory-decided-step, as-written-step, search-again-step}
 use Rattle.memory_answer.proofs.memory_decided.Symbol as memory-decided-def

@@ -54,11 +54,12 @@ use Rattle.memory.specs.declared.Memory.{Memory as Made}
 use Rattle.memory.proofs.Memory as X
 use Rattle.memory.proofs.Memory.Laws as X′
 use Rattle.memory_answer.specs.Part.{foundOf, foundArena, againReply, againRecords}
-use Rattle.table.proofs.Walk.{Loan, Known, lent, sliceOf}
-use Rattle.table.proofs.Locals.{enters, used}
-use Rattle.table.proofs.Calls.{in-seq}
-use Rattle.table.proofs.Frame.{Done, finish, mut-meets}
-use Rattle.table.proofs.Steps.{Scan, LoadOr, StoreIf, scan-step, load-or-step, store-if-step}
+use Rattle.records.proofs.Walk.{Loan, Known, lent, sliceOf}
+use Rattle.records.proofs.Locals.{enters, used}
+use Rattle.records.proofs.Calls.{in-seq}
+use Rattle.records.proofs.Frame.{Done, finish, mut-meets}
+use Rattle.records.proofs.Steps.{LoadOr, StoreIf, load-or-step, store-if-step}
+use Rattle.table.proofs.Steps.{Scan, scan-step}
 use Rattle.entry.proofs.EntrySteps.{Stored, stored-step}
 use Rattle.memory_answer.proofs.PartLaws.{again-found}
 use Rattle.memory_answer.proofs.Steps.{AgainQuery, SearchOf, RecordOf, ReplyOf, Ended, again-query-step, search-of-step, record-of-step, reply-of-step, ended-step}
@@ -74,18 +75,18 @@ use Rattle.table.proofs.scan.Met as scan-thm
 use Rattle.entry.proofs.stored_at.Symbol as stored-at-def
 use Rattle.entry.proofs.stored_at.Symbol.{name as #entry·stored-at}
 use Rattle.entry.proofs.stored_at.Met as stored-at-thm
-use Rattle.table.proofs.load_or.Symbol as load-or-def
-use Rattle.table.proofs.load_or.Symbol.{name as #table·load-or}
-use Rattle.table.proofs.load_or.Met as load-or-thm
+use Rattle.records.proofs.load_or.Symbol as load-or-def
+use Rattle.records.proofs.load_or.Symbol.{name as #records·load-or}
+use Rattle.records.proofs.load_or.Met as load-or-thm
 use Rattle.memory_answer.proofs.ended.Symbol as ended-def
 use Rattle.memory_answer.proofs.ended.Symbol.{name as #memory-answer·ended}
 use Rattle.memory_answer.proofs.ended.Met as ended-thm
 use Rattle.memory_answer.proofs.record_of.Symbol as record-of-def
 use Rattle.memory_answer.proofs.record_of.Symbol.{name as #memory-answer·record-of}
 use Rattle.memory_answer.proofs.record_of.Met as record-of-thm
-use Rattle.table.proofs.store_if.Symbol as store-if-def
-use Rattle.table.proofs.store_if.Symbol.{name as #table·store-if}
-use Rattle.table.proofs.store_if.Met as store-if-thm
+use Rattle.records.proofs.store_if.Symbol as store-if-def
+use Rattle.records.proofs.store_if.Symbol.{name as #records·store-if}
+use Rattle.records.proofs.store_if.Met as store-if-thm
 use Rattle.memory_answer.proofs.reply_of.Symbol as reply-of-def
 use Rattle.memory_answer.proofs.reply_of.Symbol.{name as #memory-answer·reply-of}
 use Rattle.memory_answer.proofs.reply_of.Met as reply-of-thm
@@ -99,10 +100,10 @@ module _ {M : Type 1} (𝓤 : URA M) (H : Heap 𝓤) (A : Atoms 𝓤) (W : Given
     (known-again-query : Triple 𝓤 (𝓣 .C #memory-answer·again-query) (AgainQuery 𝓤 H A mem run))
     (known-scan : Triple 𝓤 (𝓣 .C #table·scan) (Scan 𝓤 H A mem run))
     (known-stored-at : Triple 𝓤 (𝓣 .C #entry·stored-at) (Stored 𝓤 H A mem run))
-    (known-load-or : Triple 𝓤 (𝓣 .C #table·load-or) (LoadOr 𝓤 H A mem run))
+    (known-load-or : Triple 𝓤 (𝓣 .C #records·load-or) (LoadOr 𝓤 H A mem run))
     (known-ended : Triple 𝓤 (𝓣 .C #memory-answer·ended) (Ended 𝓤 H A mem run))
     (known-record-of : Triple 𝓤 (𝓣 .C #memory-answer·record-of) (RecordOf 𝓤 H A mem run))
-    (known-store-if : Triple 𝓤 (𝓣 .C #table·store-if) (StoreIf 𝓤 H A mem run))
+    (known-store-if : Triple 𝓤 (𝓣 .C #records·store-if) (StoreIf 𝓤 H A mem run))
     (known-reply-of : Triple 𝓤 (𝓣 .C #memory-answer·reply-of) (ReplyOf 𝓤 H A mem run)) where
   module _ (κ : Lft) (q : Share) (γ : GName) (b o : ℕ) (ys : List Arena) (m : Made) (S : ℕ) where
     abbrev L : Loan
@@ -180,8 +181,8 @@ search-again-spec 𝓤 H 𝓜 𝓖 𝓡 =
     (cited 𝓤 H (AgainQuery 𝓤 H (𝓖 .A) (𝓜 .mem) (𝓡 .run)) 𝓜 𝓡 code.env #memory-answer·again-query again-query-def.routine code.calls-memory-answer·again-query (again-query-thm.met 𝓤 H 𝓜 𝓖 𝓡))
     (cited 𝓤 H (Scan 𝓤 H (𝓖 .A) (𝓜 .mem) (𝓡 .run)) 𝓜 𝓡 code.env #table·scan scan-def.routine code.calls-table·scan (scan-thm.met 𝓤 H 𝓜 𝓖 𝓡))
     (cited 𝓤 H (Stored 𝓤 H (𝓖 .A) (𝓜 .mem) (𝓡 .run)) 𝓜 𝓡 code.env #entry·stored-at stored-at-def.routine code.calls-entry·stored-at (stored-at-thm.met 𝓤 H 𝓜 𝓖 𝓡))
-    (cited 𝓤 H (LoadOr 𝓤 H (𝓖 .A) (𝓜 .mem) (𝓡 .run)) 𝓜 𝓡 code.env #table·load-or load-or-def.routine code.calls-table·load-or (load-or-thm.met 𝓤 H 𝓜 𝓖 𝓡))
+    (cited 𝓤 H (LoadOr 𝓤 H (𝓖 .A) (𝓜 .mem) (𝓡 .run)) 𝓜 𝓡 code.env #records·load-or load-or-def.routine code.calls-records·load-or (load-or-thm.met 𝓤 H 𝓜 𝓖 𝓡))
     (cited 𝓤 H (Ended 𝓤 H (𝓖 .A) (𝓜 .mem) (𝓡 .run)) 𝓜 𝓡 code.env #memory-answer·ended ended-def.routine code.calls-memory-answer·ended (ended-thm.met 𝓤 H 𝓜 𝓖 𝓡))
     (cited 𝓤 H (RecordOf 𝓤 H (𝓖 .A) (𝓜 .mem) (𝓡 .run)) 𝓜 𝓡 code.env #memory-answer·record-of record-of-def.routine code.calls-memory-answer·record-of (record-of-thm.met 𝓤 H 𝓜 𝓖 𝓡))
-    (cited 𝓤 H (StoreIf 𝓤 H (𝓖 .A) (𝓜 .mem) (𝓡 .run)) 𝓜 𝓡 code.env #table·store-if store-if-def.routine code.calls-table·store-if (store-if-thm.met 𝓤 H 𝓜 𝓖 𝓡))
+    (cited 𝓤 H (StoreIf 𝓤 H (𝓖 .A) (𝓜 .mem) (𝓡 .run)) 𝓜 𝓡 code.env #records·store-if store-if-def.routine code.calls-records·store-if (store-if-thm.met 𝓤 H 𝓜 𝓖 𝓡))
     (cited 𝓤 H (ReplyOf 𝓤 H (𝓖 .A) (𝓜 .mem) (𝓡 .run)) 𝓜 𝓡 code.env #memory-answer·reply-of reply-of-def.routine code.calls-memory-answer·reply-of (reply-of-thm.met 𝓤 H 𝓜 𝓖 𝓡)))

@@ -47,17 +47,17 @@ use Rattle.layer.proofs.Reply as P
 use Rattle.layer.proofs.Reply.Laws as P′
 use Rattle.sweeps.proofs.Stay as Y
 use Rattle.sweeps.proofs.Stay.Laws as Y′
-use Rattle.table.proofs.Walk.{Loan, lent, sliceOf}
-use Rattle.table.proofs.Locals.{enters, used}
-use Rattle.table.proofs.Calls.{in-seq, swaps}
-use Rattle.table.proofs.Frame.{Done2, finish2, mut2-meets}
-use Rattle.table.proofs.Steps.{LoadOr, StoreIf, load-or-step, store-if-step}
-use Rattle.table.proofs.load_or.Symbol as load-def
-use Rattle.table.proofs.load_or.Symbol.{name as #table·load-or}
-use Rattle.table.proofs.load_or.Met as load-thm
-use Rattle.table.proofs.store_if.Symbol as store-def
-use Rattle.table.proofs.store_if.Symbol.{name as #table·store-if}
-use Rattle.table.proofs.store_if.Met as store-thm
+use Rattle.records.proofs.Walk.{Loan, lent, sliceOf}
+use Rattle.records.proofs.Locals.{enters, used}
+use Rattle.records.proofs.Calls.{in-seq, swaps}
+use Rattle.records.proofs.Frame.{Done2, finish2, mut2-meets}
+use Rattle.records.proofs.Steps.{LoadOr, StoreIf, load-or-step, store-if-step}
+use Rattle.records.proofs.load_or.Symbol as load-def
+use Rattle.records.proofs.load_or.Symbol.{name as #records·load-or}
+use Rattle.records.proofs.load_or.Met as load-thm
+use Rattle.records.proofs.store_if.Symbol as store-def
+use Rattle.records.proofs.store_if.Symbol.{name as #records·store-if}
+use Rattle.records.proofs.store_if.Met as store-thm
 use Rattle.sweeping.specs.Going.{nextPlace}
 use Rattle.sweeping.proofs.Steps.{ArenaLeft, Marks, On, arena-left-step, mark-step, sweep-on-step}
 use Rattle.sweeping.proofs.arena_left.Symbol as left-def
@@ -97,7 +97,7 @@ use Rattle.purge_answer.proofs.purge_part.Code as code
 
 module _ {M : Type 1} (𝓤 : URA M) (H : Heap 𝓤) (A : Atoms 𝓤) (W : Given 𝓤 H A) (mem : Memory → SProp 𝓤) (run : Routine → Fun 𝓤) (𝓣 : Tables 𝓤 H)
     (known-left : Triple 𝓤 (𝓣 .C #sweeping·arena-left) (ArenaLeft 𝓤 H A mem run)) (known-mark : Triple 𝓤 (𝓣 .C #sweeping·mark-of) (Marks 𝓤 H A mem run))
-    (known-load : Triple 𝓤 (𝓣 .C #table·load-or) (LoadOr 𝓤 H A mem run)) (known-store : Triple 𝓤 (𝓣 .C #table·store-if) (StoreIf 𝓤 H A mem run)) (known-on : Triple 𝓤 (𝓣 .C #sweeping·sweep-on) (On 𝓤 H A mem run))
+    (known-load : Triple 𝓤 (𝓣 .C #records·load-or) (LoadOr 𝓤 H A mem run)) (known-store : Triple 𝓤 (𝓣 .C #records·store-if) (StoreIf 𝓤 H A mem run)) (known-on : Triple 𝓤 (𝓣 .C #sweeping·sweep-on) (On 𝓤 H A mem run))
     (known-place : Triple 𝓤 (𝓣 .C #purge-answer·place-of) (Places 𝓤 H A mem run)) (known-count : Triple 𝓤 (𝓣 .C #purge-answer·count-of) (Counts 𝓤 H A mem run)) (known-for : Triple 𝓤 (𝓣 .C #purge-answer·sweep-for) (Begins 𝓤 H A mem run))
     (known-at : Triple 𝓤 (𝓣 .C #purge-answer·purge-at) (Ats 𝓤 H A mem run)) (known-rest : Triple 𝓤 (𝓣 .C #purge-answer·rest-from) (Rests 𝓤 H A mem run)) (known-pick : Triple 𝓤 (𝓣 .C #purge-answer·pick) (Picks 𝓤 H A mem run)) where
   module _ (L L′ : Loan) (ys : List Arena) (us : List ℕ) (go : Bool) (s : State) (granted : Bool) (S : ℕ) where
@@ -181,8 +181,8 @@ purge-part-spec 𝓤 H 𝓜 𝓖 𝓡 =
     (purge-part-meets 𝓤 H (𝓖 .A) (givenOf 𝓤 H 𝓜 𝓖) (𝓜 .mem) (𝓡 .run) (tablesOf 𝓤 H 𝓜 (tables 𝓤 H 𝓜 𝓡 code.env))
     (cited 𝓤 H (ArenaLeft 𝓤 H (𝓖 .A) (𝓜 .mem) (𝓡 .run)) 𝓜 𝓡 code.env #sweeping·arena-left left-def.routine code.calls-sweeping·arena-left (left-thm.met 𝓤 H 𝓜 𝓖 𝓡))
     (cited 𝓤 H (Marks 𝓤 H (𝓖 .A) (𝓜 .mem) (𝓡 .run)) 𝓜 𝓡 code.env #sweeping·mark-of mark-def.routine code.calls-sweeping·mark-of (mark-thm.met 𝓤 H 𝓜 𝓖 𝓡))
-    (cited 𝓤 H (LoadOr 𝓤 H (𝓖 .A) (𝓜 .mem) (𝓡 .run)) 𝓜 𝓡 code.env #table·load-or load-def.routine code.calls-table·load-or (load-thm.met 𝓤 H 𝓜 𝓖 𝓡))
-    (cited 𝓤 H (StoreIf 𝓤 H (𝓖 .A) (𝓜 .mem) (𝓡 .run)) 𝓜 𝓡 code.env #table·store-if store-def.routine code.calls-table·store-if (store-thm.met 𝓤 H 𝓜 𝓖 𝓡))
+    (cited 𝓤 H (LoadOr 𝓤 H (𝓖 .A) (𝓜 .mem) (𝓡 .run)) 𝓜 𝓡 code.env #records·load-or load-def.routine code.calls-records·load-or (load-thm.met 𝓤 H 𝓜 𝓖 𝓡))
+    (cited 𝓤 H (StoreIf 𝓤 H (𝓖 .A) (𝓜 .mem) (𝓡 .run)) 𝓜 𝓡 code.env #records·store-if store-def.routine code.calls-records·store-if (store-thm.met 𝓤 H 𝓜 𝓖 𝓡))
     (cited 𝓤 H (On 𝓤 H (𝓖 .A) (𝓜 .mem) (𝓡 .run)) 𝓜 𝓡 code.env #sweeping·sweep-on on-def.routine code.calls-sweeping·sweep-on (on-thm.met 𝓤 H 𝓜 𝓖 𝓡))
     (cited 𝓤 H (Places 𝓤 H (𝓖 .A) (𝓜 .mem) (𝓡 .run)) 𝓜 𝓡 code.env #purge-answer·place-of place-def.routine code.calls-purge-answer·place-of (place-thm.met 𝓤 H 𝓜 𝓖 𝓡))
     (cited 𝓤 H (Counts 𝓤 H (𝓖 .A) (𝓜 .mem) (𝓡 .run)) 𝓜 𝓡 code.env #purge-answer·count-of count-def.routine code.calls-purge-answer·count-of (count-thm.met 𝓤 H 𝓜 𝓖 𝓡))

@@ -52,17 +52,17 @@ use Rattle.registers.specs.Core.{gated}
 use Rattle.registers.proofs.gate.Symbol as gate-def
 use Rattle.registers.proofs.gate.Symbol.{name as #registers·gate}
 use Rattle.registers.proofs.gate.Met as gate-thm
-use Rattle.table.proofs.Walk.{Loan, lent, sliceOf}
-use Rattle.table.proofs.Locals.{enters, used}
-use Rattle.table.proofs.Calls.{in-seq}
-use Rattle.table.proofs.Frame.{Done2, finish2, mut2-meets}
+use Rattle.records.proofs.Walk.{Loan, lent, sliceOf}
+use Rattle.records.proofs.Locals.{enters, used}
+use Rattle.records.proofs.Calls.{in-seq}
+use Rattle.records.proofs.Frame.{Done2, finish2, mut2-meets}
 use Rattle.table.proofs.Steps.{Row, row-step}
 use Rattle.table.proofs.row_one.Symbol as row-def
 use Rattle.table.proofs.row_one.Symbol.{name as #table·row-one}
 use Rattle.table.proofs.row_one.Met as row-thm
 use Rattle.purge_due.specs.Going.{sweepCount}
 use Rattle.purge_due.proofs.CallLaws.{sweepable, swept, comes}
-use Rattle.table.proofs.Big.{big-lit}
+use Rattle.records.proofs.Big.{big-lit}
 use Rattle.entry.proofs.EntrySteps.{Page, page-step}
 use Rattle.sweeping.proofs.LentLaws.{Sweepable}
 use Rattle.sweeping.proofs.Steps.{On, Marks, sweep-on-step, mark-step}

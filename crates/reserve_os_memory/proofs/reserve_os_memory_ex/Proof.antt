@@ -42,13 +42,13 @@ use Rattle.layer.proofs.Reply.Laws as Y′
 use Rattle.layer.specs.declared.Settings.{Settings}
 use Rattle.layer.proofs.Settings as G
 use Rattle.layer.proofs.Settings.Laws as G′
-use Rattle.table.proofs.Walk.{Loan, Known, lent, sliceOf}
-use Rattle.table.proofs.Locals.{enters, used}
-use Rattle.table.proofs.Calls.{in-seq}
+use Rattle.records.proofs.Walk.{Loan, Known, lent, sliceOf}
+use Rattle.records.proofs.Locals.{enters, used}
+use Rattle.records.proofs.Calls.{in-seq}
 use Rattle.entry.proofs.EntrySteps.{Page, page-step}
-use Rattle.table.proofs.Frame.{Done2, finish2, mut2-meets}
+use Rattle.records.proofs.Frame.{Done2, finish2, mut2-meets}
 use Rattle.table.proofs.Steps.{Row, row-step}
-use Rattle.table.proofs.Big.{big-lit}
+use Rattle.records.proofs.Big.{big-lit}
 use Rattle.register_laws.proofs.Around.{as-left}
 use Rattle.register_laws.proofs.ReserveStep.{reserve-step as reserve-law}
 use Rattle.layer.specs.Table.{soundLent}

@@ -52,17 +52,17 @@ use Rattle.sweeps.specs.declared.Stay.{Stay}
 use Rattle.sweeps.specs.Core.{isAsked, arriveFound, arriveArena, arriveReply}
 use Rattle.sweeps.proofs.Stay as Y
 use Rattle.sweeps.proofs.Stay.Laws as Y′
-use Rattle.table.proofs.Walk.{Loan, lent, sliceOf}
-use Rattle.table.proofs.Locals.{Blocks, envOf, rooms, enters, used, room, tests, whiles}
-use Rattle.table.proofs.Calls.{in-seq, at-end, swaps}
-use Rattle.table.proofs.Frame.{Done2, finish2, mut2-meets}
-use Rattle.table.proofs.Steps.{LoadOr, StoreIf, load-or-step, store-if-step}
-use Rattle.table.proofs.load_or.Symbol as load-def
-use Rattle.table.proofs.load_or.Symbol.{name as #table·load-or}
-use Rattle.table.proofs.load_or.Met as load-thm
-use Rattle.table.proofs.store_if.Symbol as store-def
-use Rattle.table.proofs.store_if.Symbol.{name as #table·store-if}
-use Rattle.table.proofs.store_if.Met as store-thm
+use Rattle.records.proofs.Walk.{Loan, lent, sliceOf}
+use Rattle.records.proofs.Locals.{Blocks, envOf, rooms, enters, used, room, tests, whiles}
+use Rattle.records.proofs.Calls.{in-seq, at-end, swaps}
+use Rattle.records.proofs.Frame.{Done2, finish2, mut2-meets}
+use Rattle.records.proofs.Steps.{LoadOr, StoreIf, load-or-step, store-if-step}
+use Rattle.records.proofs.load_or.Symbol as load-def
+use Rattle.records.proofs.load_or.Symbol.{name as #records·load-or}
+use Rattle.records.proofs.load_or.Met as load-thm
+use Rattle.records.proofs.store_if.Symbol as store-def
+use Rattle.records.proofs.store_if.Symbol.{name as #records·store-if}
+use Rattle.records.proofs.store_if.Met as store-thm
 use Rattle.sweeps.proofs.swept_reply.Symbol as swept-def
 use Rattle.sweeps.proofs.swept_reply.Symbol.{name as #sweeps·swept-reply}
 use Rattle.sweeps.proofs.swept_reply.Met as swept-thm
@@ -138,7 +138,7 @@ abbrev slice₁ : Ty
 slice₁ = sliceTy (tyRef (named 1) mut (pointee (u32 .written)))
 
 module _ {M : Type 1} (𝓤 : URA M) (H : Heap 𝓤) (A : Atoms 𝓤) (W : Given 𝓤 H A) (mem : Memory → SProp 𝓤) (run : Routine → Fun 𝓤) (𝓣 : Tables 𝓤 H)
-    (known-load : Triple 𝓤 (𝓣 .C #table·load-or) (LoadOr 𝓤 H A mem run)) (known-store : Triple 𝓤 (𝓣 .C #table·store-if) (StoreIf 𝓤 H A mem run))
+    (known-load : Triple 𝓤 (𝓣 .C #records·load-or) (LoadOr 𝓤 H A mem run)) (known-store : Triple 𝓤 (𝓣 .C #records·store-if) (StoreIf 𝓤 H A mem run))
     (known-swept : Triple 𝓤 (𝓣 .C #sweeps·swept-reply) (Swept 𝓤 H A mem run)) (known-stay : Triple 𝓤 (𝓣 .C #sweeping·stay-at) (Stays 𝓤 H A mem run)) (known-arena : Triple 𝓤 (𝓣 .C #sweeping·arena-left) (ArenaLeft 𝓤 H A mem run))
     (known-reply : Triple 𝓤 (𝓣 .C #sweeping·reply-left) (ReplyLeft 𝓤 H A mem run)) (known-next : Triple 𝓤 (𝓣 .C #sweeping·next-place) (Next 𝓤 H A mem run)) where
   module _ (L L′ : Loan) (ys : List Arena) (us : List ℕ) (begin n : ℕ) (mark : Bool) (w : Sweep) (S : ℕ) where
@@ -225,8 +225,8 @@ sweep-on-spec 𝓤 H 𝓜 𝓖 𝓡 =
     entered 𝓤 H (tripleOf 𝓤 H (𝓖 .A) on′.signature (on′.spec 𝓤 H (𝓖 .A) (𝓜 .mem) (𝓡 .run)))
     (tables 𝓤 H 𝓜 𝓡 code.env .C) (tables 𝓤 H 𝓜 𝓡 code.env .Λ) #sweeping·sweep-on code.function (code.unfolded 𝓤 H 𝓜 𝓡)
     (sweep-on-meets 𝓤 H (𝓖 .A) (givenOf 𝓤 H 𝓜 𝓖) (𝓜 .mem) (𝓡 .run) (tablesOf 𝓤 H 𝓜 (tables 𝓤 H 𝓜 𝓡 code.env))
-    (cited 𝓤 H (LoadOr 𝓤 H (𝓖 .A) (𝓜 .mem) (𝓡 .run)) 𝓜 𝓡 code.env #table·load-or load-def.routine code.calls-table·load-or (load-thm.met 𝓤 H 𝓜 𝓖 𝓡))
-    (cited 𝓤 H (StoreIf 𝓤 H (𝓖 .A) (𝓜 .mem) (𝓡 .run)) 𝓜 𝓡 code.env #table·store-if store-def.routine code.calls-table·store-if (store-thm.met 𝓤 H 𝓜 𝓖 𝓡))
+    (cited 𝓤 H (LoadOr 𝓤 H (𝓖 .A) (𝓜 .mem) (𝓡 .run)) 𝓜 𝓡 code.env #records·load-or load-def.routine code.calls-records·load-or (load-thm.met 𝓤 H 𝓜 𝓖 𝓡))
+    (cited 𝓤 H (StoreIf 𝓤 H (𝓖 .A) (𝓜 .mem) (𝓡 .run)) 𝓜 𝓡 code.env #records·store-if store-def.routine code.calls-records·store-if (store-thm.met 𝓤 H 𝓜 𝓖 𝓡))
     (cited 𝓤 H (Swept 𝓤 H (𝓖 .A) (𝓜 .mem) (𝓡 .run)) 𝓜 𝓡 code.env #sweeps·swept-reply swept-def.routine code.calls-sweeps·swept-reply (swept-thm.met 𝓤 H 𝓜 𝓖 𝓡))
     (cited 𝓤 H (Stays 𝓤 H (𝓖 .A) (𝓜 .mem) (𝓡 .run)) 𝓜 𝓡 code.env #sweeping·stay-at stay-def.routine code.calls-sweeping·stay-at (stay-thm.met 𝓤 H 𝓜 𝓖 𝓡))
     (cited 𝓤 H (ArenaLeft 𝓤 H (𝓖 .A) (𝓜 .mem) (𝓡 .run)) 𝓜 𝓡 code.env #sweeping·arena-left arena-def.routine code.calls-sweeping·arena-left (arena-thm.met 𝓤 H 𝓜 𝓖 𝓡))

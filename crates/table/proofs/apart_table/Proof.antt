@@ -46,10 +46,10 @@ use Rattle.judge.proofs.Head as D
 use Rattle.judge.proofs.Head.Laws as D′
 use Rattle.judge.proofs.Span as P
 use Rattle.judge.proofs.Span.Laws as P′
-use Rattle.table.proofs.Walk.{Loan, Known, shared, sliceOf}
-use Rattle.table.proofs.Locals.{Blocks, envOf, rooms, enters, used, room, if-else, tests, whiles}
-use Rattle.table.proofs.Calls.{in-seq}
-use Rattle.table.proofs.Frame.{DoneS, finishS, shr-meets}
+use Rattle.records.proofs.Walk.{Loan, Known, shared, sliceOf}
+use Rattle.records.proofs.Locals.{Blocks, envOf, rooms, enters, used, room, if-else, tests, whiles}
+use Rattle.records.proofs.Calls.{in-seq}
+use Rattle.records.proofs.Frame.{DoneS, finishS, shr-meets}
 use Rattle.table.proofs.TableLaws.{ends-at, alone, apart-is, covers-none, covers-more}
 use Rattle.table.proofs.Leaf.{NoSpan, HeadOr, MeetsNone, SpanWith, no-span-step, head-or-pass, meets-none-pass, span-step}
 use Rattle.judge.proofs.no_span.Symbol as span-def

@@ -44,21 +44,21 @@ use Rattle.judge.proofs.Query as Q
 use Rattle.judge.proofs.Query.Laws as Q′
 use Rattle.judge.proofs.Head as D
 use Rattle.judge.proofs.Head.Laws as D′
-use Rattle.table.proofs.Walk.{Loan, Known, shared, sliceOf}
-use Rattle.table.proofs.Locals.{enters, used, room, if-else}
-use Rattle.table.proofs.Calls.{in-seq}
-use Rattle.table.proofs.Frame.{DoneS, finishS, shr-meets}
+use Rattle.records.proofs.Walk.{Loan, Known, shared, sliceOf}
+use Rattle.records.proofs.Locals.{enters, used, room, if-else}
+use Rattle.records.proofs.Calls.{in-seq}
+use Rattle.records.proofs.Frame.{DoneS, finishS, shr-meets}
 use Rattle.table.proofs.Leaf.{HeadOr, AsksMaps, HitHead, Hits, head-or-pass, asks-step, hit-head-step, hit-step}
-use Rattle.table.proofs.Steps.{LoadOr, load-or-pass}
+use Rattle.records.proofs.Steps.{LoadOr, load-or-pass}
 use Rattle.table.proofs.head_or.Symbol as head-def
 use Rattle.table.proofs.head_or.Symbol.{name as #table·head-or}
 use Rattle.table.proofs.head_or.Met as head-thm
 use Rattle.judge.proofs.asks_maps.Symbol as asks-def
 use Rattle.judge.proofs.asks_maps.Symbol.{name as #judge·asks-maps}
 use Rattle.judge.proofs.asks_maps.Met as asks-thm
-use Rattle.table.proofs.load_or.Symbol as load-def
-use Rattle.table.proofs.load_or.Symbol.{name as #table·load-or}
-use Rattle.table.proofs.load_or.Met as load-thm
+use Rattle.records.proofs.load_or.Symbol as load-def
+use Rattle.records.proofs.load_or.Symbol.{name as #records·load-or}
+use Rattle.records.proofs.load_or.Met as load-thm
 use Rattle.judge.proofs.hit.Symbol as hit-def
 use Rattle.judge.proofs.hit.Symbol.{name as #judge·hit}
 use Rattle.judge.proofs.hit.Met as hit-thm
@@ -76,7 +76,7 @@ not-asked false h = refl
 
 module _ {M : Type 1} (𝓤 : URA M) (H : Heap 𝓤) (A : Atoms 𝓤) (W : Given 𝓤 H A) (mem : Memory → SProp 𝓤) (run : Routine → Fun 𝓤) (𝓣 : Tables 𝓤 H)
     (known-head : Triple 𝓤 (𝓣 .C #table·head-or) (HeadOr 𝓤 H A mem run)) (known-asks : Triple 𝓤 (𝓣 .C #judge·asks-maps) (AsksMaps 𝓤 H A mem run))
-    (known-load : Triple 𝓤 (𝓣 .C #table·load-or) (LoadOr 𝓤 H A mem run)) (known-hit : Triple 𝓤 (𝓣 .C #judge·hit) (Hits 𝓤 H A mem run))
+    (known-load : Triple 𝓤 (𝓣 .C #records·load-or) (LoadOr 𝓤 H A mem run)) (known-hit : Triple 𝓤 (𝓣 .C #judge·hit) (Hits 𝓤 H A mem run))
     (known-top : Triple 𝓤 (𝓣 .C #judge·hit-head) (HitHead 𝓤 H A mem run)) where
   module _ (κ : Lft) (q : Share) (γ : GName) (b o : ℕ) (ys : List Arena) (j : ℕ) (query : Query) (S : ℕ) where
     abbrev L : Loan
@@ -134,6 +134,6 @@ hits-at-spec 𝓤 H 𝓜 𝓖 𝓡 =
     (hits-meets 𝓤 H (𝓖 .A) (givenOf 𝓤 H 𝓜 𝓖) (𝓜 .mem) (𝓡 .run) (tablesOf 𝓤 H 𝓜 (tables 𝓤 H 𝓜 𝓡 code.env))
     (cited 𝓤 H (HeadOr 𝓤 H (𝓖 .A) (𝓜 .mem) (𝓡 .run)) 𝓜 𝓡 code.env #table·head-or head-def.routine code.calls-table·head-or (head-thm.met 𝓤 H 𝓜 𝓖 𝓡))
     (cited 𝓤 H (AsksMaps 𝓤 H (𝓖 .A) (𝓜 .mem) (𝓡 .run)) 𝓜 𝓡 code.env #judge·asks-maps asks-def.routine code.calls-judge·asks-maps (asks-thm.met 𝓤 H 𝓜 𝓖 𝓡))
-    (cited 𝓤 H (LoadOr 𝓤 H (𝓖 .A) (𝓜 .mem) (𝓡 .run)) 𝓜 𝓡 code.env #table·load-or load-def.routine code.calls-table·load-or (load-thm.met 𝓤 H 𝓜 𝓖 𝓡))
+    (cited 𝓤 H (LoadOr 𝓤 H (𝓖 .A) (𝓜 .mem) (𝓡 .run)) 𝓜 𝓡 code.env #records·load-or load-def.routine code.calls-records·load-or (load-thm.met 𝓤 H 𝓜 𝓖 𝓡))
     (cited 𝓤 H (Hits 𝓤 H (𝓖 .A) (𝓜 .mem) (𝓡 .run)) 𝓜 𝓡 code.env #judge·hit hit-def.routine code.calls-judge·hit (hit-thm.met 𝓤 H 𝓜 𝓖 𝓡))
     (cited 𝓤 H (HitHead 𝓤 H (𝓖 .A) (𝓜 .mem) (𝓡 .run)) 𝓜 𝓡 code.env #judge·hit-head top-def.routine code.calls-judge·hit-head (top-thm.met 𝓤 H 𝓜 𝓖 𝓡)))

@@ -49,10 +49,10 @@ use Rattle.judge.proofs.Head as D
 use Rattle.judge.proofs.Head.Laws as D′
 use Rattle.judge.proofs.Span as P
 use Rattle.judge.proofs.Span.Laws as P′
-use Rattle.table.proofs.Walk.{Loan, Known, shared, sliceOf}
-use Rattle.table.proofs.Locals.{enters, used, room, if-else}
-use Rattle.table.proofs.Calls.{in-seq}
-use Rattle.table.proofs.Frame.{DoneS, finishS, shr-meets}
+use Rattle.records.proofs.Walk.{Loan, Known, shared, sliceOf}
+use Rattle.records.proofs.Locals.{enters, used, room, if-else}
+use Rattle.records.proofs.Calls.{in-seq}
+use Rattle.records.proofs.Frame.{DoneS, finishS, shr-meets}
 use Rattle.table.proofs.TableLaws.{outside-alone, scan-overlaps}
 use Rattle.table.proofs.Leaf.{Outside, Range, IsNothing, outside-step, range-step, is-nothing-step}
 use Rattle.table.proofs.Steps.{Scan, scan-pass}

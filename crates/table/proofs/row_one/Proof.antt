@@ -40,12 +40,12 @@ use Rattle.arena.proofs.Arena as T
 use Rattle.arena.proofs.Arena.Laws as T′
 use Rattle.judge.proofs.Query as Q
 use Rattle.judge.proofs.Query.Laws as Q′
-use Rattle.table.proofs.Walk.{Loan, Known, shared, sliceOf}
-use Rattle.table.proofs.Calls.{in-seq}
-use Rattle.table.proofs.Frame.{DoneS, finishS, shr-meets}
-use Rattle.table.proofs.load_or.Symbol as load-def
-use Rattle.table.proofs.load_or.Symbol.{name as #table·load-or}
-use Rattle.table.proofs.load_or.Met as load-thm
+use Rattle.records.proofs.Walk.{Loan, Known, shared, sliceOf}
+use Rattle.records.proofs.Calls.{in-seq}
+use Rattle.records.proofs.Frame.{DoneS, finishS, shr-meets}
+use Rattle.records.proofs.load_or.Symbol as load-def
+use Rattle.records.proofs.load_or.Symbol.{name as #records·load-or}
+use Rattle.records.proofs.load_or.Met as load-thm
 use Rattle.table.proofs.scan.Symbol as scan-def
 use Rattle.table.proofs.scan.Symbol.{name as #table·scan}
 use Rattle.table.proofs.scan.Met as scan-thm
@@ -62,10 +62,11 @@ use Rattle.layer.proofs.State as Z
 use Rattle.layer.proofs.State.Laws as Z′
 use Rattle.judge.specs.declared.Query.the-variants.{Unsound}
 use Rattle.judge.specs.Scan.{scanOf}
-use Rattle.table.proofs.Locals.{enters, used, room, if-else}
+use Rattle.records.proofs.Locals.{enters, used, room, if-else}
 use Rattle.table.proofs.TableLaws.{sounds-scan, few-at, row-is}
 use Rattle.table.proofs.Leaf.{IsAt, Unsounds, Lent, About, Asked, Questions, is-at-step, unsound-step, lent-step, about-step, asked-step, question-step}
-use Rattle.table.proofs.Steps.{LoadOr, Scan, Apart, load-or-pass, scan-pass, apart-pass}
+use Rattle.records.proofs.Steps.{LoadOr, load-or-pass}
+use Rattle.table.proofs.Steps.{Scan, Apart, scan-pass, apart-pass}
 use Rattle.row_parts.proofs.unsound_query.Symbol as unsound-def
 use Rattle.row_parts.proofs.unsound_query.Symbol.{name as #row-parts·unsound-query}
 use Rattle.row_parts.proofs.unsound_query.Met as unsound-thm
@@ -136,7 +137,7 @@ module _ {M : Type 1} (𝓤 : URA M) (H : Heap 𝓤) (A : Atoms 𝓤) (W : Given
     (known-lent : Triple 𝓤 (𝓣 .C #row-parts·lent-sound) (Lent 𝓤 H A mem run)) (known-unsound : Triple 𝓤 (𝓣 .C #row-parts·unsound-query) (Unsounds 𝓤 H A mem run))
     (known-scan : Triple 𝓤 (𝓣 .C #table·scan) (Scan 𝓤 H A mem run)) (known-is-at : Triple 𝓤 (𝓣 .C #row-parts·is-at) (IsAt 𝓤 H A mem run))
     (known-apart : Triple 𝓤 (𝓣 .C #table·apart-table) (Apart 𝓤 H A mem run)) (known-about : Triple 𝓤 (𝓣 .C #open-question·is-about-none) (About 𝓤 H A mem run)) (known-asked : Triple 𝓤 (𝓣 .C #open-question·asked-id) (Asked 𝓤 H A mem run))
-    (known-load : Triple 𝓤 (𝓣 .C #table·load-or) (LoadOr 𝓤 H A mem run)) (known-question : Triple 𝓤 (𝓣 .C #open-question·question-sound) (Questions 𝓤 H A mem run)) where
+    (known-load : Triple 𝓤 (𝓣 .C #records·load-or) (LoadOr 𝓤 H A mem run)) (known-question : Triple 𝓤 (𝓣 .C #open-question·question-sound) (Questions 𝓤 H A mem run)) where
   module _ (κ : Lft) (q : Share) (γ : GName) (b o : ℕ) (ys : List Arena) (stamps : ℕ) (state : State) (page S : ℕ) where
     abbrev L : Loan
     L = record { κ = κ; q = q; γ = γ; b = b; o = o; n = length ys }
@@ -241,5 +242,5 @@ row-one-spec 𝓤 H 𝓜 𝓖 𝓡 =
     (cited 𝓤 H (Apart 𝓤 H (𝓖 .A) (𝓜 .mem) (𝓡 .run)) 𝓜 𝓡 code.env #table·apart-table apart-def.routine code.calls-table·apart-table (apart-thm.met 𝓤 H 𝓜 𝓖 𝓡))
     (cited 𝓤 H (About 𝓤 H (𝓖 .A) (𝓜 .mem) (𝓡 .run)) 𝓜 𝓡 code.env #open-question·is-about-none about-def.routine code.calls-open-question·is-about-none (about-thm.met 𝓤 H 𝓜 𝓖 𝓡))
     (cited 𝓤 H (Asked 𝓤 H (𝓖 .A) (𝓜 .mem) (𝓡 .run)) 𝓜 𝓡 code.env #open-question·asked-id asked-def.routine code.calls-open-question·asked-id (asked-thm.met 𝓤 H 𝓜 𝓖 𝓡))
-    (cited 𝓤 H (LoadOr 𝓤 H (𝓖 .A) (𝓜 .mem) (𝓡 .run)) 𝓜 𝓡 code.env #table·load-or load-def.routine code.calls-table·load-or (load-thm.met 𝓤 H 𝓜 𝓖 𝓡))
+    (cited 𝓤 H (LoadOr 𝓤 H (𝓖 .A) (𝓜 .mem) (𝓡 .run)) 𝓜 𝓡 code.env #records·load-or load-def.routine code.calls-records·load-or (load-thm.met 𝓤 H 𝓜 𝓖 𝓡))
     (cited 𝓤 H (Questions 𝓤 H (𝓖 .A) (𝓜 .mem) (𝓡 .run)) 𝓜 𝓡 code.env #open-question·question-sound question-def.routine code.calls-open-question·question-sound (question-thm.met 𝓤 H 𝓜 𝓖 𝓡)))

@@ -37,11 +37,11 @@ use Rattle.layer.proofs.Reply.Laws as Y′
 use Rattle.writing.specs.declared.Writing.{Writing}
 use Rattle.writing.proofs.Writing as X
 use Rattle.writing.proofs.Writing.Laws as X′
-use Rattle.table.proofs.Walk.{Loan, Known, lent, sliceOf}
-use Rattle.table.proofs.Locals.{enters, used}
-use Rattle.table.proofs.Calls.{in-seq, swaps}
-use Rattle.table.proofs.Frame.{Done2, finish2, mut2-meets}
-use Rattle.table.proofs.Steps.{StoreIf, store-if-step}
+use Rattle.records.proofs.Walk.{Loan, Known, lent, sliceOf}
+use Rattle.records.proofs.Locals.{enters, used}
+use Rattle.records.proofs.Calls.{in-seq, swaps}
+use Rattle.records.proofs.Frame.{Done2, finish2, mut2-meets}
+use Rattle.records.proofs.Steps.{StoreIf, store-if-step}
 use Rattle.writing.proofs.WriteSteps.{RecordPlace, RecordOf, StampedOf, ReplyOf, ZeroStamps, record-place-step, record-of-step, stamped-of-step, reply-of-step, zero-stamps-step}
 use Rattle.registers.specs.Core.{stampsWith}
 use Rattle.writing.specs.Places.{recordPlace}
@@ -54,9 +54,9 @@ use Rattle.writing.proofs.record_of.Met as record-of-thm
 use Rattle.writing.proofs.stamped_of.Symbol as stamped-of-def
 use Rattle.writing.proofs.stamped_of.Symbol.{name as #writing·stamped-of}
 use Rattle.writing.proofs.stamped_of.Met as stamped-of-thm
-use Rattle.table.proofs.store_if.Symbol as store-def
-use Rattle.table.proofs.store_if.Symbol.{name as #table·store-if}
-use Rattle.table.proofs.store_if.Met as store-thm
+use Rattle.records.proofs.store_if.Symbol as store-def
+use Rattle.records.proofs.store_if.Symbol.{name as #records·store-if}
+use Rattle.records.proofs.store_if.Met as store-thm
 use Rattle.writing.proofs.zero_stamps.Symbol as zero-stamps-def
 use Rattle.writing.proofs.zero_stamps.Symbol.{name as #writing·zero-stamps}
 use Rattle.writing.proofs.zero_stamps.Met as zero-stamps-thm
@@ -72,7 +72,7 @@ module _ {M : Type 1} (𝓤 : URA M) (H : Heap 𝓤) (A : Atoms 𝓤) (W : Given
     (known-record-place : Triple 𝓤 (𝓣 .C #writing·record-place) (RecordPlace 𝓤 H A mem run))
     (known-record-of : Triple 𝓤 (𝓣 .C #writing·record-of) (RecordOf 𝓤 H A mem run))
     (known-stamped-of : Triple 𝓤 (𝓣 .C #writing·stamped-of) (StampedOf 𝓤 H A mem run))
-    (known-store : Triple 𝓤 (𝓣 .C #table·store-if) (StoreIf 𝓤 H A mem run))
+    (known-store : Triple 𝓤 (𝓣 .C #records·store-if) (StoreIf 𝓤 H A mem run))
     (known-zero-stamps : Triple 𝓤 (𝓣 .C #writing·zero-stamps) (ZeroStamps 𝓤 H A mem run))
     (known-reply-of : Triple 𝓤 (𝓣 .C #writing·reply-of) (ReplyOf 𝓤 H A mem run)) where
   module _ (κ κ′ : Lft) (q q′ : Share) (γ γ′ : GName) (b o b′ o′ : ℕ) (ys : List Arena) (us : List ℕ) (w : Writing) where
@@ -130,6 +130,6 @@ write-spec 𝓤 H 𝓜 𝓖 𝓡 =
     (cited 𝓤 H (RecordPlace 𝓤 H (𝓖 .A) (𝓜 .mem) (𝓡 .run)) 𝓜 𝓡 code.env #writing·record-place record-place-def.routine code.calls-writing·record-place (record-place-thm.met 𝓤 H 𝓜 𝓖 𝓡))
     (cited 𝓤 H (RecordOf 𝓤 H (𝓖 .A) (𝓜 .mem) (𝓡 .run)) 𝓜 𝓡 code.env #writing·record-of record-of-def.routine code.calls-writing·record-of (record-of-thm.met 𝓤 H 𝓜 𝓖 𝓡))
     (cited 𝓤 H (StampedOf 𝓤 H (𝓖 .A) (𝓜 .mem) (𝓡 .run)) 𝓜 𝓡 code.env #writing·stamped-of stamped-of-def.routine code.calls-writing·stamped-of (stamped-of-thm.met 𝓤 H 𝓜 𝓖 𝓡))
-    (cited 𝓤 H (StoreIf 𝓤 H (𝓖 .A) (𝓜 .mem) (𝓡 .run)) 𝓜 𝓡 code.env #table·store-if store-def.routine code.calls-table·store-if (store-thm.met 𝓤 H 𝓜 𝓖 𝓡))
+    (cited 𝓤 H (StoreIf 𝓤 H (𝓖 .A) (𝓜 .mem) (𝓡 .run)) 𝓜 𝓡 code.env #records·store-if store-def.routine code.calls-records·store-if (store-thm.met 𝓤 H 𝓜 𝓖 𝓡))
     (cited 𝓤 H (ZeroStamps 𝓤 H (𝓖 .A) (𝓜 .mem) (𝓡 .run)) 𝓜 𝓡 code.env #writing·zero-stamps zero-stamps-def.routine code.calls-writing·zero-stamps (zero-stamps-thm.met 𝓤 H 𝓜 𝓖 𝓡))
     (cited 𝓤 H (ReplyOf 𝓤 H (𝓖 .A) (𝓜 .mem) (𝓡 .run)) 𝓜 𝓡 code.env #writing·reply-of reply-of-def.routine code.calls-writing·reply-of (reply-of-thm.met 𝓤 H 𝓜 𝓖 𝓡)))

@@ -1,4 +1,4 @@
--- `table::store_if` meets its contract: a walk of its MIR, by hand, over `proofs/Walk.antt` and what stands beside it. All that it knows of `store` is that each meets its contract.
+-- `records::store_if` meets its contract: a walk of its MIR, by hand, over `proofs/Walk.antt` and what stands beside it. All that it knows of `store` is that each meets its contract.
 -- Assumes nothing.
 use mathlib.Core.Path.{_≡_, refl, ap}
 use Prim.Native.Nat.{ℕ, zero, suc, _<_, _≤_, _^_}
@@ -39,19 +39,19 @@ use denote.Triple.Table.{entered, cited}
 use Rattle.arena.specs.declared.Arena.{Arena}
 use Rattle.arena.proofs.Arena as T
 use Rattle.arena.proofs.Arena.Laws as T′
-use Rattle.table.proofs.Walk.{Loan, Known, lent, sliceOf}
-use Rattle.table.proofs.Locals.{envOf, enters, used, room, if-else}
-use Rattle.table.proofs.Calls.{at-end}
-use Rattle.table.proofs.Frame.{Done, finish, loanOf, mut-meets}
-use Rattle.table.proofs.Leaf.{Store, store-step}
-use Rattle.table.proofs.store.Symbol as store-def
-use Rattle.table.proofs.store.Symbol.{name as #table·store}
-use Rattle.table.proofs.store.Met as store-thm
-use Rattle.table.proofs.store_if.Key.{name as #table·store-if}
-use Rattle.table.proofs.store_if as store-if′
-use Rattle.table.proofs.store_if.Statement as stated
-use Rattle.table.proofs.store_if.Code as code
-use Rattle.table.proofs.store_if.Code.Mir.{t-4}
+use Rattle.records.proofs.Walk.{Loan, Known, lent, sliceOf}
+use Rattle.records.proofs.Locals.{envOf, enters, used, room, if-else}
+use Rattle.records.proofs.Calls.{at-end}
+use Rattle.records.proofs.Frame.{Done, finish, loanOf, mut-meets}
+use Rattle.records.proofs.Leaf.{Store, store-step}
+use Rattle.records.proofs.store.Symbol as store-def
+use Rattle.records.proofs.store.Symbol.{name as #records·store}
+use Rattle.records.proofs.store.Met as store-thm
+use Rattle.records.proofs.store_if.Key.{name as #records·store-if}
+use Rattle.records.proofs.store_if as store-if′
+use Rattle.records.proofs.store_if.Statement as stated
+use Rattle.records.proofs.store_if.Code as code
+use Rattle.records.proofs.store_if.Code.Mir.{t-4}
 
 -- past the end of a list nothing is set
 past : (l : List Arena) (i : ℕ) (a : Arena) → length l ≤ i → l ≡ set l i a
@@ -59,7 +59,7 @@ past [] i a h = refl
 past (x ∷ l) zero a h = absurd (not-suc-le-zero h)
 past (x ∷ l) (suc i) a h = ap (λ r. x ∷ r) (past l i a (le-of-suc-le-suc h))
 
-module _ {M : Type 1} (𝓤 : URA M) (H : Heap 𝓤) (A : Atoms 𝓤) (W : Given 𝓤 H A) (mem : Memory → SProp 𝓤) (run : Routine → Fun 𝓤) (𝓣 : Tables 𝓤 H) (known-store : Triple 𝓤 (𝓣 .C #table·store) (Store 𝓤 H A mem run)) where
+module _ {M : Type 1} (𝓤 : URA M) (H : Heap 𝓤) (A : Atoms 𝓤) (W : Given 𝓤 H A) (mem : Memory → SProp 𝓤) (run : Routine → Fun 𝓤) (𝓣 : Tables 𝓤 H) (known-store : Triple 𝓤 (𝓣 .C #records·store) (Store 𝓤 H A mem run)) where
   module _ (κ : Lft) (q : Share) (γ : GName) (b o : ℕ) (ys : List Arena) (id : ℕ) (a : Arena) where
     abbrev L : Loan
     L = record { κ = κ; q = q; γ = γ; b = b; o = o; n = length ys }
@@ -103,6 +103,6 @@ pub store-if-spec : {M : Type 1} → stated.statement M
 unfolding code.routine tablesOf
 store-if-spec 𝓤 H 𝓜 𝓖 𝓡 =
     entered 𝓤 H (tripleOf 𝓤 H (𝓖 .A) store-if′.signature (store-if′.spec 𝓤 H (𝓖 .A) (𝓜 .mem) (𝓡 .run)))
-    (tables 𝓤 H 𝓜 𝓡 code.env .C) (tables 𝓤 H 𝓜 𝓡 code.env .Λ) #table·store-if code.function (code.unfolded 𝓤 H 𝓜 𝓡)
+    (tables 𝓤 H 𝓜 𝓡 code.env .C) (tables 𝓤 H 𝓜 𝓡 code.env .Λ) #records·store-if code.function (code.unfolded 𝓤 H 𝓜 𝓡)
     (store-if-meets 𝓤 H (𝓖 .A) (givenOf 𝓤 H 𝓜 𝓖) (𝓜 .mem) (𝓡 .run) (tablesOf 𝓤 H 𝓜 (tables 𝓤 H 𝓜 𝓡 code.env))
-    (cited 𝓤 H (Store 𝓤 H (𝓖 .A) (𝓜 .mem) (𝓡 .run)) 𝓜 𝓡 code.env #table·store store-def.routine code.calls-table·store (store-thm.met 𝓤 H 𝓜 𝓖 𝓡)))
+    (cited 𝓤 H (Store 𝓤 H (𝓖 .A) (𝓜 .mem) (𝓡 .run)) 𝓜 𝓡 code.env #records·store store-def.routine code.calls-records·store (store-thm.met 𝓤 H 𝓜 𝓖 𝓡)))

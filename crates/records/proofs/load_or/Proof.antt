@@ -1,4 +1,4 @@
--- `table::load_or` meets its contract: a walk of its MIR, by hand. All that it knows of `load` and `blank_arena` is that each meets its contract.
+-- `records::load_or` meets its contract: a walk of its MIR, by hand. All that it knows of `load` and `blank_arena` is that each meets its contract.
 -- Assumes nothing.
 use mathlib.Core.Path.{_≡_, refl, sym, subst, _∙_}
 use Prim.Native.Nat.{ℕ, _<_, _^_}
@@ -36,26 +36,26 @@ use Rattle.arena.specs.declared.Arena.{Arena}
 use Rattle.layer.specs.World.{blank}
 use Rattle.arena.proofs.Arena as T
 use Rattle.arena.proofs.Arena.Laws as T′
-use Rattle.table.proofs.Walk.{Loan, Known, shared, sliceOf}
-use Rattle.table.proofs.Locals.{enters, used, if-else}
-use Rattle.table.proofs.Calls.{in-seq}
-use Rattle.table.proofs.Frame.{DoneS, finishS, shr-meets}
-use Rattle.table.proofs.TableLaws.{past}
-use Rattle.table.proofs.Leaf.{Load, load-pass}
-use Rattle.table.proofs.Steps.{Blank, blank-step}
-use Rattle.table.proofs.load.Symbol as load-def
-use Rattle.table.proofs.load.Symbol.{name as #table·load}
-use Rattle.table.proofs.load.Met as load-thm
-use Rattle.table.proofs.blank_arena.Symbol as blank-def
-use Rattle.table.proofs.blank_arena.Symbol.{name as #table·blank-arena}
-use Rattle.table.proofs.blank_arena.Met as blank-thm
-use Rattle.table.proofs.load_or.Key.{name as #table·load-or}
-use Rattle.table.proofs.load_or as load-or′
-use Rattle.table.proofs.load_or.Statement as stated
-use Rattle.table.proofs.load_or.Code as code
+use Rattle.records.proofs.Walk.{Loan, Known, shared, sliceOf}
+use Rattle.records.proofs.Locals.{enters, used, if-else}
+use Rattle.records.proofs.Calls.{in-seq}
+use Rattle.records.proofs.Frame.{DoneS, finishS, shr-meets}
+use Rattle.records.proofs.Ends.{past}
+use Rattle.records.proofs.Leaf.{Load, load-pass}
+use Rattle.records.proofs.Steps.{Blank, blank-step}
+use Rattle.records.proofs.load.Symbol as load-def
+use Rattle.records.proofs.load.Symbol.{name as #records·load}
+use Rattle.records.proofs.load.Met as load-thm
+use Rattle.records.proofs.blank_arena.Symbol as blank-def
+use Rattle.records.proofs.blank_arena.Symbol.{name as #records·blank-arena}
+use Rattle.records.proofs.blank_arena.Met as blank-thm
+use Rattle.records.proofs.load_or.Key.{name as #records·load-or}
+use Rattle.records.proofs.load_or as load-or′
+use Rattle.records.proofs.load_or.Statement as stated
+use Rattle.records.proofs.load_or.Code as code
 
 module _ {M : Type 1} (𝓤 : URA M) (H : Heap 𝓤) (A : Atoms 𝓤) (W : Given 𝓤 H A) (mem : Memory → SProp 𝓤) (run : Routine → Fun 𝓤) (𝓣 : Tables 𝓤 H)
-    (known-load : Triple 𝓤 (𝓣 .C #table·load) (Load 𝓤 H A mem run)) (known-blank : Triple 𝓤 (𝓣 .C #table·blank-arena) (Blank 𝓤 H A mem run)) where
+    (known-load : Triple 𝓤 (𝓣 .C #records·load) (Load 𝓤 H A mem run)) (known-blank : Triple 𝓤 (𝓣 .C #records·blank-arena) (Blank 𝓤 H A mem run)) where
   module _ (κ : Lft) (q : Share) (γ : GName) (b o : ℕ) (ys : List Arena) (id : ℕ) where
     abbrev L : Loan
     L = record { κ = κ; q = q; γ = γ; b = b; o = o; n = length ys }
@@ -90,7 +90,7 @@ pub load-or-spec : {M : Type 1} → stated.statement M
 unfolding code.routine tablesOf
 load-or-spec 𝓤 H 𝓜 𝓖 𝓡 =
     entered 𝓤 H (tripleOf 𝓤 H (𝓖 .A) load-or′.signature (load-or′.spec 𝓤 H (𝓖 .A) (𝓜 .mem) (𝓡 .run)))
-    (tables 𝓤 H 𝓜 𝓡 code.env .C) (tables 𝓤 H 𝓜 𝓡 code.env .Λ) #table·load-or code.function (code.unfolded 𝓤 H 𝓜 𝓡)
+    (tables 𝓤 H 𝓜 𝓡 code.env .C) (tables 𝓤 H 𝓜 𝓡 code.env .Λ) #records·load-or code.function (code.unfolded 𝓤 H 𝓜 𝓡)
     (load-or-meets 𝓤 H (𝓖 .A) (givenOf 𝓤 H 𝓜 𝓖) (𝓜 .mem) (𝓡 .run) (tablesOf 𝓤 H 𝓜 (tables 𝓤 H 𝓜 𝓡 code.env))
-    (cited 𝓤 H (Load 𝓤 H (𝓖 .A) (𝓜 .mem) (𝓡 .run)) 𝓜 𝓡 code.env #table·load load-def.routine code.calls-table·load (load-thm.met 𝓤 H 𝓜 𝓖 𝓡))
-    (cited 𝓤 H (Blank 𝓤 H (𝓖 .A) (𝓜 .mem) (𝓡 .run)) 𝓜 𝓡 code.env #table·blank-arena blank-def.routine code.calls-table·blank-arena (blank-thm.met 𝓤 H 𝓜 𝓖 𝓡)))
+    (cited 𝓤 H (Load 𝓤 H (𝓖 .A) (𝓜 .mem) (𝓡 .run)) 𝓜 𝓡 code.env #records·load load-def.routine code.calls-records·load (load-thm.met 𝓤 H 𝓜 𝓖 𝓡))
+    (cited 𝓤 H (Blank 𝓤 H (𝓖 .A) (𝓜 .mem) (𝓡 .run)) 𝓜 𝓡 code.env #records·blank-arena blank-def.routine code.calls-records·blank-arena (blank-thm.met 𝓤 H 𝓜 𝓖 𝓡)))

@@ -1,4 +1,4 @@
--- `table::store` meets its contract: a walk of its MIR, by hand. The place of `records[i]` is i * 544 past the pointer; the borrow is opened, the whole record is written there, and the borrow is closed at the list with v at i.
+-- `records::store` meets its contract: a walk of its MIR, by hand. The place of `records[i]` is i * 544 past the pointer; the borrow is opened, the whole record is written there, and the borrow is closed at the list with v at i.
 -- The record's machine value is never taken apart: the walk is the same for every struct that is Copy.
 -- Assumes nothing.
 use mathlib.Core.Path.{_≡_, refl, sym, ap, subst}
@@ -42,10 +42,10 @@ use denote.Triple.Walked.{says, needs, Stays, stay-slice, stay-none, walkOf, Wal
 use Rattle.arena.specs.declared.Arena.{Arena}
 use Rattle.arena.proofs.Arena as T
 use Rattle.arena.proofs.Arena.Laws as T′
-use Rattle.table.proofs.store.Key.{name as #table·store}
-use Rattle.table.proofs.store as store′
-use Rattle.table.proofs.store.Statement as stated
-use Rattle.table.proofs.store.Code as code
+use Rattle.records.proofs.store.Key.{name as #records·store}
+use Rattle.records.proofs.store as store′
+use Rattle.records.proofs.store.Statement as stated
+use Rattle.records.proofs.store.Code as code
 
 abbrev stayed : Stays (store′.ended .signature .params) (store′.ended .kept)
 stayed = (stay-slice (0 ∷ []) tt (plain (λ _. T.the-row)), (stay-none (λ _. usize) yes, (stay-none (λ _. T.the-row) yes, tt)))
@@ -125,5 +125,5 @@ pub store-spec : {M : Type 1} → stated.statement M
 unfolding code.routine tablesOf
 store-spec 𝓤 H 𝓜 𝓖 𝓡 =
     entered 𝓤 H (tripleOf 𝓤 H (𝓖 .A) store′.signature (store′.spec 𝓤 H (𝓖 .A) (𝓜 .mem) (𝓡 .run)))
-    (tables 𝓤 H 𝓜 𝓡 code.env .C) (tables 𝓤 H 𝓜 𝓡 code.env .Λ) #table·store code.function (code.unfolded 𝓤 H 𝓜 𝓡)
+    (tables 𝓤 H 𝓜 𝓡 code.env .C) (tables 𝓤 H 𝓜 𝓡 code.env .Λ) #records·store code.function (code.unfolded 𝓤 H 𝓜 𝓡)
     (store-meets 𝓤 H (𝓖 .A) (givenOf 𝓤 H 𝓜 𝓖) (𝓜 .mem) (𝓡 .run) (tablesOf 𝓤 H 𝓜 (tables 𝓤 H 𝓜 𝓡 code.env)))

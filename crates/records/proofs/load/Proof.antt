@@ -1,4 +1,4 @@
--- `table::load` meets its contract: a walk of its MIR, by hand. The place of `records[i]` is i * 544 past the pointer, and the whole record is read there.
+-- `records::load` meets its contract: a walk of its MIR, by hand. The place of `records[i]` is i * 544 past the pointer, and the whole record is read there.
 -- The record's machine value is never taken apart: the walk is the same for every struct that is Copy.
 -- Assumes nothing.
 use mathlib.Core.Path.{_≡_, refl, sym}
@@ -41,10 +41,10 @@ use Rattle.arena.specs.declared.Arena.{Arena}
 use Rattle.layer.specs.World.{blank}
 use Rattle.arena.proofs.Arena as T
 use Rattle.arena.proofs.Arena.Laws as T′
-use Rattle.table.proofs.load.Key.{name as #table·load}
-use Rattle.table.proofs.load as load′
-use Rattle.table.proofs.load.Statement as stated
-use Rattle.table.proofs.load.Code as code
+use Rattle.records.proofs.load.Key.{name as #records·load}
+use Rattle.records.proofs.load as load′
+use Rattle.records.proofs.load.Statement as stated
+use Rattle.records.proofs.load.Code as code
 
 abbrev stayed : Stays (load′.ended .signature .params) (load′.ended .kept)
 stayed = (stay-none-slice (0 ∷ []) tt (plain (λ _. T.the-row)) yes, (stay-none (λ _. usize) yes, tt))
@@ -119,5 +119,5 @@ pub load-spec : {M : Type 1} → stated.statement M
 unfolding code.routine tablesOf
 load-spec 𝓤 H 𝓜 𝓖 𝓡 =
     entered 𝓤 H (tripleOf 𝓤 H (𝓖 .A) load′.signature (load′.spec 𝓤 H (𝓖 .A) (𝓜 .mem) (𝓡 .run)))
-    (tables 𝓤 H 𝓜 𝓡 code.env .C) (tables 𝓤 H 𝓜 𝓡 code.env .Λ) #table·load code.function (code.unfolded 𝓤 H 𝓜 𝓡)
+    (tables 𝓤 H 𝓜 𝓡 code.env .C) (tables 𝓤 H 𝓜 𝓡 code.env .Λ) #records·load code.function (code.unfolded 𝓤 H 𝓜 𝓡)
     (load-meets 𝓤 H (𝓖 .A) (givenOf 𝓤 H 𝓜 𝓖) (𝓜 .mem) (𝓡 .run) (tablesOf 𝓤 H 𝓜 (tables 𝓤 H 𝓜 𝓡 code.env)))

@@ -1,0 +1,8 @@
+pub mod Big
+pub mod Walk
+pub mod Locals
+pub mod Calls
+pub mod Frame
+pub mod Ends
+mod Leaf
+pub mod Steps

@@ -56,7 +56,7 @@ abbrev pub Con : {M : Type 1} (𝓤 : URA M) (H : Heap 𝓤) (A : Atoms 𝓤) (T
 Con 𝓤 H A T c = tripleOf 𝓤 H A (T .signature) (closing 𝓤 H A T c)
 
 -- a contract's instance beside a frame
-framed : {M : Type 1} (𝓤 : URA M) (H : Heap 𝓤) (A : Atoms 𝓤) (W : Given 𝓤 H A) (C : Calls 𝓤 H) → FmC 𝓤 H (W .laws) C → (f : Name) (P F : SProp 𝓤) (vs : List Val) (Q : Val → SProp 𝓤) → ent 𝓤 P (C f vs Q) → ent 𝓤 (sep 𝓤 P F) (C f vs (λ v. sep 𝓤 (Q v) F))
+pub framed : {M : Type 1} (𝓤 : URA M) (H : Heap 𝓤) (A : Atoms 𝓤) (W : Given 𝓤 H A) (C : Calls 𝓤 H) → FmC 𝓤 H (W .laws) C → (f : Name) (P F : SProp 𝓤) (vs : List Val) (Q : Val → SProp 𝓤) → ent 𝓤 P (C f vs Q) → ent 𝓤 (sep 𝓤 P F) (C f vs (λ v. sep 𝓤 (Q v) F))
 framed 𝓤 H A W C fm f P F vs Q met = via 𝓤 (sep 𝓤 (C f vs Q) F) (monoL 𝓤 F met) (fm f vs Q (λ v. sep 𝓤 (Q v) F) F (λ v. id⊢ 𝓤 (sep 𝓤 (Q v) F)))
 
 -- where a call stands: what is to be shown of it, G, what is to be shown once it has returned v, `after v`, and the rule for it

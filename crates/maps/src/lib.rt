@@ -1,15 +1,32 @@
-// The maps of one record of the lent slice, read and written where they lie.
+// The maps of one lent record, looked at where they lie: nothing of the record is copied.
 ghost use mathlib.Core.Path.{_≡_};
 ghost use Prim.Native.Nat.{_+_, _<_, _≤_};
-ghost use lib.ListN.{length, getD, set};
+ghost use lib.ListN.{length, getD};
 ghost use Rattle.layer.specs.World.{blank};
-ghost use Rattle.arena.specs.Claiming.{takeRun};
+ghost use Rattle.arena.specs.Claiming.{findRun, runCommitted, runFresh};
 use arena::Arena;
+use runs::Found;
 
-// The run's used bits set.
-fn take_at(records: &mut [Arena], i: usize, s: usize, n: usize)
-    requires { ⌜ (i < length (now records)) × (s + n ≤ 1024) ⌝ }
-    ensures { λ _. ⌜ now (records .exit) ≡ set (now (records .entry)) i (takeRun (getD (now (records .entry)) i blank) s n) ⌝ }
+// The lowest run of n free chunks.
+pub fn run_at(records: &[Arena], i: usize, chunks: usize, n: usize) -> Found
+    requires { ⌜ (i < length (now records)) × (chunks ≡ getD (now records) i blank .chunks) × (chunks ≤ 1024) × (0 < n) ⌝ }
+    ensures { λ r. ⌜ r ≡ findRun (getD (now (records .entry)) i blank) n ⌝ }
 {
-    words::set_row(&mut records[i].used, s, n);
+    runs::lowest_clear_run(&records[i].used, chunks, n)
+}
+
+// Whether each chunk of the run is committed.
+pub fn committed_at(records: &[Arena], i: usize, s: usize, n: usize) -> bool
+    requires { ⌜ (i < length (now records)) × (s + n ≤ 1024) ⌝ }
+    ensures { λ r. ⌜ r ≡ runCommitted (getD (now (records .entry)) i blank) s n ⌝ }
+{
+    row_scans::row_is_free(&records[i].committed, false, s, n)
+}
+
+// Whether no chunk of the run was dirty before.
+pub fn fresh_at(records: &[Arena], i: usize, s: usize, n: usize) -> bool
+    requires { ⌜ (i < length (now records)) × (s + n ≤ 1024) ⌝ }
+    ensures { λ r. ⌜ r ≡ runFresh (getD (now (records .entry)) i blank) s n ⌝ }
+{
+    row_scans::row_is_free(&records[i].dirty, true, s, n)
 }

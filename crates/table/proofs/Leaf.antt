@@ -1,5 +1,5 @@
 -- Functions that the crate above has no need of, each called in one step of a walk (`Calls.antt`):
---     found-step, nothing-step, hit-step, head-at-pass, no-head-step, head-or-pass, asks-step, hit-head-step, hits-at-pass, is-nothing-step, outside-step, meets-none-pass, no-span-step, span-step, is-at-step, range-step, unsound-step, lent-step, about-step, asked-step, question-step
+--     found-step, nothing-step, hit-step, head-at-pass, no-head-step, asks-step, hit-head-step, hits-at-pass, is-nothing-step, outside-step, meets-none-pass, no-span-step, span-step, is-at-step, range-step, unsound-step, lent-step, about-step, asked-step, question-step
 -- Assumes `Given`, the callee's theorem, and that the table of calls is monotone under a frame.
 use mathlib.Core.Path.{_≡_, refl, sym, _∙_, ap, subst}
 use mathlib.Core.Bool.{not, _&&_}
@@ -78,8 +78,6 @@ use Rattle.table.proofs.head_at as head-at′
 use Rattle.table.proofs.head_at.Symbol.{name as #table·head-at}
 use Rattle.table.proofs.no_head as no-head′
 use Rattle.table.proofs.no_head.Symbol.{name as #table·no-head}
-use Rattle.table.proofs.head_or as head-or′
-use Rattle.table.proofs.head_or.Symbol.{name as #table·head-or}
 use Rattle.table.proofs.hits_at as hits-at′
 use Rattle.table.proofs.hits_at.Symbol.{name as #table·hits-at}
 use Rattle.judge.proofs.asks_maps as asks′
@@ -115,9 +113,6 @@ module _ {M : Type 1} (𝓤 : URA M) (H : Heap 𝓤) (A : Atoms 𝓤) (mem : Mem
 
   abbrev pub NoHead : Contract 𝓤
   NoHead = tripleOf 𝓤 H A no-head′.signature (no-head′.spec 𝓤 H A mem run)
-
-  abbrev pub HeadOr : Contract 𝓤
-  HeadOr = tripleOf 𝓤 H A head-or′.signature (head-or′.spec 𝓤 H A mem run)
 
   abbrev pub AsksMaps : Contract 𝓤
   AsksMaps = tripleOf 𝓤 H A asks′.signature (asks′.spec 𝓤 H A mem run)
@@ -271,16 +266,6 @@ module _ {M : Type 1} {𝓤 : URA M} {H : Heap 𝓤} {A : Atoms 𝓤} {K : Type 
       plain-call t site D.the-row ([]) tt (no-head′.clauses 𝓤 H A mem run) known tt tt
       (id⊢ 𝓤 _) tt (id⊢ 𝓤 _)
       (λ r. r ≡ headOf blank) (λ r ws. id⊢ 𝓤 _) ops (λ v r is e. k v (subst (λ (o : Head). Is D.the-row o (v ∷ [])) e is))
-
-  pub head-or-pass : K → Site K W Γ C E #table·head-or xs G after → (mem : Memory → SProp 𝓤) (run : Routine → Fun 𝓤) → Triple 𝓤 (C #table·head-or) (HeadOr 𝓤 H A mem run)
-      → (L : Loan) (ys : List Arena) → (j : ℕ) → j < 2 ^ 64
-      → ((h : Item 𝓤) → Opds K W (h ∷ Γ) E xs (sliceOf L ∷ vint w64 j ∷ []))
-      → ((v : Val) → Is D.the-row (headOf (getD ys j blank)) (v ∷ []) → Seq K W ((‵ (shared T.the-row L ys) ⊛ i) ∷ Γ) (after v))
-      → Seq K W ((‵ (shared T.the-row L ys) ⊛ i) ∷ Γ) G
-  head-or-pass t site mem run known L ys j fj ops k =
-      pass-call t site T.the-row L D.the-row (plain (λ _. usize) ∷ []) (yes, tt) (head-or′.clauses 𝓤 H A mem run) known ys (λ _. (j, tt)) (λ _. (vint w64 j ∷ [], tt))
-      (λ _. owns-make 𝓤 H A (usize ∷ []) (Ises (usize ∷ [])) (uint-makes 𝓤 H A W w64, tt) (j, tt) (vint w64 j ∷ [], tt) ((refl, fj), tt)) (λ _ _. tt) (λ _ _. id⊢ 𝓤 _)
-      (λ r. r ≡ headOf (getD ys j blank)) (λ _ _ r ws. id⊢ 𝓤 _) (λ h _. ops h) (λ v r is e. k v (subst (λ (o : Head). Is D.the-row o (v ∷ [])) e is))
 
   pub asks-step : K → Site K W Γ C E #judge·asks-maps xs G after → (mem : Memory → SProp 𝓤) (run : Routine → Fun 𝓤) → Triple 𝓤 (C #judge·asks-maps) (AsksMaps 𝓤 H A mem run)
       → (q : Query) (vq : Val) → Is Q.the-row q (vq ∷ []) → (j : ℕ) → j < 2 ^ 64 → (d : Head) (vd : Val) → Is D.the-row d (vd ∷ []) → (S : ℕ) → S < 2 ^ 64 → 0 < S → S ≤ 4294967296

@@ -1,5 +1,5 @@
 -- The crate's functions, each called in one step of a walk (`Calls.antt`): a name that ends in -step is for a walk over a `&mut [Arena]`, one in -pass for a walk over a `&[Arena]`.
---     scan-step, scan-pass, apart-step, apart-pass, row-step, row-pass
+--     head-or-step, head-or-pass, scan-step, scan-pass, apart-step, apart-pass, row-step, row-pass
 -- Assumes `Given`, the callee's theorem, and that the table of calls is monotone under a frame.
 use mathlib.Core.Path.{_≡_, refl, sym, _∙_, ap, subst}
 use mathlib.Core.Bool.{true}
@@ -40,6 +40,11 @@ use Rattle.judge.specs.declared.Query.{Query}
 use Rattle.judge.specs.Scan.{scanOf}
 use Rattle.judge.proofs.Query as Q
 use Rattle.judge.proofs.Query.Laws as Q′
+use Rattle.judge.specs.declared.Head.{Head}
+use Rattle.judge.specs.Heads.{headOf}
+use Rattle.judge.proofs.Head as D
+use Rattle.table.proofs.head_or as head-or′
+use Rattle.table.proofs.head_or.Symbol.{name as #table·head-or}
 use Rattle.table.proofs.scan as scan′
 use Rattle.table.proofs.scan.Symbol.{name as #table·scan}
 use Rattle.table.proofs.apart_table as apart′
@@ -51,6 +56,9 @@ use Rattle.records.proofs.Calls.{Site, pass-call, shr-call}
 
 -- the contracts that a walk cites
 module _ {M : Type 1} (𝓤 : URA M) (H : Heap 𝓤) (A : Atoms 𝓤) (mem : Memory → SProp 𝓤) (run : Routine → Fun 𝓤) where
+  abbrev pub HeadOr : Contract 𝓤
+  HeadOr = tripleOf 𝓤 H A head-or′.signature (head-or′.spec 𝓤 H A mem run)
+
   abbrev pub Scan : Contract 𝓤
   Scan = tripleOf 𝓤 H A scan′.signature (scan′.spec 𝓤 H A mem run)
 
@@ -120,3 +128,23 @@ module _ {M : Type 1} {𝓤 : URA M} {H : Heap 𝓤} {A : Atoms 𝓤} {K : Type 
       pass-call t site T.the-row L bool (plain (λ _. usize) ∷ plain (λ _. Z.the-row) ∷ plain (λ _. u64) ∷ plain (λ _. u64) ∷ []) (yes, (yes, (yes, (yes, tt)))) (row′.clauses 𝓤 H A mem run) known ys (λ _. (stamps, (s, (page, (S, tt))))) (λ _. (vint w64 stamps ∷ [], (vs ∷ [], (vint w64 page ∷ [], (vint w64 S ∷ [], tt)))))
       (λ _. owns-make 𝓤 H A (usize ∷ Z.the-row ∷ u64 ∷ u64 ∷ []) (Ises (usize ∷ Z.the-row ∷ u64 ∷ u64 ∷ [])) (uint-makes 𝓤 H A W w64, (LL.makes Z.the-type Z′.the-plain 𝓤 H A, (uint-makes 𝓤 H A W w64, (uint-makes 𝓤 H A W w64, tt)))) (stamps, (s, (page, (S, tt)))) (vint w64 stamps ∷ [], (vs ∷ [], (vint w64 page ∷ [], (vint w64 S ∷ [], tt)))) ((refl, fstamps), (gs, ((refl, fpage), ((refl, fS), tt))))) (λ _ _. tt) (λ _ _. factI 𝓤 _ (emp 𝓤) (pos, most))
       (λ r. r ≡ soundLent S ys stamps s page) (λ _ _ r ws. id⊢ 𝓤 _) (λ h _. ops h) (λ v r is e. subst (λ (u : Val). Seq K W ((‵ (shared T.the-row L ys) ⊛ i) ∷ Γ) (after u)) (sym (ap only (bool-tells r (v ∷ []) is) ∙ ap vbool e)) k)
+
+  pub head-or-step : K → Site K W Γ C E #table·head-or xs G after → (mem : Memory → SProp 𝓤) (run : Routine → Fun 𝓤) → Triple 𝓤 (C #table·head-or) (HeadOr 𝓤 H A mem run)
+      → (L : Loan) (ys : List Arena) → (j : ℕ) → j < 2 ^ 64
+      → ((h : Item 𝓤) → Opds K W (h ∷ Γ) E xs (sliceOf L ∷ vint w64 j ∷ []))
+      → ((v : Val) → Is D.the-row (headOf (getD ys j blank)) (v ∷ []) → Seq K W ((‵ (lent T.the-row L ys) ⊛ i) ∷ Γ) (after v))
+      → Seq K W ((‵ (lent T.the-row L ys) ⊛ i) ∷ Γ) G
+  head-or-step t site mem run known L ys j fj ops k =
+      shr-call t site T.the-row L D.the-row (plain (λ _. usize) ∷ []) (yes, tt) (head-or′.clauses 𝓤 H A mem run) known ys (λ _. (j, tt)) (λ _. (vint w64 j ∷ [], tt))
+      (λ _. owns-make 𝓤 H A (usize ∷ []) (Ises (usize ∷ [])) (uint-makes 𝓤 H A W w64, tt) (j, tt) (vint w64 j ∷ [], tt) ((refl, fj), tt)) (λ _ _. tt) (λ _ _. id⊢ 𝓤 _)
+      (λ r. r ≡ headOf (getD ys j blank)) (λ _ _ r ws. id⊢ 𝓤 _) (λ h _. ops h) (λ v r is e. k v (subst (λ (o : Head). Is D.the-row o (v ∷ [])) e is))
+
+  pub head-or-pass : K → Site K W Γ C E #table·head-or xs G after → (mem : Memory → SProp 𝓤) (run : Routine → Fun 𝓤) → Triple 𝓤 (C #table·head-or) (HeadOr 𝓤 H A mem run)
+      → (L : Loan) (ys : List Arena) → (j : ℕ) → j < 2 ^ 64
+      → ((h : Item 𝓤) → Opds K W (h ∷ Γ) E xs (sliceOf L ∷ vint w64 j ∷ []))
+      → ((v : Val) → Is D.the-row (headOf (getD ys j blank)) (v ∷ []) → Seq K W ((‵ (shared T.the-row L ys) ⊛ i) ∷ Γ) (after v))
+      → Seq K W ((‵ (shared T.the-row L ys) ⊛ i) ∷ Γ) G
+  head-or-pass t site mem run known L ys j fj ops k =
+      pass-call t site T.the-row L D.the-row (plain (λ _. usize) ∷ []) (yes, tt) (head-or′.clauses 𝓤 H A mem run) known ys (λ _. (j, tt)) (λ _. (vint w64 j ∷ [], tt))
+      (λ _. owns-make 𝓤 H A (usize ∷ []) (Ises (usize ∷ [])) (uint-makes 𝓤 H A W w64, tt) (j, tt) (vint w64 j ∷ [], tt) ((refl, fj), tt)) (λ _ _. tt) (λ _ _. id⊢ 𝓤 _)
+      (λ r. r ≡ headOf (getD ys j blank)) (λ _ _ r ws. id⊢ 𝓤 _) (λ h _. ops h) (λ v r is e. k v (subst (λ (o : Head). Is D.the-row o (v ∷ [])) e is))

@@ -43,7 +43,7 @@ fn no_head() -> Head
 }
 
 // The head of the record at an id; a blank one past the end.
-fn head_or(records: &[Arena], id: usize) -> Head
+pub fn head_or(records: &[Arena], id: usize) -> Head
     ensures { λ r. ⌜ r ≡ headOf (getD (now (records .entry)) id blank) ⌝ }
 {
     if id < records.len() {

@@ -51,7 +51,8 @@ use Rattle.records.proofs.Locals.{Blocks, envOf, rooms, enters, used, room, if-
 use Rattle.records.proofs.Calls.{in-seq}
 use Rattle.records.proofs.Frame.{DoneS, finishS, shr-meets}
 use Rattle.table.proofs.TableLaws.{ends-at, alone, apart-is, covers-none, covers-more}
-use Rattle.table.proofs.Leaf.{NoSpan, HeadOr, MeetsNone, SpanWith, no-span-step, head-or-pass, meets-none-pass, span-step}
+use Rattle.table.proofs.Leaf.{NoSpan, MeetsNone, SpanWith, no-span-step, meets-none-pass, span-step}
+use Rattle.table.proofs.Steps.{HeadOr, head-or-pass}
 use Rattle.judge.proofs.no_span.Symbol as span-def
 use Rattle.judge.proofs.no_span.Symbol.{name as #judge·no-span}
 use Rattle.judge.proofs.no_span.Met as span-thm

@@ -48,7 +48,8 @@ use Rattle.records.proofs.Walk.{Loan, Known, shared, sliceOf}
 use Rattle.records.proofs.Locals.{enters, used, room, if-else}
 use Rattle.records.proofs.Calls.{in-seq}
 use Rattle.records.proofs.Frame.{DoneS, finishS, shr-meets}
-use Rattle.table.proofs.Leaf.{HeadOr, AsksMaps, HitHead, Hits, head-or-pass, asks-step, hit-head-step, hit-step}
+use Rattle.table.proofs.Leaf.{AsksMaps, HitHead, Hits, asks-step, hit-head-step, hit-step}
+use Rattle.table.proofs.Steps.{HeadOr, head-or-pass}
 use Rattle.records.proofs.Steps.{LoadOr, load-or-pass}
 use Rattle.table.proofs.head_or.Symbol as head-def
 use Rattle.table.proofs.head_or.Symbol.{name as #table·head-or}

@@ -41,6 +41,7 @@ use Rattle.judge.specs.declared.Query.{Query}
 use Rattle.judge.specs.Scan.{scanOf}
 use Rattle.judge.proofs.Query as Q
 use Rattle.judge.proofs.Query.Laws as Q′
+use Rattle.layer.specs.World.{blank}
 use Rattle.judge.specs.declared.Head.{Head}
 use Rattle.judge.specs.Heads.{headOf}
 use Rattle.judge.proofs.Head as D

@@ -1,0 +1,181 @@
+// A claim by value, over what it reads of the arena that serves it: what it answers. It knows no table and
+// no record: the run is found and taken where the maps lie.
+ghost use mathlib.Core.Path.{_≡_};
+ghost use mathlib.Core.Bool.{cond, not, _&&_};
+ghost use Prim.Native.Nat.{ℕ, _+_, _*_, _^_, _<_, _≤_};
+ghost use lib.Dec.{eqb};
+ghost use Rattle.refusals.specs.declared.Refusal.the-variants.{Zero, ArenasOff};
+ghost use Rattle.runs.specs.declared.Found.the-variants.{At};
+ghost use Rattle.layer.specs.World.{turnDown, calm};
+ghost use Rattle.grants.specs.Grants.{startOf, placeOf, grantedReply, servedReply, claimAnswer};
+use judge::Head;
+use layer::Answer;
+use layer::Ask;
+use layer::Question;
+use layer::Reply;
+use layer::Settings;
+use layer::State;
+use refusals::Refusal;
+use runs::Found;
+
+// What a claim reads of the arena: its base, where its lowest run starts, and what its maps say of the run.
+pub struct Grant {
+    pub base: u64,
+    pub start: usize,
+    pub committed: bool,
+    pub fresh: bool,
+}
+
+// ---- what is read
+
+// Where the run starts.
+pub fn start_of(f: Found) -> usize
+    ensures { λ r. ⌜ r ≡ startOf f ⌝ }
+{
+    match f {
+        Found::At(s) => s,
+        Found::Nothing => 0,
+    }
+}
+
+// The id of the record that serves; past every slice where none does.
+pub fn place_of(f: Found) -> usize
+    ensures { λ r. ⌜ r ≡ placeOf f ⌝ }
+{
+    match f {
+        Found::At(i) => i,
+        Found::Nothing => 18446744073709551615,
+    }
+}
+
+pub fn chunks_of(h: Head) -> usize
+    ensures { λ r. ⌜ r ≡ h .chunks ⌝ }
+{
+    h.chunks
+}
+
+// Whether the commit has to be asked for.
+pub fn asks_commit(commits: bool, committed: bool) -> bool
+    ensures { λ r. ⌜ r ≡ commits && not committed ⌝ }
+{
+    if commits {
+        return !committed;
+    }
+    false
+}
+
+pub fn grant_of(h: Head, start: usize, committed: bool, fresh: bool) -> Grant
+    ensures { λ r. ⌜ r ≡ record { base = h .base; start = start; committed = committed; fresh = fresh } ⌝ }
+{
+    Grant {
+        base: h.base,
+        start,
+        committed,
+        fresh,
+    }
+}
+
+// Of no arena.
+pub fn no_grant() -> Grant
+    ensures { λ r. ⌜ r .start ≡ 0 ⌝ }
+{
+    Grant {
+        base: 0,
+        start: 0,
+        committed: false,
+        fresh: false,
+    }
+}
+
+// ---- what is answered
+
+// The commit is asked for, or the run is granted.
+fn granted_reply(
+    g: Grant,
+    id: usize,
+    n: usize,
+    commits: bool,
+    k: usize,
+    mark: bool,
+    chunk_size: u64,
+) -> Reply
+    requires { ⌜ (g .base + g .start * «chunk_size» < 2 ^ 64) × (n * «chunk_size» < 2 ^ 64) ⌝ }
+    ensures { λ r. ⌜ r ≡ grantedReply «chunk_size» k mark id g n commits ⌝ }
+{
+    let address = g.base + (g.start as u64) * chunk_size;
+    let committed = g.committed;
+    if asks_commit(commits, committed) {
+        let bytes = (n as u64) * chunk_size;
+        let ask = Ask::AskCommit { address, bytes };
+        let question = Question::Committing {
+            id,
+            start: g.start,
+            n,
+        };
+        return claim_miss::answered(Answer::Asks(ask), k, mark, question);
+    }
+    let answer = Answer::Claimed {
+        address,
+        fresh: g.fresh,
+        committed,
+    };
+    claim_miss::answered(answer, k, mark, Question::Idle)
+}
+
+// The search's end: the arena that the scan found, or a miss.
+fn served_reply(
+    state: State,
+    g: Grant,
+    n: usize,
+    commits: bool,
+    missed: Reply,
+    f: Found,
+    chunk_size: u64,
+) -> Reply
+    requires { ⌜ ((i : ℕ) → f ≡ At i → (g .base + g .start * «chunk_size» < 2 ^ 64) × (n * «chunk_size» < 2 ^ 64)) ⌝ }
+    ensures { λ r. ⌜ r ≡ servedReply «chunk_size» state g n commits missed f ⌝ }
+{
+    let k = state.count;
+    let mark = state.mark;
+    match f {
+        Found::Nothing => missed,
+        Found::At(i) => granted_reply(g, i, n, commits, k, mark, chunk_size),
+    }
+}
+
+// Rows 4 and 5, then what the search answered.
+fn own_reply(n: usize, allowed: bool, found: Reply, k: usize, mark: bool) -> Reply
+    ensures { λ r. ⌜ r ≡ cond (eqb n 0) (turnDown Zero (calm k mark)) (cond allowed found (turnDown ArenasOff (calm k mark))) ⌝ }
+{
+    if n == 0 {
+        return claim_miss::refuse(Refusal::Zero, k, mark);
+    }
+    if !allowed {
+        return claim_miss::refuse(Refusal::ArenasOff, k, mark);
+    }
+    found
+}
+
+// A claim, after the scan: f is the record that it found, and g what was read there.
+pub fn claim_answer(
+    ok: bool,
+    state: State,
+    settings: Settings,
+    id: i32,
+    n: usize,
+    commits: bool,
+    f: Found,
+    g: Grant,
+    chunk_size: u64,
+) -> Reply
+    requires { ⌜ (0 < «chunk_size») × («chunk_size» ≤ 4294967296) × ((i : ℕ) → f ≡ At i → (g .base + g .start * «chunk_size» < 2 ^ 64) × (n * «chunk_size» < 2 ^ 64)) ⌝ }
+    ensures { λ r. ⌜ r ≡ claimAnswer «chunk_size» ok state settings id n commits f g ⌝ }
+{
+    let k = state.count;
+    let mark = state.mark;
+    let allowed = options::arena_allowed(settings.off, id);
+    let missed = claim_miss::miss(id, n, commits, settings, k, mark, chunk_size);
+    let found = served_reply(state, g, n, commits, missed, f, chunk_size);
+    let own = own_reply(n, allowed, found, k, mark);
+    registers::gate(ok, state, own)
+}

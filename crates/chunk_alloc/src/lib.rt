@@ -1,5 +1,5 @@
-// The three claims over the lent table: row 1, one scan, the claim by value on the record that it found,
-// and one store.
+// The three claims over the lent table: row 1, one scan, and the run of the record that it found, taken where
+// the maps lie.
 ghost use mathlib.Core.Path.{_≡_};
 ghost use mathlib.Core.Bool.{true, false};
 ghost use Prim.Native.Nat.{ℕ};
@@ -8,12 +8,10 @@ ghost use Rattle.layer.specs.World.{worldOf};
 ghost use Rattle.layer.specs.Step.{claim, step};
 ghost use Rattle.layer.specs.World.{Leaves};
 use arena::Arena;
-use claims::Served;
 use judge::Query;
 use layer::Reply;
 use layer::Settings;
 use layer::State;
-use runs::Found;
 
 // S, the size of a chunk: 32 MiB
 const CHUNK: u64 = 33554432;
@@ -23,18 +21,6 @@ fn serves_query(id: i32, n: usize) -> Query
     ensures { λ r. ⌜ r ≡ Serves id n ⌝ }
 {
     Query::Serves { id, n }
-}
-
-fn arena_of(d: Served) -> Arena
-    ensures { λ r. ⌜ r ≡ d .arena ⌝ }
-{
-    d.arena
-}
-
-fn reply_of(d: Served) -> Reply
-    ensures { λ r. ⌜ r ≡ d .reply ⌝ }
-{
-    d.reply
 }
 
 // A claim of n chunks. It reads no clock.
@@ -54,12 +40,9 @@ fn claim_at(
     let k = claims::claim_count(ok, state, settings, id, n);
     let q = serves_query(id, n);
     let f = table::scan(records, k, CHUNK, q);
-    let i = entry::stored_at(f);
-    let a = records::load_or(records, i);
-    let d = claims::claim_core(ok, state, settings, id, n, commits, f, a, CHUNK);
-    let b = arena_of(d);
-    records::store_if(records, i, b);
-    reply_of(d)
+    let i = grants::place_of(f);
+    let g = grant_at::grant_at(records, i, n, commits);
+    grants::claim_answer(ok, state, settings, id, n, commits, f, g, CHUNK)
 }
 
 // One chunk, committed.

@@ -18,7 +18,7 @@ use prog.Routine.{Routine}
 use prog.Wp.{Heap, WpFn, Tables}
 use ghost.Atoms.{Atoms}
 use sound.WpLaws.{fmOf}
-use types.Kit.{Given, Sq, prop, ‵, _⊛_, _$_, ! }
+use types.Kit.{Given, Sq, prop, ‵, _⊛_, _$_, !}
 use types.Part.{agg, whole, sub, look-in}
 use types.Run.{look, init, stop, hop, fld, from, load, addr, of-opd, and-then, no-more, assigns, land, returns, params1, pass1, pass0, free0}
 use contract.Monad.{Fun, factI}
@@ -26,7 +26,7 @@ use contract.Running.{givenOf, tables, tablesOf}
 use denote.Builtin.{bool, usize, u32, i32}
 use denote.Exit.{yes}
 use denote.Laws.{Is}
-use denote.Plain.{uint-vals, uint-tells, bool-vals, bool-tells, nothing-lawful}
+use denote.Plain.{uint-vals, uint-tells, bool-vals, bool-tells}
 use denote.Signature.{plain}
 use denote.Signed.{sint-vals, sint-tells, sint-lawful}
 use denote.Enum.Laws as EL
@@ -39,7 +39,6 @@ use Rattle.runs.proofs.Found as F
 use Rattle.runs.proofs.Found.Laws as F′
 use Rattle.arena.specs.declared.Arena.{Arena}
 use Rattle.arena.proofs.Arena as T
-use Rattle.arena.proofs.Arena.Laws as T′
 use Rattle.layer.specs.declared.State.{State}
 use Rattle.layer.specs.declared.Settings.{Settings}
 use Rattle.layer.specs.declared.Reply.{Reply}
@@ -56,22 +55,22 @@ use Rattle.judge.specs.declared.Query.the-variants.{Serves}
 use Rattle.judge.specs.Scan.{scanOf}
 use Rattle.judge.proofs.Query as Q
 use Rattle.judge.proofs.Query.Laws as Q′
-use Rattle.claims.specs.declared.Served.{Served}
-use Rattle.claims.specs.Core.{claimCount, searchArena, claimReply}
-use Rattle.claims.proofs.Served as D
-use Rattle.claims.proofs.Served.Laws as D′
-use Rattle.registers.specs.Core.{storedAt}
+use Rattle.claims.specs.Core.{claimCount}
+use Rattle.arena.specs.Claiming.{findRun}
+use Rattle.layer.specs.Claiming.{grantArena}
+use Rattle.grants.specs.Grants.{startOf, claimAnswer, placeOf}
+use Rattle.grants.proofs.Grant as N
+use Rattle.grants.proofs.Grant.Laws as N′
 use Rattle.records.proofs.Walk.{Loan, Known, lent, sliceOf}
 use Rattle.records.proofs.Locals.{enters, used}
 use Rattle.records.proofs.Frame.{Done2, finish2, mut2-meets}
 use Rattle.records.proofs.Calls.{in-seq}
-use Rattle.records.proofs.Steps.{LoadOr, StoreIf, load-or-step, store-if-step}
 use Rattle.table.proofs.Steps.{Row, Scan, row-step, scan-step}
 use Rattle.layer.specs.World.{Leaves}
-use Rattle.chunk_alloc.proofs.EntryLaws.{claimed, claimed-sound}
-use Rattle.entry.proofs.EntrySteps.{Page, Stored, page-step, stored-step}
+use Rattle.chunk_alloc.proofs.EntryLaws.{claimed, claimed-needs, claimed-fits}
+use Rattle.entry.proofs.EntrySteps.{Page, page-step}
 use Rattle.records.proofs.Big.{big-lit}
-use Rattle.chunk_alloc.proofs.Steps.{Count, Asks, Core, ArenaOf, ReplyOf, served, count-step, query-step, core-step, arena-step, reply-step}
+use Rattle.chunk_alloc.proofs.Steps.{Count, Asks, Place, GrantAt, Answers, count-step, query-step, place-step, grant-step, answer-step}
 use Rattle.entry.proofs.page_of.Symbol as page-def
 use Rattle.entry.proofs.page_of.Symbol.{name as #entry·page-of}
 use Rattle.entry.proofs.page_of.Met as page-thm
@@ -87,32 +86,23 @@ use Rattle.chunk_alloc.proofs.serves_query.Met as query-thm
 use Rattle.table.proofs.scan.Symbol as scan-def
 use Rattle.table.proofs.scan.Symbol.{name as #table·scan}
 use Rattle.table.proofs.scan.Met as scan-thm
-use Rattle.entry.proofs.stored_at.Symbol as stored-def
-use Rattle.entry.proofs.stored_at.Symbol.{name as #entry·stored-at}
-use Rattle.entry.proofs.stored_at.Met as stored-thm
-use Rattle.records.proofs.load_or.Symbol as load-def
-use Rattle.records.proofs.load_or.Symbol.{name as #records·load-or}
-use Rattle.records.proofs.load_or.Met as load-thm
-use Rattle.claims.proofs.claim_core.Symbol as core-def
-use Rattle.claims.proofs.claim_core.Symbol.{name as #claims·claim-core}
-use Rattle.claims.proofs.claim_core.Met as core-thm
-use Rattle.chunk_alloc.proofs.arena_of.Symbol as arena-def
-use Rattle.chunk_alloc.proofs.arena_of.Symbol.{name as #chunk-alloc·arena-of}
-use Rattle.chunk_alloc.proofs.arena_of.Met as arena-thm
-use Rattle.records.proofs.store_if.Symbol as store-def
-use Rattle.records.proofs.store_if.Symbol.{name as #records·store-if}
-use Rattle.records.proofs.store_if.Met as store-thm
-use Rattle.chunk_alloc.proofs.reply_of.Symbol as reply-def
-use Rattle.chunk_alloc.proofs.reply_of.Symbol.{name as #chunk-alloc·reply-of}
-use Rattle.chunk_alloc.proofs.reply_of.Met as reply-thm
+use Rattle.grants.proofs.place_of.Symbol as place-def
+use Rattle.grants.proofs.place_of.Symbol.{name as #grants·place-of}
+use Rattle.grants.proofs.place_of.Met as place-thm
+use Rattle.grant_at.proofs.grant_at.Symbol as grant-def
+use Rattle.grant_at.proofs.grant_at.Symbol.{name as #grant-at·grant-at}
+use Rattle.grant_at.proofs.grant_at.Met as grant-thm
+use Rattle.grants.proofs.claim_answer.Symbol as answer-def
+use Rattle.grants.proofs.claim_answer.Symbol.{name as #grants·claim-answer}
+use Rattle.grants.proofs.claim_answer.Met as answer-thm
 use Rattle.chunk_alloc.proofs.claim_at.Key.{name as #chunk-alloc·claim-at}
 use Rattle.chunk_alloc.proofs.claim_at as claim′
 use Rattle.chunk_alloc.proofs.claim_at.Statement as stated
 use Rattle.chunk_alloc.proofs.claim_at.Code as code
 
 module _ {M : Type 1} (𝓤 : URA M) (H : Heap 𝓤) (A : Atoms 𝓤) (W : Given 𝓤 H A) (mem : Memory → SProp 𝓤) (run : Routine → Fun 𝓤) (𝓣 : Tables 𝓤 H)
-    (known-page : Triple 𝓤 (𝓣 .C #entry·page-of) (Page 𝓤 H A mem run)) (known-row : Triple 𝓤 (𝓣 .C #table·row-one) (Row 𝓤 H A mem run)) (known-count : Triple 𝓤 (𝓣 .C #claims·claim-count) (Count 𝓤 H A mem run)) (known-query : Triple 𝓤 (𝓣 .C #chunk-alloc·serves-query) (Asks 𝓤 H A mem run)) (known-scan : Triple 𝓤 (𝓣 .C #table·scan) (Scan 𝓤 H A mem run)) (known-stored : Triple 𝓤 (𝓣 .C #entry·stored-at) (Stored 𝓤 H A mem run))
-    (known-load : Triple 𝓤 (𝓣 .C #records·load-or) (LoadOr 𝓤 H A mem run)) (known-core : Triple 𝓤 (𝓣 .C #claims·claim-core) (Core 𝓤 H A mem run)) (known-arena : Triple 𝓤 (𝓣 .C #chunk-alloc·arena-of) (ArenaOf 𝓤 H A mem run)) (known-store : Triple 𝓤 (𝓣 .C #records·store-if) (StoreIf 𝓤 H A mem run)) (known-reply : Triple 𝓤 (𝓣 .C #chunk-alloc·reply-of) (ReplyOf 𝓤 H A mem run)) where
+    (known-page : Triple 𝓤 (𝓣 .C #entry·page-of) (Page 𝓤 H A mem run)) (known-row : Triple 𝓤 (𝓣 .C #table·row-one) (Row 𝓤 H A mem run)) (known-count : Triple 𝓤 (𝓣 .C #claims·claim-count) (Count 𝓤 H A mem run)) (known-query : Triple 𝓤 (𝓣 .C #chunk-alloc·serves-query) (Asks 𝓤 H A mem run)) (known-scan : Triple 𝓤 (𝓣 .C #table·scan) (Scan 𝓤 H A mem run))
+    (known-place : Triple 𝓤 (𝓣 .C #grants·place-of) (Place 𝓤 H A mem run)) (known-grant : Triple 𝓤 (𝓣 .C #grant-at·grant-at) (GrantAt 𝓤 H A mem run)) (known-answer : Triple 𝓤 (𝓣 .C #grants·claim-answer) (Answers 𝓤 H A mem run)) where
   module _ (κ κ′ : Lft) (q q′ : Share) (γ γ′ : GName) (b o b′ o′ : ℕ) (ys : List Arena) (us : List ℕ) (s : State) (c : Settings) (id : ℤ) (n : ℕ) (w : Bool) where
     abbrev L : Loan
     L = record { κ = κ; q = q; γ = γ; b = b; o = o; n = length ys }
@@ -146,10 +136,7 @@ module _ {M : Type 1} (𝓤 : URA M) (H : Heap 𝓤) (A : Atoms 𝓤) (W : Given
     f = scanOf S ys k (Serves id n)
 
     abbrev a : Arena
-    a = at ys (storedAt f)
-
-    abbrev d : Served
-    d = served (searchArena a n w f) (claimReply S ok s c id n w f a)
+    a = at ys (placeOf f)
 
     walk : Known T.the-row L ys → Known u32 L′ us → Is Z.the-row s (vs ∷ []) → Is Y.the-row c (vc ∷ []) → Is i32 id (vid ∷ []) → n < 2 ^ 64
         → Sq W ((‵ (lent T.the-row L ys) ⊛ (‵ (lent u32 L′ us) ⊛ ‵ ftrue)) ∷ []) (prop (WpFn 𝓤 H (𝓣 .C) (𝓣 .Λ) code.function (sliceOf L ∷ sliceOf L′ ∷ vs ∷ vc ∷ vid ∷ vint w64 n ∷ vbool w ∷ []) (Done2 𝓤 H A T.the-row u32 L L′ P.the-row ys us χ)))
@@ -159,37 +146,30 @@ module _ {M : Type 1} (𝓤 : URA M) (H : Heap 𝓤) (A : Atoms 𝓤) (W : Given
         pass1 ! (init ! 9 refl (LL.lawful Y.the-type Y′.the-laws 𝓤 H A W .typed c (vc ∷ []) gc .0)) $ pass1 ! (init ! 11 refl (sint-lawful 𝓤 H A W w32 .typed id (vid ∷ []) gid .0)) $ pass1 ! (init ! 13 refl (tt, record { fits = fn })) $ pass1 ! (init ! 15 refl (tt, tt)) $ pass0 ! $
         page-step ! (in-seq ! (fmOf 𝓤 H (W .laws) 𝓣)) mem run known-page c vc gc (λ _. and-then ! (load ! (from ! (stop !)) (look ! 9 refl)) (no-more !)) (λ fp.
         land ! (from ! (stop !)) (init ! 17 refl (tt, record { fits = fp })) $
-        assigns ! (addr ! (from ! (fld ! refl (hop ! (look-in ! 3 (sub ! 0 refl (whole !))) (stop !))))) (from ! (stop !)) (init ! 35 refl (tt, tt)) $
-        assigns ! (agg ! (and-then ! (load ! (from ! (stop !)) (look ! 35 refl)) (and-then ! (load ! (from ! (fld ! refl (stop !))) (look-in ! 3 (sub ! 1 refl (whole !)))) (no-more !)))) (from ! (stop !)) (init ! 37 refl (tt, (tt, (record { fits = kn .1 .0 }, tt)))) $
-        assigns ! (of-opd ! (load ! (from ! (fld ! refl (stop !))) (look-in ! 5 (sub ! 1 refl (whole !))))) (from ! (stop !)) (init ! 39 refl (tt, record { fits = kn′ .1 .0 })) $
-        row-step ! (in-seq ! (fmOf 𝓤 H (W .laws) 𝓣)) mem run known-row L ys (length us) (kn′ .1 .0) s vs gs (c .page) fp S (lit< tt) (lit< tt) (lit≤ tt) (λ _. and-then ! (load ! (from ! (stop !)) (look ! 37 refl)) (and-then ! (load ! (from ! (stop !)) (look ! 39 refl)) (and-then ! (load ! (from ! (stop !)) (look ! 7 refl)) (and-then ! (load ! (from ! (stop !)) (look ! 17 refl)) (and-then ! (big-lit ! (record { fits = lit< tt })) (no-more !)))))) (
+        assigns ! (addr ! (from ! (fld ! refl (hop ! (look-in ! 3 (sub ! 0 refl (whole !))) (stop !))))) (from ! (stop !)) (init ! 31 refl (tt, tt)) $
+        assigns ! (agg ! (and-then ! (load ! (from ! (stop !)) (look ! 31 refl)) (and-then ! (load ! (from ! (fld ! refl (stop !))) (look-in ! 3 (sub ! 1 refl (whole !)))) (no-more !)))) (from ! (stop !)) (init ! 33 refl (tt, (tt, (record { fits = kn .1 .0 }, tt)))) $
+        assigns ! (of-opd ! (load ! (from ! (fld ! refl (stop !))) (look-in ! 5 (sub ! 1 refl (whole !))))) (from ! (stop !)) (init ! 35 refl (tt, record { fits = kn′ .1 .0 })) $
+        row-step ! (in-seq ! (fmOf 𝓤 H (W .laws) 𝓣)) mem run known-row L ys (length us) (kn′ .1 .0) s vs gs (c .page) fp S (lit< tt) (lit< tt) (lit≤ tt) (λ _. and-then ! (load ! (from ! (stop !)) (look ! 33 refl)) (and-then ! (load ! (from ! (stop !)) (look ! 35 refl)) (and-then ! (load ! (from ! (stop !)) (look ! 7 refl)) (and-then ! (load ! (from ! (stop !)) (look ! 17 refl)) (and-then ! (big-lit ! (record { fits = lit< tt })) (no-more !)))))) (
         land ! (from ! (stop !)) (init ! 19 refl (tt, tt)) $
         count-step ! (in-seq ! (fmOf 𝓤 H (W .laws) 𝓣)) mem run known-count ok s vs gs c vc gc id vid gid n fn (λ _. and-then ! (load ! (from ! (stop !)) (look ! 19 refl)) (and-then ! (load ! (from ! (stop !)) (look ! 7 refl)) (and-then ! (load ! (from ! (stop !)) (look ! 9 refl)) (and-then ! (load ! (from ! (stop !)) (look ! 11 refl)) (and-then ! (load ! (from ! (stop !)) (look ! 13 refl)) (no-more !)))))) (λ fk.
         land ! (from ! (stop !)) (init ! 21 refl (tt, record { fits = fk })) $
         query-step ! (in-seq ! (fmOf 𝓤 H (W .laws) 𝓣)) mem run known-query id vid gid n fn (λ _. and-then ! (load ! (from ! (stop !)) (look ! 11 refl)) (and-then ! (load ! (from ! (stop !)) (look ! 13 refl)) (no-more !))) (λ vq gq.
         land ! (from ! (stop !)) (init ! 23 refl (EL.lawful Q.the-type Q′.the-laws 𝓤 H A W tt .typed (Serves id n) (vq ∷ []) gq .0)) $
+        assigns ! (addr ! (from ! (fld ! refl (hop ! (look-in ! 3 (sub ! 0 refl (whole !))) (stop !))))) (from ! (stop !)) (init ! 37 refl (tt, tt)) $
+        assigns ! (agg ! (and-then ! (load ! (from ! (stop !)) (look ! 37 refl)) (and-then ! (load ! (from ! (fld ! refl (stop !))) (look-in ! 3 (sub ! 1 refl (whole !)))) (no-more !)))) (from ! (stop !)) (init ! 39 refl (tt, (tt, (record { fits = kn .1 .0 }, tt)))) $
+        scan-step ! (in-seq ! (fmOf 𝓤 H (W .laws) 𝓣)) mem run known-scan L ys k fk S (lit< tt) (Serves id n) vq gq (lit< tt) (lit≤ tt) (λ _. and-then ! (load ! (from ! (stop !)) (look ! 39 refl)) (and-then ! (load ! (from ! (stop !)) (look ! 21 refl)) (and-then ! (big-lit ! (record { fits = lit< tt })) (and-then ! (load ! (from ! (stop !)) (look ! 23 refl)) (no-more !))))) (λ vf gf.
+        land ! (from ! (stop !)) (init ! 25 refl (EL.lawful F.the-type F′.the-laws 𝓤 H A W tt .typed f (vf ∷ []) gf .0)) $
+        place-step ! (in-seq ! (fmOf 𝓤 H (W .laws) 𝓣)) mem run known-place f vf gf (λ _. and-then ! (load ! (from ! (stop !)) (look ! 25 refl)) (no-more !)) (λ fi.
+        land ! (from ! (stop !)) (init ! 27 refl (tt, record { fits = fi })) $
         assigns ! (addr ! (from ! (fld ! refl (hop ! (look-in ! 3 (sub ! 0 refl (whole !))) (stop !))))) (from ! (stop !)) (init ! 41 refl (tt, tt)) $
         assigns ! (agg ! (and-then ! (load ! (from ! (stop !)) (look ! 41 refl)) (and-then ! (load ! (from ! (fld ! refl (stop !))) (look-in ! 3 (sub ! 1 refl (whole !)))) (no-more !)))) (from ! (stop !)) (init ! 43 refl (tt, (tt, (record { fits = kn .1 .0 }, tt)))) $
-        scan-step ! (in-seq ! (fmOf 𝓤 H (W .laws) 𝓣)) mem run known-scan L ys k fk S (lit< tt) (Serves id n) vq gq (lit< tt) (lit≤ tt) (λ _. and-then ! (load ! (from ! (stop !)) (look ! 43 refl)) (and-then ! (load ! (from ! (stop !)) (look ! 21 refl)) (and-then ! (big-lit ! (record { fits = lit< tt })) (and-then ! (load ! (from ! (stop !)) (look ! 23 refl)) (no-more !))))) (λ vf gf.
-        land ! (from ! (stop !)) (init ! 25 refl (EL.lawful F.the-type F′.the-laws 𝓤 H A W tt .typed f (vf ∷ []) gf .0)) $
-        stored-step ! (in-seq ! (fmOf 𝓤 H (W .laws) 𝓣)) mem run known-stored f vf gf (λ _. and-then ! (load ! (from ! (stop !)) (look ! 25 refl)) (no-more !)) (λ fi.
-        land ! (from ! (stop !)) (init ! 27 refl (tt, record { fits = fi })) $
-        assigns ! (addr ! (from ! (fld ! refl (hop ! (look-in ! 3 (sub ! 0 refl (whole !))) (stop !))))) (from ! (stop !)) (init ! 45 refl (tt, tt)) $
-        assigns ! (agg ! (and-then ! (load ! (from ! (stop !)) (look ! 45 refl)) (and-then ! (load ! (from ! (fld ! refl (stop !))) (look-in ! 3 (sub ! 1 refl (whole !)))) (no-more !)))) (from ! (stop !)) (init ! 47 refl (tt, (tt, (record { fits = kn .1 .0 }, tt)))) $
-        load-or-step ! (in-seq ! (fmOf 𝓤 H (W .laws) 𝓣)) mem run known-load L ys (storedAt f) fi (λ _. and-then ! (load ! (from ! (stop !)) (look ! 47 refl)) (and-then ! (load ! (from ! (stop !)) (look ! 27 refl)) (no-more !))) (λ va ga.
-        land ! (from ! (stop !)) (init ! 29 refl (LL.lawful T.the-type T′.the-laws 𝓤 H A W .typed a (va ∷ []) ga .0)) $
-        core-step ! (in-seq ! (fmOf 𝓤 H (W .laws) 𝓣)) mem run known-core ok s vs gs c vc gc id vid gid n fn w f vf gf a va ga S (lit< tt) (lit< tt) (lit≤ tt) (claimed-sound S ys us s c id n w) (λ _. and-then ! (load ! (from ! (stop !)) (look ! 19 refl)) (and-then ! (load ! (from ! (stop !)) (look ! 7 refl)) (and-then ! (load ! (from ! (stop !)) (look ! 9 refl)) (and-then ! (load ! (from ! (stop !)) (look ! 11 refl)) (and-then ! (load ! (from ! (stop !)) (look ! 13 refl)) (and-then ! (load ! (from ! (stop !)) (look ! 15 refl)) (and-then ! (load ! (from ! (stop !)) (look ! 25 refl)) (and-then ! (load ! (from ! (stop !)) (look ! 29 refl)) (and-then ! (big-lit ! (record { fits = lit< tt })) (no-more !)))))))))) (λ vd gd.
-        land ! (from ! (stop !)) (init ! 31 refl (LL.lawful D.the-type D′.the-laws 𝓤 H A W .typed d (vd ∷ []) gd .0)) $
-        arena-step ! (in-seq ! (fmOf 𝓤 H (W .laws) 𝓣)) mem run known-arena d vd gd (λ _. and-then ! (load ! (from ! (stop !)) (look ! 31 refl)) (no-more !)) (λ vb gb.
-        land ! (from ! (stop !)) (init ! 33 refl (LL.lawful T.the-type T′.the-laws 𝓤 H A W .typed (d .arena) (vb ∷ []) gb .0)) $
-        assigns ! (addr ! (from ! (fld ! refl (hop ! (look-in ! 3 (sub ! 0 refl (whole !))) (stop !))))) (from ! (stop !)) (init ! 51 refl (tt, tt)) $
-        assigns ! (agg ! (and-then ! (load ! (from ! (stop !)) (look ! 51 refl)) (and-then ! (load ! (from ! (fld ! refl (stop !))) (look-in ! 3 (sub ! 1 refl (whole !)))) (no-more !)))) (from ! (stop !)) (init ! 53 refl (tt, (tt, (record { fits = kn .1 .0 }, tt)))) $
-        store-if-step ! (in-seq ! (fmOf 𝓤 H (W .laws) 𝓣)) mem run known-store L ys (storedAt f) fi (d .arena) vb gb (λ _. and-then ! (load ! (from ! (stop !)) (look ! 53 refl)) (and-then ! (load ! (from ! (stop !)) (look ! 27 refl)) (and-then ! (load ! (from ! (stop !)) (look ! 33 refl)) (no-more !)))) (λ vu gu.
-        land ! (from ! (stop !)) (init ! 49 refl (nothing-lawful 𝓤 H A W .typed tt (vu ∷ []) gu .0)) $
-        reply-step ! (in-seq ! (fmOf 𝓤 H (W .laws) 𝓣)) mem run known-reply d vd gd (λ _. and-then ! (load ! (from ! (stop !)) (look ! 31 refl)) (no-more !)) (λ vr gr.
-        land ! (from ! (stop !)) (init ! 1 refl (LL.lawful P.the-type P′.the-laws 𝓤 H A W .typed (d .reply) (vr ∷ []) gr .0)) $
-        returns ! (look ! 1 refl) $ used ! $ used ! $ used ! $ used ! $ used ! $ used ! $ used ! $ used ! $ used ! $ used ! $ used ! $ used ! $ used ! $ used ! $ used ! $ used ! $ used ! $ used ! $ used ! $ used ! $ used ! $ used ! $ used ! $ used ! $ used ! $ used ! $ used ! $ free0 ! $
-        finish2 𝓤 H A T.the-row u32 L L′ P.the-row ys us χ W (‵ ftrue) vr (d .reply) (set ys (storedAt f) (d .arena)) us gr (length-set ys (storedAt f) (d .arena)) refl (λ ns. claimed S ys us s c id n w ns)))))))))))))
+        grant-step ! (in-seq ! (fmOf 𝓤 H (W .laws) 𝓣)) mem run known-grant L ys (placeOf f) fi n fn w (claimed-needs S ys us s c id n w (kn .1 .0)) (λ _. and-then ! (load ! (from ! (stop !)) (look ! 43 refl)) (and-then ! (load ! (from ! (stop !)) (look ! 27 refl)) (and-then ! (load ! (from ! (stop !)) (look ! 13 refl)) (and-then ! (load ! (from ! (stop !)) (look ! 15 refl)) (no-more !))))) (λ vg g gg read.
+        land ! (from ! (stop !)) (init ! 29 refl (LL.lawful N.the-type N′.the-laws 𝓤 H A W .typed g (vg ∷ []) gg .0)) $
+        answer-step ! (in-seq ! (fmOf 𝓤 H (W .laws) 𝓣)) mem run known-answer ok s vs gs c vc gc id vid gid n fn w f vf gf g vg gg S (lit< tt) (lit< tt) (lit≤ tt) (claimed-fits S ys us s c id n w g read)
+        (λ _. and-then ! (load ! (from ! (stop !)) (look ! 19 refl)) (and-then ! (load ! (from ! (stop !)) (look ! 7 refl)) (and-then ! (load ! (from ! (stop !)) (look ! 9 refl)) (and-then ! (load ! (from ! (stop !)) (look ! 11 refl)) (and-then ! (load ! (from ! (stop !)) (look ! 13 refl)) (and-then ! (load ! (from ! (stop !)) (look ! 15 refl)) (and-then ! (load ! (from ! (stop !)) (look ! 25 refl)) (and-then ! (load ! (from ! (stop !)) (look ! 29 refl)) (and-then ! (big-lit ! (record { fits = lit< tt })) (no-more !)))))))))) (λ vr gr.
+        land ! (from ! (stop !)) (init ! 1 refl (LL.lawful P.the-type P′.the-laws 𝓤 H A W .typed (claimAnswer S ok s c id n w f g) (vr ∷ []) gr .0)) $
+        returns ! (look ! 1 refl) $ used ! $ used ! $ used ! $ used ! $ used ! $ used ! $ used ! $ used ! $ used ! $ used ! $ used ! $ used ! $ used ! $ used ! $ used ! $ used ! $ used ! $ used ! $ used ! $ used ! $ used ! $ used ! $ free0 ! $
+        finish2 𝓤 H A T.the-row u32 L L′ P.the-row ys us χ W (‵ ftrue) vr (claimAnswer S ok s c id n w f g) (set ys (placeOf f) (grantArena a (startOf (findRun a n)) n w)) us gr (length-set ys (placeOf f) _) refl (λ ns. claimed S ys us s c id n w g read (kn .1 .0) ns))))))))))
 
   claim-meets : Meets 𝓤 H A claim′.signature (WpFn 𝓤 H (𝓣 .C) (𝓣 .Λ) code.function) (claim′.spec 𝓤 H A mem run)
   claim-meets = mut2-meets 𝓤 H A W T.the-row u32 P.the-row (plain (λ _. Z.the-row) ∷ plain (λ _. Y.the-row) ∷ plain (λ _. i32) ∷ plain (λ _. usize) ∷ plain (λ _. bool) ∷ []) (yes, (yes, (yes, (yes, (yes, tt))))) (claim′.clauses 𝓤 H A mem run)
@@ -211,9 +191,6 @@ claim-at-spec 𝓤 H 𝓜 𝓖 𝓡 =
     (cited 𝓤 H (Count 𝓤 H (𝓖 .A) (𝓜 .mem) (𝓡 .run)) 𝓜 𝓡 code.env #claims·claim-count count-def.routine code.calls-claims·claim-count (count-thm.met 𝓤 H 𝓜 𝓖 𝓡))
     (cited 𝓤 H (Asks 𝓤 H (𝓖 .A) (𝓜 .mem) (𝓡 .run)) 𝓜 𝓡 code.env #chunk-alloc·serves-query query-def.routine code.calls-chunk-alloc·serves-query (query-thm.met 𝓤 H 𝓜 𝓖 𝓡))
     (cited 𝓤 H (Scan 𝓤 H (𝓖 .A) (𝓜 .mem) (𝓡 .run)) 𝓜 𝓡 code.env #table·scan scan-def.routine code.calls-table·scan (scan-thm.met 𝓤 H 𝓜 𝓖 𝓡))
-    (cited 𝓤 H (Stored 𝓤 H (𝓖 .A) (𝓜 .mem) (𝓡 .run)) 𝓜 𝓡 code.env #entry·stored-at stored-def.routine code.calls-entry·stored-at (stored-thm.met 𝓤 H 𝓜 𝓖 𝓡))
-    (cited 𝓤 H (LoadOr 𝓤 H (𝓖 .A) (𝓜 .mem) (𝓡 .run)) 𝓜 𝓡 code.env #records·load-or load-def.routine code.calls-records·load-or (load-thm.met 𝓤 H 𝓜 𝓖 𝓡))
-    (cited 𝓤 H (Core 𝓤 H (𝓖 .A) (𝓜 .mem) (𝓡 .run)) 𝓜 𝓡 code.env #claims·claim-core core-def.routine code.calls-claims·claim-core (core-thm.met 𝓤 H 𝓜 𝓖 𝓡))
-    (cited 𝓤 H (ArenaOf 𝓤 H (𝓖 .A) (𝓜 .mem) (𝓡 .run)) 𝓜 𝓡 code.env #chunk-alloc·arena-of arena-def.routine code.calls-chunk-alloc·arena-of (arena-thm.met 𝓤 H 𝓜 𝓖 𝓡))
-    (cited 𝓤 H (StoreIf 𝓤 H (𝓖 .A) (𝓜 .mem) (𝓡 .run)) 𝓜 𝓡 code.env #records·store-if store-def.routine code.calls-records·store-if (store-thm.met 𝓤 H 𝓜 𝓖 𝓡))
-    (cited 𝓤 H (ReplyOf 𝓤 H (𝓖 .A) (𝓜 .mem) (𝓡 .run)) 𝓜 𝓡 code.env #chunk-alloc·reply-of reply-def.routine code.calls-chunk-alloc·reply-of (reply-thm.met 𝓤 H 𝓜 𝓖 𝓡)))
+    (cited 𝓤 H (Place 𝓤 H (𝓖 .A) (𝓜 .mem) (𝓡 .run)) 𝓜 𝓡 code.env #grants·place-of place-def.routine code.calls-grants·place-of (place-thm.met 𝓤 H 𝓜 𝓖 𝓡))
+    (cited 𝓤 H (GrantAt 𝓤 H (𝓖 .A) (𝓜 .mem) (𝓡 .run)) 𝓜 𝓡 code.env #grant-at·grant-at grant-def.routine code.calls-grant-at·grant-at (grant-thm.met 𝓤 H 𝓜 𝓖 𝓡))
+    (cited 𝓤 H (Answers 𝓤 H (𝓖 .A) (𝓜 .mem) (𝓡 .run)) 𝓜 𝓡 code.env #grants·claim-answer answer-def.routine code.calls-grants·claim-answer (answer-thm.met 𝓤 H 𝓜 𝓖 𝓡)))

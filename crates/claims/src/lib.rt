@@ -1,15 +1,12 @@
 // A claim by value: what it answers, and what it makes of the record that the scan found. It knows no
 // table: the scan and the stores stand above.
 ghost use mathlib.Core.Path.{_≡_};
-ghost use mathlib.Core.Bool.{true, cond, _&&_};
+ghost use mathlib.Core.Bool.{true};
 ghost use Prim.Native.Nat.{ℕ, _+_, _*_, _^_, _<_, _≤_};
-ghost use lib.Dec.{eqb};
-ghost use Rattle.refusals.specs.declared.Refusal.the-variants.{Zero, ArenasOff};
 ghost use Rattle.runs.specs.declared.Found.the-variants.{At};
 ghost use Rattle.lookup.specs.Soundness.{soundArena};
-ghost use Rattle.layer.specs.World.{reply, turnDown, calm};
 ghost use Rattle.layer.specs.Claiming.{grantArena, grantReply};
-ghost use Rattle.claims.specs.Core.{claimCount, searchArena, searchReply, claimReply};
+ghost use Rattle.claims.specs.Core.{claimCount, searchArena, searchReply};
 use arena::Arena;
 use layer::Answer;
 use layer::Ask;
@@ -122,44 +119,4 @@ pub fn claim_count(ok: bool, state: State, settings: Settings, id: i32, n: usize
         return 0;
     }
     state.count
-}
-
-// Rows 4 and 5, then what the search answered.
-fn own_reply(n: usize, allowed: bool, found: Reply, k: usize, mark: bool) -> Reply
-    ensures { λ r. ⌜ r ≡ cond (eqb n 0) (turnDown Zero (calm k mark)) (cond allowed found (turnDown ArenasOff (calm k mark))) ⌝ }
-{
-    if n == 0 {
-        return claim_miss::refuse(Refusal::Zero, k, mark);
-    }
-    if !allowed {
-        return claim_miss::refuse(Refusal::ArenasOff, k, mark);
-    }
-    found
-}
-
-// A claim, after the scan: f is the record that it found, and a what stands there.
-pub fn claim_core(
-    ok: bool,
-    state: State,
-    settings: Settings,
-    id: i32,
-    n: usize,
-    commits: bool,
-    f: Found,
-    a: Arena,
-    chunk_size: u64,
-) -> Served
-    requires { ⌜ (0 < «chunk_size») × («chunk_size» ≤ 4294967296) × ((i : ℕ) → f ≡ At i → soundArena «chunk_size» a ≡ true) ⌝ }
-    ensures { λ r. ⌜ (r .reply ≡ claimReply «chunk_size» ok state settings id n commits f a) × (r .arena ≡ searchArena a n commits f) ⌝ }
-{
-    let k = state.count;
-    let mark = state.mark;
-    let allowed = options::arena_allowed(settings.off, id);
-    let missed = claim_miss::miss(id, n, commits, settings, k, mark, chunk_size);
-    let end = search_end(state, a, n, commits, missed, f, chunk_size);
-    let arena = end.arena;
-    let found = end.reply;
-    let own = own_reply(n, allowed, found, k, mark);
-    let reply = registers::gate(ok, state, own);
-    Served { arena, reply }
 }

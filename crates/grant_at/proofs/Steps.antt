@@ -1,7 +1,7 @@
 -- The functions that a grant calls, each in one step of a walk (`records::Calls`).
 -- Assumes `Given`, the callee's theorem, and that the table of calls is monotone under a frame.
 use mathlib.Core.Path.{_≡_, refl, sym, _∙_, ap, subst}
-use mathlib.Core.Bool.{Bool, true, cond, not, _&&_}
+use mathlib.Core.Bool.{Bool, false, true, cond, not, _&&_}
 use Prim.Native.Nat.{ℕ, _+_, _<_, _≤_, _^_}
 use mathlib.Core.List.{List, [], _∷_}
 use lib.ListN.{length, getD, set}
@@ -67,6 +67,10 @@ use Rattle.grant_at.proofs.take_in as take-in′
 use Rattle.grant_at.proofs.take_in.Symbol.{name as #grant-at·take-in}
 use Rattle.grant_at.proofs.grant_in as grant-in′
 use Rattle.grant_at.proofs.grant_in.Symbol.{name as #grant-at·grant-in}
+
+-- what is read of no arena
+abbrev none : Grant
+none = record { base = 0; start = 0; committed = false; fresh = false }
 
 -- the contracts that a walk cites
 module _ {M : Type 1} (𝓤 : URA M) (H : Heap 𝓤) (A : Atoms 𝓤) (mem : Memory → SProp 𝓤) (run : Routine → Fun 𝓤) where
@@ -223,4 +227,4 @@ module _ {M : Type 1} {𝓤 : URA M} {H : Heap 𝓤} {A : Atoms 𝓤} {K : Type 
       → Seq K W (i ∷ Γ) G
   none-step t site mem run known ops k =
       plain-call t site N.the-row ([]) tt (none′.clauses 𝓤 H A mem run) known tt tt (id⊢ 𝓤 _) tt (id⊢ 𝓤 _)
-      (λ r. r .start ≡ 0) (λ r ws. id⊢ 𝓤 _) ops (λ v r is e. k v r is)
+      (λ r. r ≡ none) (λ r ws. id⊢ 𝓤 _) ops (λ v r is e. k v r is)

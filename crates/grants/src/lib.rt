@@ -1,7 +1,7 @@
 // A claim by value, over what it reads of the arena that serves it: what it answers. It knows no table and
 // no record: the run is found and taken where the maps lie.
 ghost use mathlib.Core.Path.{_≡_};
-ghost use mathlib.Core.Bool.{cond, not, _&&_};
+ghost use mathlib.Core.Bool.{false, cond, not, _&&_};
 ghost use Prim.Native.Nat.{ℕ, _+_, _*_, _^_, _<_, _≤_};
 ghost use lib.Dec.{eqb};
 ghost use Rattle.refusals.specs.declared.Refusal.the-variants.{Zero, ArenasOff};
@@ -77,7 +77,7 @@ pub fn grant_of(h: Head, start: usize, committed: bool, fresh: bool) -> Grant
 
 // Of no arena.
 pub fn no_grant() -> Grant
-    ensures { λ r. ⌜ r .start ≡ 0 ⌝ }
+    ensures { λ r. ⌜ r ≡ record { base = 0; start = 0; committed = false; fresh = false } ⌝ }
 {
     Grant {
         base: 0,

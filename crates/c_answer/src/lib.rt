@@ -2,11 +2,12 @@
 // numbers, and goes back in them with the answer; numbers that are no state's are turned down with 1.
 ghost use mathlib.Core.Path.{_≡_};
 ghost use Rattle.layer.specs.Step.{answer};
-ghost use Rattle.surface.specs.Numbers.{kindOf, stepNumbers, LeavesNumbers};
+ghost use Rattle.surface_told.specs.Told.{kindOf};
+ghost use Rattle.surface_reply.specs.Replies.{stepNumbers, LeavesNumbers};
 use arena::Arena;
-use surface::ReplyNumbers;
-use surface::SettingsNumbers;
 use surface::StateNumbers;
+use surface_reply::ReplyNumbers;
+use surface_told::SettingsNumbers;
 
 // The host's answer to the open question; `base` is where the memory is that was asked for.
 #[no_mangle]
@@ -24,8 +25,8 @@ pub extern "C" fn sirqobal_answer(
 {
     let ok = surface::is_state(state);
     let s = surface::state_of(state);
-    let c = surface::settings_of(ok, settings);
-    let k = surface::kind_of(kind);
+    let c = surface_told::settings_of(ok, settings);
+    let k = surface_told::kind_of(kind);
     let r = answer::answer(records, stamps, s, ns, c, k, yes, base);
-    surface::reply_of(ok, state, r)
+    surface_reply::reply_of(ok, state, r)
 }

@@ -3,11 +3,11 @@
 ghost use mathlib.Core.Path.{_≡_};
 ghost use mathlib.Core.Bool.{true, false};
 ghost use Rattle.layer.specs.Step.{claim};
-ghost use Rattle.surface.specs.Numbers.{stepNumbers, LeavesNumbers};
+ghost use Rattle.surface_reply.specs.Replies.{stepNumbers, LeavesNumbers};
 use arena::Arena;
-use surface::ReplyNumbers;
-use surface::SettingsNumbers;
 use surface::StateNumbers;
+use surface_reply::ReplyNumbers;
+use surface_told::SettingsNumbers;
 
 // One chunk, committed.
 #[no_mangle]
@@ -23,9 +23,9 @@ pub extern "C" fn sirqobal_chunk_alloc(
 {
     let ok = surface::is_state(state);
     let s = surface::state_of(state);
-    let c = surface::settings_of(ok, settings);
+    let c = surface_told::settings_of(ok, settings);
     let r = chunk_alloc::chunk_alloc(records, stamps, s, ns, c, id);
-    surface::reply_of(ok, state, r)
+    surface_reply::reply_of(ok, state, r)
 }
 
 // One chunk, as it is: the answer says whether it is committed.
@@ -42,9 +42,9 @@ pub extern "C" fn sirqobal_chunk_claim(
 {
     let ok = surface::is_state(state);
     let s = surface::state_of(state);
-    let c = surface::settings_of(ok, settings);
+    let c = surface_told::settings_of(ok, settings);
     let r = chunk_alloc::chunk_claim(records, stamps, s, ns, c, id);
-    surface::reply_of(ok, state, r)
+    surface_reply::reply_of(ok, state, r)
 }
 
 // A run of n chunks, committed.
@@ -62,7 +62,7 @@ pub extern "C" fn sirqobal_chunk_alloc_n(
 {
     let ok = surface::is_state(state);
     let s = surface::state_of(state);
-    let c = surface::settings_of(ok, settings);
+    let c = surface_told::settings_of(ok, settings);
     let r = chunk_alloc::chunk_alloc_n(records, stamps, s, ns, c, id, n);
-    surface::reply_of(ok, state, r)
+    surface_reply::reply_of(ok, state, r)
 }

@@ -2,11 +2,11 @@
 // numbers, and goes back in them with the answer; numbers that are no state's are turned down with 1.
 ghost use mathlib.Core.Path.{_≡_};
 ghost use Rattle.layer.specs.Step.{reserve, manage, adopt};
-ghost use Rattle.surface.specs.Numbers.{stepNumbers, LeavesNumbers};
+ghost use Rattle.surface_reply.specs.Replies.{stepNumbers, LeavesNumbers};
 use arena::Arena;
-use surface::ReplyNumbers;
-use surface::SettingsNumbers;
 use surface::StateNumbers;
+use surface_reply::ReplyNumbers;
+use surface_told::SettingsNumbers;
 
 // Memory is asked of the host.
 #[no_mangle]
@@ -25,7 +25,7 @@ pub extern "C" fn sirqobal_reserve_os_memory_ex(
 {
     let ok = surface::is_state(state);
     let s = surface::state_of(state);
-    let c = surface::settings_of(ok, settings);
+    let c = surface_told::settings_of(ok, settings);
     let r = reserve_os_memory::reserve_os_memory_ex(
         records,
         stamps,
@@ -37,7 +37,7 @@ pub extern "C" fn sirqobal_reserve_os_memory_ex(
         allow_large,
         exclusive,
     );
-    surface::reply_of(ok, state, r)
+    surface_reply::reply_of(ok, state, r)
 }
 
 // Memory that the host has already is registered. The first three flags say what nothing depends on; the
@@ -63,7 +63,7 @@ pub extern "C" fn sirqobal_manage_os_memory_ex(
 {
     let ok = surface::is_state(state);
     let s = surface::state_of(state);
-    let c = surface::settings_of(ok, settings);
+    let c = surface_told::settings_of(ok, settings);
     let r = manage_os_memory::manage_os_memory_ex(
         records,
         stamps,
@@ -80,7 +80,7 @@ pub extern "C" fn sirqobal_manage_os_memory_ex(
         mapped,
         reserved,
     );
-    surface::reply_of(ok, state, r)
+    surface_reply::reply_of(ok, state, r)
 }
 
 // A block of the allocator's own becomes an arena, or part of the one that ends at it.
@@ -98,7 +98,7 @@ pub extern "C" fn sirqobal_adopt_os_block(
 {
     let ok = surface::is_state(state);
     let s = surface::state_of(state);
-    let c = surface::settings_of(ok, settings);
+    let c = surface_told::settings_of(ok, settings);
     let r = adopt_os_block::adopt_os_block(records, stamps, s, ns, c, address, size);
-    surface::reply_of(ok, state, r)
+    surface_reply::reply_of(ok, state, r)
 }

@@ -3,11 +3,11 @@
 // with 1.
 ghost use mathlib.Core.Path.{_≡_};
 ghost use Rattle.layer.specs.Step.{owns, area};
-ghost use Rattle.surface.specs.Numbers.{stepNumbers};
+ghost use Rattle.surface_reply.specs.Replies.{stepNumbers};
 use arena::Arena;
-use surface::ReplyNumbers;
-use surface::SettingsNumbers;
 use surface::StateNumbers;
+use surface_reply::ReplyNumbers;
+use surface_told::SettingsNumbers;
 
 // Whether an address lies in an arena.
 #[no_mangle]
@@ -23,9 +23,9 @@ pub extern "C" fn sirqobal_owns(
 {
     let ok = surface::is_state(state);
     let s = surface::state_of(state);
-    let c = surface::settings_of(ok, settings);
+    let c = surface_told::settings_of(ok, settings);
     let r = arena_area::owns(records, stamps, s, ns, c, address);
-    surface::reply_of(ok, state, r)
+    surface_reply::reply_of(ok, state, r)
 }
 
 // The base and the bytes of an arena; 0 and 0 where there is none.
@@ -42,7 +42,7 @@ pub extern "C" fn sirqobal_arena_area(
 {
     let ok = surface::is_state(state);
     let s = surface::state_of(state);
-    let c = surface::settings_of(ok, settings);
+    let c = surface_told::settings_of(ok, settings);
     let r = arena_area::arena_area(records, stamps, s, ns, c, id);
-    surface::reply_of(ok, state, r)
+    surface_reply::reply_of(ok, state, r)
 }

@@ -3,11 +3,12 @@
 // with 1.
 ghost use mathlib.Core.Path.{_≡_};
 ghost use Rattle.layer.specs.Step.{release, sweep};
-ghost use Rattle.surface.specs.Numbers.{toldOf, stepNumbers, LeavesNumbers};
+ghost use Rattle.surface_told.specs.Told.{toldOf};
+ghost use Rattle.surface_reply.specs.Replies.{stepNumbers, LeavesNumbers};
 use arena::Arena;
-use surface::ReplyNumbers;
-use surface::SettingsNumbers;
 use surface::StateNumbers;
+use surface_reply::ReplyNumbers;
+use surface_told::SettingsNumbers;
 
 // n chunks from an address on are given back, with what is told of their commitment; purged later, if pending.
 #[no_mangle]
@@ -26,10 +27,10 @@ pub extern "C" fn sirqobal_chunk_release(
 {
     let ok = surface::is_state(state);
     let s = surface::state_of(state);
-    let c = surface::settings_of(ok, settings);
-    let t = surface::told_of(told);
+    let c = surface_told::settings_of(ok, settings);
+    let t = surface_told::told_of(told);
     let r = chunk_release::chunk_release(records, stamps, s, ns, c, address, n, t, pending);
-    surface::reply_of(ok, state, r)
+    surface_reply::reply_of(ok, state, r)
 }
 
 // A sweep of the arenas whose deadline has come; of all that are armed, if forced.
@@ -46,7 +47,7 @@ pub extern "C" fn sirqobal_purge_due(
 {
     let ok = surface::is_state(state);
     let s = surface::state_of(state);
-    let c = surface::settings_of(ok, settings);
+    let c = surface_told::settings_of(ok, settings);
     let r = purge_due::purge_due(records, stamps, s, ns, c, force);
-    surface::reply_of(ok, state, r)
+    surface_reply::reply_of(ok, state, r)
 }

@@ -1,4 +1,4 @@
--- `surface::told_of` meets its contract. The machine holds the number's bits, and reads back the number that came in. Assumes nothing.
+-- `surface_told::told_of` meets its contract. The machine holds the number's bits, and reads back the number that came in. Assumes nothing.
 use mathlib.Core.Path.{_≡_, refl, sym, ap, _∙_}
 use mathlib.Core.Bool.{true, false, true≢false}
 use Prim.Native.Nat.{ℕ}
@@ -9,9 +9,9 @@ use lib.Signed.{ltZ}
 use mir.Facts.{toZ-ofZ}
 use Rattle.words.proofs.Tests.{when, unless}
 use Rattle.arena.specs.declared.Commitment.the-variants.{Untold, Committed, Uncommitted}
-use Rattle.surface.specs.Numbers.{toldOf}
-use Rattle.surface.proofs.told_of.Statement.{statement}
-use Rattle.surface.proofs.told_of.Tie as tie
+use Rattle.surface_told.specs.Told.{toldOf}
+use Rattle.surface_told.proofs.told_of.Statement.{statement}
+use Rattle.surface_told.proofs.told_of.Tie as tie
 
 untold : (z : ℤ) → ltZ z (pos 0) ≡ true → Untold ≡ toldOf z
 untold (pos x) e = absurd (omega (arith, ltb-true x 0 e))

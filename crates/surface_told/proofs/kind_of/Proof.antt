@@ -1,9 +1,9 @@
--- `surface::kind_of` meets its contract. Assumes nothing.
+-- `surface_told::kind_of` meets its contract. Assumes nothing.
 use mathlib.Core.Path.{sym, _∙_}
 use borrow.Author.Tests.{eq-eqb, ne-eqb}
 use Rattle.words.proofs.Tests.{when, unless}
-use Rattle.surface.proofs.kind_of.Statement.{statement}
-use Rattle.surface.proofs.kind_of.Tie as tie
+use Rattle.surface_told.proofs.kind_of.Statement.{statement}
+use Rattle.surface_told.proofs.kind_of.Tie as tie
 
 returns : tie.Need-returns
 returns c = sym (when _ _ _ (eq-eqb _ 1 (c .if1 .taken)))

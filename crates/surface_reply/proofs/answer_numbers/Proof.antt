@@ -1,12 +1,12 @@
--- `surface::answer_numbers` meets its contract. Assumes nothing.
+-- `surface_reply::answer_numbers` meets its contract. Assumes nothing.
 use mathlib.Core.Path.{sym, ap, _∙_}
 use mathlib.Core.Bool.{false}
 use Prim.Native.Nat.{ℕ}
 use Rattle.layer.specs.declared.Answer.{Answer}
-use Rattle.surface.specs.Numbers.{replyNumbers, answerNumbers}
+use Rattle.surface_reply.specs.Replies.{replyNumbers, answerNumbers}
 use borrow.Author.Needs.{needs}
-use Rattle.surface.proofs.answer_numbers.Statement.{statement}
-use Rattle.surface.proofs.answer_numbers.Tie as tie
+use Rattle.surface_reply.proofs.answer_numbers.Statement.{statement}
+use Rattle.surface_reply.proofs.answer_numbers.Tie as tie
 
 enum-known-answer : tie.Need-enum-known-answer
 enum-known-answer c = search needs

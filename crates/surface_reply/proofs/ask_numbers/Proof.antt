@@ -1,10 +1,10 @@
--- `surface::ask_numbers` meets its contract. Assumes nothing.
+-- `surface_reply::ask_numbers` meets its contract. Assumes nothing.
 use mathlib.Core.Path.{sym, ap, _∙_}
 use Rattle.layer.specs.declared.Ask.{Ask}
-use Rattle.surface.specs.Numbers.{askNumbers}
+use Rattle.surface_reply.specs.Replies.{askNumbers}
 use borrow.Author.Needs.{needs}
-use Rattle.surface.proofs.ask_numbers.Statement.{statement}
-use Rattle.surface.proofs.ask_numbers.Tie as tie
+use Rattle.surface_reply.proofs.ask_numbers.Statement.{statement}
+use Rattle.surface_reply.proofs.ask_numbers.Tie as tie
 
 enum-known-ask : tie.Need-enum-known-ask
 enum-known-ask c = search needs

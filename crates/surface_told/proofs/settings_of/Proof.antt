@@ -1,11 +1,11 @@
--- `surface::settings_of` meets its contract. Assumes nothing.
+-- `surface_told::settings_of` meets its contract. Assumes nothing.
 use mir.Facts.{toZ-ofZ}
 use mir.Syntax.{w64}
 use mir.Val.{SFits}
-use Rattle.surface.specs.Numbers.{settingsOf, isOn}
+use Rattle.surface_told.specs.Told.{settingsOf, isOn}
 use borrow.Author.Needs.{needs}
-use Rattle.surface.proofs.settings_of.Statement.{statement}
-use Rattle.surface.proofs.settings_of.Tie as tie
+use Rattle.surface_told.proofs.settings_of.Statement.{statement}
+use Rattle.surface_told.proofs.settings_of.Tie as tie
 
 page-of-requires : tie.Need-page-of-requires
 page-of-requires c κs = search needs

@@ -1,4 +1,4 @@
--- The functions of `surface` that an exported call uses, each in one step of a walk (`table`'s Calls.antt):
+-- The functions of `surface`, `surface_told` and `surface_reply` that an exported call uses, each in one step of a walk (`records`' Calls.antt):
 --     is-state-step, state-of-step, settings-of-step, told-of-step, kind-of-step, reply-of-step
 -- Assumes `Given`, the callee's theorem, and that the table of calls is monotone under a frame.
 use mathlib.Core.Path.{_≡_, refl, sym, _∙_, ap, subst}
@@ -39,26 +39,28 @@ use Rattle.layer.proofs.Settings as Y
 use Rattle.layer.proofs.Reply as P
 use Rattle.layer.proofs.Reply.Laws as P′
 use Rattle.surface.specs.declared.StateNumbers.{StateNumbers}
-use Rattle.surface.specs.declared.SettingsNumbers.{SettingsNumbers}
-use Rattle.surface.specs.declared.ReplyNumbers.{ReplyNumbers}
-use Rattle.surface.specs.Numbers.{stateOf, isState, settingsOf, toldOf, kindOf, replyOf}
+use Rattle.surface_told.specs.declared.SettingsNumbers.{SettingsNumbers}
+use Rattle.surface_reply.specs.declared.ReplyNumbers.{ReplyNumbers}
+use Rattle.surface.specs.Numbers.{stateOf, isState}
+use Rattle.surface_told.specs.Told.{settingsOf, toldOf, kindOf}
+use Rattle.surface_reply.specs.Replies.{replyOf}
 use Rattle.surface.proofs.StateNumbers as N
 use Rattle.surface.proofs.StateNumbers.Laws as N′
-use Rattle.surface.proofs.SettingsNumbers as J
-use Rattle.surface.proofs.SettingsNumbers.Laws as J′
-use Rattle.surface.proofs.ReplyNumbers as X
+use Rattle.surface_told.proofs.SettingsNumbers as J
+use Rattle.surface_told.proofs.SettingsNumbers.Laws as J′
+use Rattle.surface_reply.proofs.ReplyNumbers as X
 use Rattle.surface.proofs.is_state as is-state′
 use Rattle.surface.proofs.is_state.Symbol.{name as #surface·is-state}
 use Rattle.surface.proofs.state_of as state-of′
 use Rattle.surface.proofs.state_of.Symbol.{name as #surface·state-of}
-use Rattle.surface.proofs.settings_of as settings-of′
-use Rattle.surface.proofs.settings_of.Symbol.{name as #surface·settings-of}
-use Rattle.surface.proofs.told_of as told-of′
-use Rattle.surface.proofs.told_of.Symbol.{name as #surface·told-of}
-use Rattle.surface.proofs.kind_of as kind-of′
-use Rattle.surface.proofs.kind_of.Symbol.{name as #surface·kind-of}
-use Rattle.surface.proofs.reply_of as reply-of′
-use Rattle.surface.proofs.reply_of.Symbol.{name as #surface·reply-of}
+use Rattle.surface_told.proofs.settings_of as settings-of′
+use Rattle.surface_told.proofs.settings_of.Symbol.{name as #surface-told·settings-of}
+use Rattle.surface_told.proofs.told_of as told-of′
+use Rattle.surface_told.proofs.told_of.Symbol.{name as #surface-told·told-of}
+use Rattle.surface_told.proofs.kind_of as kind-of′
+use Rattle.surface_told.proofs.kind_of.Symbol.{name as #surface-told·kind-of}
+use Rattle.surface_reply.proofs.reply_of as reply-of′
+use Rattle.surface_reply.proofs.reply_of.Symbol.{name as #surface-reply·reply-of}
 use Rattle.records.proofs.Calls.{Site, plain-call}
 
 -- the contracts that a walk cites
@@ -102,7 +104,7 @@ module _ {M : Type 1} {𝓤 : URA M} {H : Heap 𝓤} {A : Atoms 𝓤} {K : Type 
       (owns-make 𝓤 H A (N.the-row ∷ []) (Ises (N.the-row ∷ [])) (LL.makes N.the-type N′.the-plain 𝓤 H A, tt) (f, tt) (vf ∷ [], tt) (gf, tt)) tt (id⊢ 𝓤 _)
       (λ r. r ≡ stateOf f) (λ r ws. id⊢ 𝓤 _) ops (λ v r is e. k v (subst (λ (o : State). Is Z.the-row o (v ∷ [])) e is))
 
-  pub settings-of-step : K → Site K W Γ C E #surface·settings-of xs G after → (mem : Memory → SProp 𝓤) (run : Routine → Fun 𝓤) → Triple 𝓤 (C #surface·settings-of) (SettingsOf 𝓤 H A mem run)
+  pub settings-of-step : K → Site K W Γ C E #surface-told·settings-of xs G after → (mem : Memory → SProp 𝓤) (run : Routine → Fun 𝓤) → Triple 𝓤 (C #surface-told·settings-of) (SettingsOf 𝓤 H A mem run)
       → (ok : Bool) → (s : SettingsNumbers) (vs : Val) → Is J.the-row s (vs ∷ [])
       → ((h : Item 𝓤) → Opds K W (h ∷ Γ) E xs (vbool ok ∷ vs ∷ []))
       → ((v : Val) → Is Y.the-row (settingsOf ok s) (v ∷ []) → Seq K W (i ∷ Γ) (after v))
@@ -112,7 +114,7 @@ module _ {M : Type 1} {𝓤 : URA M} {H : Heap 𝓤} {A : Atoms 𝓤} {K : Type 
       (owns-make 𝓤 H A (bool ∷ J.the-row ∷ []) (Ises (bool ∷ J.the-row ∷ [])) (bool-makes 𝓤 H A W, (LL.makes J.the-type J′.the-plain 𝓤 H A, tt)) (ok, (s, tt)) (vbool ok ∷ [], (vs ∷ [], tt)) (refl, (gs, tt))) tt (id⊢ 𝓤 _)
       (λ r. r ≡ settingsOf ok s) (λ r ws. id⊢ 𝓤 _) ops (λ v r is e. k v (subst (λ (o : Settings). Is Y.the-row o (v ∷ [])) e is))
 
-  pub told-of-step : K → Site K W Γ C E #surface·told-of xs G after → (mem : Memory → SProp 𝓤) (run : Routine → Fun 𝓤) → Triple 𝓤 (C #surface·told-of) (ToldOf 𝓤 H A mem run)
+  pub told-of-step : K → Site K W Γ C E #surface-told·told-of xs G after → (mem : Memory → SProp 𝓤) (run : Routine → Fun 𝓤) → Triple 𝓤 (C #surface-told·told-of) (ToldOf 𝓤 H A mem run)
       → (told : ℤ) → Is i32 told (vint w32 (ofZ w32 told) ∷ [])
       → ((h : Item 𝓤) → Opds K W (h ∷ Γ) E xs (vint w32 (ofZ w32 told) ∷ []))
       → ((v : Val) → Is D.the-row (toldOf told) (v ∷ []) → Seq K W (i ∷ Γ) (after v))
@@ -122,7 +124,7 @@ module _ {M : Type 1} {𝓤 : URA M} {H : Heap 𝓤} {A : Atoms 𝓤} {K : Type 
       (owns-make 𝓤 H A (i32 ∷ []) (Ises (i32 ∷ [])) (sint-makes 𝓤 H A W w32, tt) (told, tt) (vint w32 (ofZ w32 told) ∷ [], tt) (gt, tt)) tt (id⊢ 𝓤 _)
       (λ r. r ≡ toldOf told) (λ r ws. id⊢ 𝓤 _) ops (λ v r is e. k v (subst (λ (o : Commitment). Is D.the-row o (v ∷ [])) e is))
 
-  pub kind-of-step : K → Site K W Γ C E #surface·kind-of xs G after → (mem : Memory → SProp 𝓤) (run : Routine → Fun 𝓤) → Triple 𝓤 (C #surface·kind-of) (KindOf 𝓤 H A mem run)
+  pub kind-of-step : K → Site K W Γ C E #surface-told·kind-of xs G after → (mem : Memory → SProp 𝓤) (run : Routine → Fun 𝓤) → Triple 𝓤 (C #surface-told·kind-of) (KindOf 𝓤 H A mem run)
       → (kind : ℕ) → kind < 2 ^ 32
       → ((h : Item 𝓤) → Opds K W (h ∷ Γ) E xs (vint w32 kind ∷ []))
       → ((v : Val) → Is Q.the-row (kindOf kind) (v ∷ []) → Seq K W (i ∷ Γ) (after v))
@@ -132,7 +134,7 @@ module _ {M : Type 1} {𝓤 : URA M} {H : Heap 𝓤} {A : Atoms 𝓤} {K : Type 
       (owns-make 𝓤 H A (u32 ∷ []) (Ises (u32 ∷ [])) (uint-makes 𝓤 H A W w32, tt) (kind, tt) (vint w32 kind ∷ [], tt) ((refl, fk), tt)) tt (id⊢ 𝓤 _)
       (λ r. r ≡ kindOf kind) (λ r ws. id⊢ 𝓤 _) ops (λ v r is e. k v (subst (λ (o : Kind). Is Q.the-row o (v ∷ [])) e is))
 
-  pub reply-of-step : K → Site K W Γ C E #surface·reply-of xs G after → (mem : Memory → SProp 𝓤) (run : Routine → Fun 𝓤) → Triple 𝓤 (C #surface·reply-of) (ReplyOf 𝓤 H A mem run)
+  pub reply-of-step : K → Site K W Γ C E #surface-reply·reply-of xs G after → (mem : Memory → SProp 𝓤) (run : Routine → Fun 𝓤) → Triple 𝓤 (C #surface-reply·reply-of) (ReplyOf 𝓤 H A mem run)
       → (ok : Bool) → (f : StateNumbers) (vf : Val) → Is N.the-row f (vf ∷ []) → (p : Reply) (vp : Val) → Is P.the-row p (vp ∷ [])
       → ((h : Item 𝓤) → Opds K W (h ∷ Γ) E xs (vbool ok ∷ vf ∷ vp ∷ []))
       → ((v : Val) → Is X.the-row (replyOf ok f p) (v ∷ []) → Seq K W (i ∷ Γ) (after v))

@@ -1,11 +1,11 @@
--- `surface::reply_of` meets its contract. Assumes nothing.
+-- `surface_reply::reply_of` meets its contract. Assumes nothing.
 use mathlib.Core.Path.{sym, ap, _∙_}
 use borrow.Author.Needs.{needs}
 use borrow.Author.Tests.{not-true, not-false}
 use Rattle.words.proofs.Tests.{when, unless}
-use Rattle.surface.specs.Numbers.{answerNumbers, replyOf}
-use Rattle.surface.proofs.reply_of.Statement.{statement}
-use Rattle.surface.proofs.reply_of.Tie as tie
+use Rattle.surface_reply.specs.Replies.{answerNumbers, replyOf}
+use Rattle.surface_reply.proofs.reply_of.Statement.{statement}
+use Rattle.surface_reply.proofs.reply_of.Tie as tie
 
 answer-numbers-requires : tie.Need-answer-numbers-requires
 answer-numbers-requires c κs = search needs

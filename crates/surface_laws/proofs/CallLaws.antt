@@ -15,9 +15,11 @@ use Rattle.layer.specs.World.{World, Outcome, worldOf, after, turnDown, Leaves}
 use Rattle.layer.specs.World as W
 use Rattle.layer.specs.Table.{soundTable, soundLent, sound}
 use Rattle.layer.specs.Step.{Call, step}
 use Rattle.surface.specs.declared.StateNumbers.{StateNumbers}
-use Rattle.surface.specs.declared.SettingsNumbers.{SettingsNumbers}
-use Rattle.surface.specs.Numbers.{stateOf, numbersOf, isState, settingsOf, answerNumbers, brokenNumbers, replyOf, Left, inNumbers, stepNumbers, LeavesNumbers}
+use Rattle.surface_told.specs.declared.SettingsNumbers.{SettingsNumbers}
+use Rattle.surface.specs.Numbers.{stateOf, numbersOf, isState}
+use Rattle.surface_told.specs.Told.{settingsOf}
+use Rattle.surface_reply.specs.Replies.{answerNumbers, brokenNumbers, replyOf, Left, inNumbers, stepNumbers, LeavesNumbers}
 
 third : (a b c : Bool) → (a && (b && (false && c))) ≡ false
 third true true c = refl

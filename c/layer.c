@@ -2,7 +2,7 @@
  * gives. It prints each step, and exits with 0 only if every answer, and what it left in the records, is as it
  * should be.
  *
- *     rt staticlib sirqobal
+ *     bash library.sh
  *     gcc -std=c11 -Wall -Wextra -Werror -Iinclude c/layer.c target/staticlib/libsirqobal.a -o layer && ./layer */
 #include "sirqobal.h"
 

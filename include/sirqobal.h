@@ -3,7 +3,7 @@
  * Each function takes every number, and every array of the length that is passed with it; it ends, and
  * does nothing undefined. Bad input is turned down by its number and changes nothing.
  *
- * Build the library by `rt staticlib sirqobal`; link target/staticlib/libsirqobal.a (x86-64 Linux). */
+ * Build the library by `bash library.sh`; link target/staticlib/libsirqobal.a (x86-64 Linux). */
 #ifndef SIRQOBAL_H
 #define SIRQOBAL_H
 

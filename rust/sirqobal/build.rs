@@ -1,5 +1,5 @@
-//! Links libsirqobal.a, by default the one that `rt staticlib sirqobal` leaves in the repository's
-//! target/staticlib; SIRQOBAL_LIB_DIR names another folder.
+//! Links libsirqobal.a, by default the one that library.sh leaves in the repository's target/staticlib;
+//! SIRQOBAL_LIB_DIR names another folder.
 
 use std::env;
 use std::path::PathBuf;
@@ -15,7 +15,7 @@ fn main() {
     println!("cargo::rerun-if-changed={}", library.display());
     if !library.is_file() {
         println!(
-            "cargo::error={} is missing: run `rt staticlib sirqobal` in the repository's root, \
+            "cargo::error={} is missing: run `bash library.sh` in the repository's root, \
              or name its folder, by an absolute path, in SIRQOBAL_LIB_DIR",
             library.display()
         );

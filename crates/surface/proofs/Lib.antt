@@ -1,3 +1,1 @@
 mod Cases
-pub mod NumberLaws
-pub mod CallLaws

@@ -27,8 +27,10 @@ use Rattle.layer.specs.Table.{at, soundTable, soundLent}
 use Rattle.layer.specs.Answering.{isFor, counted, commitArena, commitReply, answerPurge, answerOf}
 use Rattle.layer.specs.Step.{answer, step}
 use Rattle.sweeps.specs.Core.{nextOf, stayArena, isAsked}
-use Rattle.answers.specs.Core.{gated, committingId, committingStart, committingLength}
-use Rattle.answers.proofs.AnswerLaws.{for-commit, purge-stays, commit-room}
+use Rattle.question_kinds.specs.Gate.{gated}
+use Rattle.open_commit.specs.Asked.{committingId, committingStart, committingLength}
+use Rattle.open_commit.proofs.CommitLaws.{for-commit, commit-room}
+use Rattle.open_purge.proofs.PurgeLaws.{purge-stays}
 use Rattle.purge_due.proofs.CallLaws.{sweep-stamps}
 use Rattle.commit_answer.proofs.CommitLaws.{Room}
 use Rattle.purge_answer.specs.Part.{Purgeable, purgeLeft}

@@ -41,7 +41,8 @@ use Rattle.layer.proofs.Reply as P
 use Rattle.layer.proofs.Reply.Laws as P′
 use Rattle.layer.proofs.Kind as J
 use Rattle.layer.proofs.Kind.Laws as J′
-use Rattle.answers.specs.Core.{gated, committingId, committingStart, committingLength}
+use Rattle.question_kinds.specs.Gate.{gated}
+use Rattle.open_commit.specs.Asked.{committingId, committingStart, committingLength}
 use Rattle.commit_answer.proofs.CommitLaws.{Room}
 use Rattle.purge_answer.specs.Part.{Purgeable, purgeLeft}
 use Rattle.memory_answer.specs.Part.{Reservable, memoryLeft}

@@ -12,7 +12,8 @@ use Rattle.layer.specs.declared.Kind.the-variants.{ForCommit, ForPurge, ForMemo
 use Rattle.layer.specs.World.{Outcome, after, turnDown}
 use Rattle.layer.specs.Table.{at}
 use Rattle.layer.specs.Answering.{isFor, answerOf}
-use Rattle.answers.specs.Core.{givenBackReply, committingId, committingStart, committingLength}
+use Rattle.given_back.specs.GivenBack.{givenBackReply}
+use Rattle.open_commit.specs.Asked.{committingId, committingStart, committingLength}
 use Rattle.commit_answer.proofs.CommitLaws.{Room}
 use Rattle.purge_answer.specs.Part.{Purgeable}
 use Rattle.memory_answer.specs.Part.{Reservable}

@@ -6,7 +6,7 @@ ghost use Prim.Native.Nat.{_<_, _≤_};
 ghost use Rattle.layer.specs.declared.Kind.the-variants.{ForCommit, ForPurge, ForMemory};
 ghost use Rattle.layer.specs.World.{worldOf, Leaves};
 ghost use Rattle.layer.specs.Step.{answer, step};
-ghost use Rattle.answers.specs.Core.{gated};
+ghost use Rattle.question_kinds.specs.Gate.{gated};
 ghost use Rattle.answer.specs.Call.{goesFor, ownReply, Answerable, answerOn};
 use arena::Arena;
 use layer::Kind;
@@ -24,8 +24,8 @@ fn goes(ok: bool, state: State, kind: Kind, want: Kind) -> bool
     ensures { λ r. ⌜ r ≡ goesFor ok state kind want ⌝ }
 {
     let q = state.question;
-    if answers::is_for(q, want) {
-        return answers::passes(ok, state, kind);
+    if question_kinds::is_for(q, want) {
+        return question_kinds::passes(ok, state, kind);
     }
     false
 }
@@ -62,7 +62,7 @@ fn own_reply(state: State, kind: Kind, commit: Reply, purge: Reply, memory: Repl
         Kind::ForCommit => commit,
         Kind::ForPurge => purge,
         Kind::ForMemory => memory,
-        Kind::ForGiveBack => answers::give_back_core(state.count, state.mark, q),
+        Kind::ForGiveBack => given_back::give_back_core(state.count, state.mark, q),
         Kind::ForNone => commit,
     }
 }
@@ -78,7 +78,7 @@ fn reply_for(
     ensures { λ r. ⌜ r ≡ gated ok state kind (ownReply state kind commit purge memory) ⌝ }
 {
     let own = own_reply(state, kind, commit, purge, memory);
-    answers::gate(ok, state, kind, own)
+    question_kinds::gate(ok, state, kind, own)
 }
 
 // ---- the call

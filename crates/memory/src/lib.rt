@@ -123,13 +123,13 @@ fn block_reply(
     ensures { λ r. ⌜ r ≡ blockReply «chunk_size» count mark chunks bytes waiting base ⌝ }
 {
     if registers::bad_count(chunks) {
-        return answers::give_back_reply(count, mark, base, bytes, Unusable::Count, waiting);
+        return given_back::give_back_reply(count, mark, base, bytes, Unusable::Count, waiting);
     }
     if base % chunk_size != 0 {
-        return answers::give_back_reply(count, mark, base, bytes, Unusable::Misaligned, waiting);
+        return given_back::give_back_reply(count, mark, base, bytes, Unusable::Misaligned, waiting);
     }
     if 32 <= count {
-        return answers::give_back_reply(count, mark, base, bytes, Unusable::Full, waiting);
+        return given_back::give_back_reply(count, mark, base, bytes, Unusable::Full, waiting);
     }
     registered_reply(count, mark, waiting)
 }
@@ -179,7 +179,7 @@ fn memory_reply(
     ensures { λ r. ⌜ r ≡ memoryReply «chunk_size» count mark chunks bytes commit exclusive waiting granted base met ⌝ }
 {
     if !granted {
-        return answers::fail_reply(count, mark, Refusal::MemoryRefused, waiting);
+        return given_back::fail_reply(count, mark, Refusal::MemoryRefused, waiting);
     }
     if memory_range_bad(chunks, base, met, chunk_size) {
         return range_reply(count, mark, chunks, bytes, commit, exclusive, waiting);

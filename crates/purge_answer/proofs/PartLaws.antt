@@ -26,8 +26,8 @@ use Rattle.layer.proofs.Tools.{by-set}
 use Rattle.layer.proofs.Kept.{borrow-range, rearm-range}
 use Rattle.sweeps.specs.declared.Stay.{Stay}
 use Rattle.sweeps.specs.Core.{stayArena, stayReply, isAsked}
-use Rattle.answers.specs.Core.{purgingId, purgingChunk, purgingSweep}
-use Rattle.answers.proofs.AnswerLaws.{return-range, for-purge, stayed, purge-stays, purge-room}
+use Rattle.open_purge.specs.Asked.{purgingId, purgingChunk, purgingSweep}
+use Rattle.open_purge.proofs.PurgeLaws.{return-range, for-purge, stayed, purge-stays, purge-room}
 use Rattle.sweeping.specs.Going.{Ranged, nextPlace}
 use Rattle.sweeping.proofs.GoingLaws.{ended}
 use Rattle.sweeping.proofs.LentLaws.{sound-sweepable}

@@ -38,7 +38,7 @@ use Rattle.layer.specs.declared.Sweep.{Sweep}
 use Rattle.layer.specs.declared.State.{State}
 use Rattle.layer.specs.declared.Reply.{Reply}
 use Rattle.sweeps.specs.declared.Stay.{Stay}
-use Rattle.answers.specs.Core.{purgingId, purgingChunk, purgingSweep}
+use Rattle.open_purge.specs.Asked.{purgingId, purgingChunk, purgingSweep}
 use Rattle.sweeping.specs.Going.{nextPlace}
 use Rattle.purge_answer.specs.Part.{Fit, Stays, placeOf, countOf, sweepFor}
 use Rattle.records.proofs.Walk.{Loan, sliceOf, lent}

@@ -3,7 +3,7 @@ ghost use mathlib.Core.Path.{_≡_};
 ghost use mathlib.Core.Bool.{true, false, cond};
 ghost use Prim.Native.Nat.{_<_, _≤_};
 ghost use Rattle.layer.specs.World.{replyOf};
-ghost use Rattle.answers.specs.Core.{purgingId, purgingChunk, purgingSweep};
+ghost use Rattle.open_purge.specs.Asked.{purgingId, purgingChunk, purgingSweep};
 ghost use Rattle.sweeping.specs.Going.{nextPlace};
 ghost use Rattle.purge_answer.specs.Part.{Fit, Purgeable, Stays, placeOf, countOf, sweepFor, purgeLeft};
 use arena::Arena;
@@ -17,7 +17,7 @@ fn place_of(go: bool, state: State) -> usize
     ensures { λ r. ⌜ r ≡ placeOf go state ⌝ }
 {
     let q = state.question;
-    let p = answers::purging(q);
+    let p = open_purge::purging(q);
     if go {
         return p.id;
     }
@@ -40,9 +40,9 @@ fn sweep_for(go: bool, state: State, granted: bool) -> Sweep
     ensures { λ r. ⌜ r ≡ sweepFor go state granted ⌝ }
 {
     let q = state.question;
-    let p = answers::purging(q);
+    let p = open_purge::purging(q);
     if go {
-        return answers::counted_sweep(p.sweep, granted);
+        return open_purge::counted_sweep(p.sweep, granted);
     }
     p.sweep
 }
@@ -60,9 +60,9 @@ fn purge_at(
     ensures { λ r. ⌜ (go ≡ true → Stays «chunk_size» (now (stamps .entry)) (state .count) (state .mark) granted a r (purgingId (state .question)) (purgingChunk (state .question)) (purgingSweep (state .question))) × (go ≡ false → r .asked ≡ true) ⌝ }
 {
     let q = state.question;
-    let p = answers::purging(q);
+    let p = open_purge::purging(q);
     if go {
-        return answers::purge_core(
+        return open_purge::purge_core(
             a,
             stamps,
             p.id,

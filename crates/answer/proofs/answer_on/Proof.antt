@@ -44,7 +44,7 @@ use Rattle.layer.proofs.Reply as P
 use Rattle.layer.proofs.Reply.Laws as P′
 use Rattle.layer.proofs.Kind as J
 use Rattle.layer.proofs.Kind.Laws as J′
-use Rattle.answers.specs.Core.{gated}
+use Rattle.question_kinds.specs.Gate.{gated}
 use Rattle.answer.specs.Call.{goesFor, ownReply, Answerable, answerOn}
 use Rattle.records.proofs.Walk.{Loan, Known, lent, sliceOf}
 use Rattle.records.proofs.Locals.{enters, used}

@@ -1,6 +1,6 @@
 -- `answer::reply_for` meets its contract. Assumes nothing.
 use mathlib.Core.Path.{ap, _∙_}
-use Rattle.answers.specs.Core.{gated}
+use Rattle.question_kinds.specs.Gate.{gated}
 use borrow.Author.Needs.{needs}
 use Rattle.answer.proofs.reply_for.Statement.{statement}
 use Rattle.answer.proofs.reply_for.Tie as tie

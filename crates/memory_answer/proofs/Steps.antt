@@ -51,7 +51,7 @@ use Rattle.claims.specs.Core.{searchArena, searchReply}
 use Rattle.claims.proofs.Served as D
 use Rattle.claims.proofs.Served.Laws as D′
 use Rattle.memory.specs.declared.Memory.{Memory as Made}
-use Rattle.memory.specs.Core.{memoryBytes}
+use Rattle.memory_given.specs.Given.{memoryBytes}
 use Rattle.memory.proofs.Memory as X
 use Rattle.memory.proofs.Memory.Laws as X′
 use Rattle.writing.specs.declared.Writing.{Writing}

@@ -23,7 +23,9 @@ use Rattle.judge.specs.Scan.{scanOf}
 use Rattle.claims.specs.Core.{searchArena, searchReply}
 use Rattle.registers.specs.Core.{storedAt}
 use Rattle.memory.specs.declared.Memory.{Memory}
-use Rattle.memory.specs.Core.{memoryBytes, memoryCount, memoryRegisters, memoryReply, memoryId, waitingN, waitingCommits, searchCount}
+use Rattle.memory_given.specs.Given.{memoryBytes, memoryCount, memoryRegisters}
+use Rattle.memory_replies.specs.Replies.{memoryReply}
+use Rattle.memory.specs.Core.{memoryId, waitingN, waitingCommits, searchCount}
 use Rattle.writing.specs.declared.Writing.{Writing}
 use Rattle.memory_answer.specs.declared.Reserved.{Reserved}
 

@@ -11,7 +11,7 @@ ghost use Rattle.judge.specs.declared.Query.the-variants.{Meets, Serves};
 ghost use Rattle.layer.specs.World.{replyOf};
 ghost use Rattle.layer.specs.Table.{at};
 ghost use Rattle.claims.specs.Core.{searchArena, searchReply};
-ghost use Rattle.memory.specs.Core.{memoryBytes};
+ghost use Rattle.memory_given.specs.Given.{memoryBytes};
 ghost use Rattle.memory_answer.specs.Part.{noneReserved, reservingOf, scanCount, metOf, Decides, writingOf, againReply, againRecords, Reservable, memoryLeft};
 use arena::Arena;
 use claims::Served;
@@ -77,7 +77,7 @@ fn scan_count(go: bool, state: State, granted: bool) -> usize
     ensures { λ r. ⌜ r ≡ scanCount go state granted ⌝ }
 {
     if go {
-        return memory::memory_count(state.count, granted);
+        return memory_given::memory_count(state.count, granted);
     }
     0
 }
@@ -89,7 +89,7 @@ fn range_query(state: State, base: u64, chunk_size: u64) -> Query
 {
     let q = state.question;
     let v = reserving(q);
-    let bytes = memory::memory_bytes(v.chunks, chunk_size);
+    let bytes = memory_given::memory_bytes(v.chunks, chunk_size);
     Query::Meets { base, bytes }
 }
 

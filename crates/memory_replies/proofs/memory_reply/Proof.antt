@@ -1,11 +1,11 @@
--- `memory::memory_reply` meets its contract. Assumes nothing.
+-- `memory_replies::memory_reply` meets its contract. Assumes nothing.
 use mathlib.Core.Path.{sym, _∙_}
 use borrow.Author.Tests.{not-true, not-false}
 use Rattle.words.proofs.Tests.{when, unless}
-use Rattle.memory.specs.Core.{memoryReply}
+use Rattle.memory_replies.specs.Replies.{memoryReply}
 use borrow.Author.Needs.{needs}
-use Rattle.memory.proofs.memory_reply.Statement.{statement}
-use Rattle.memory.proofs.memory_reply.Tie as tie
+use Rattle.memory_replies.proofs.memory_reply.Statement.{statement}
+use Rattle.memory_replies.proofs.memory_reply.Tie as tie
 
 fail-reply-requires : tie.Need-fail-reply-requires
 fail-reply-requires c κs = search needs

@@ -1,14 +1,14 @@
--- `memory::registered_reply` meets its contract. Assumes nothing.
+-- `memory_replies::registered_reply` meets its contract. Assumes nothing.
 use mathlib.Core.Path.{sym, ap, _∙_}
 use native.Mathlib.Numerals.{add-one}
 use Prim.Native.Nat.{ℕ}
 use Rattle.refusals.specs.declared.Refusal.the-variants.{NoRun}
 use Rattle.layer.specs.declared.Answer.the-variants.{Registered}
 use Rattle.layer.specs.World.{turnDown, reply, calm}
-use Rattle.memory.specs.Core.{registeredReply}
+use Rattle.memory_replies.specs.Replies.{registeredReply}
 use borrow.Author.Needs.{needs}
-use Rattle.memory.proofs.registered_reply.Statement.{statement}
-use Rattle.memory.proofs.registered_reply.Tie as tie
+use Rattle.memory_replies.proofs.registered_reply.Statement.{statement}
+use Rattle.memory_replies.proofs.registered_reply.Tie as tie
 
 add-calm : tie.Need-add-calm
 add-calm c = search needs

@@ -35,8 +35,10 @@ use Rattle.registers.proofs.DecisionLaws.{either, range-zero, range-long}
 use Rattle.registers.proofs.WriteLaws.{records-below, stamps-below}
 use Rattle.claims.specs.Core.{runReply, runArena, searchReply, searchArena}
 use Rattle.claims.proofs.ClaimLaws.{set-same}
-use Rattle.memory.specs.Core.{memoryBytes, memoryCount, memoryRegisters, registeredReply, blockReply, memoryReply, memoryId, waitingCount, waitingN, waitingCommits, searchCount}
-use Rattle.memory.proofs.DecisionLaws.{bytes-short, registers-facts, registers-room, registers-no, registers-bad, registers-count, registers-part, registers-whole}
+use Rattle.memory_given.specs.Given.{memoryBytes, memoryCount, memoryRegisters}
+use Rattle.memory_replies.specs.Replies.{registeredReply, blockReply, memoryReply}
+use Rattle.memory.specs.Core.{memoryId, waitingCount, waitingN, waitingCommits, searchCount}
+use Rattle.memory_given.proofs.DecisionLaws.{bytes-short, registers-facts, registers-room, registers-no, registers-bad, registers-count, registers-part, registers-whole}
 
 -- ---- the scan for overlaps
 
@@ -222,23 +224,14 @@ module _ (S : ℕ) (l : List Arena) (stamps : List ℕ) (k : ℕ) (mark : Bool) 
   unfolding memoryCount
   decides y = ap (λ (n : ℕ). rangeBad base (chunks * S) (least (λ i. meets S (at l i) base (memoryBytes S chunks)) 0 n)) (when _ _ _ y) ∙ met-bad S l k chunks base
 
-  -- the layer's answer, by the state that the search sees: one more arena, the mark, no question
+  -- the layer's answer, by the state of memory_core's reply
   pub memory-answer :
-      let missed = memoryReply S k mark chunks bytes commit exclusive waiting granted base memoryMet in
-      let a = at memoryRecords (storedAt memoryFound) in
-      answerMemory S l stamps k mark chunks bytes commit exclusive waiting granted base
-      ≡ after (searchReply S (calm (suc k) mark) a (waitingN waiting) (waitingCommits waiting) missed memoryFound)
-      (set memoryRecords (storedAt memoryFound) (searchArena a (waitingN waiting) (waitingCommits waiting) memoryFound)) memoryStamps
-  memory-answer = answered S l stamps k mark chunks bytes commit exclusive waiting granted base memoryMet (calm (suc k) mark) decides (λ e n commits w. refl)
-
-  -- the same by the state of memory_core's reply
-  pub memory-answer-by :
       let missed = memoryReply S k mark chunks bytes commit exclusive waiting granted base memoryMet in
       let a = at memoryRecords (storedAt memoryFound) in
       answerMemory S l stamps k mark chunks bytes commit exclusive waiting granted base
       ≡ after (searchReply S (missed .state) a (waitingN waiting) (waitingCommits waiting) missed memoryFound)
       (set memoryRecords (storedAt memoryFound) (searchArena a (waitingN waiting) (waitingCommits waiting) memoryFound)) memoryStamps
-  memory-answer-by =
+  memory-answer =
       answered S l stamps k mark chunks bytes commit exclusive waiting granted base memoryMet
       (memoryReply S k mark chunks bytes commit exclusive waiting granted base memoryMet .state) decides
       (registered-state S l stamps k mark chunks bytes commit exclusive waiting granted base memoryMet)

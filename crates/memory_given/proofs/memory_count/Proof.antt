@@ -1,9 +1,9 @@
--- `memory::memory_count` meets its contract. Assumes nothing.
+-- `memory_given::memory_count` meets its contract. Assumes nothing.
 use mathlib.Core.Path.{sym}
 use Rattle.words.proofs.Tests.{when, unless}
-use Rattle.memory.specs.Core.{memoryCount}
-use Rattle.memory.proofs.memory_count.Statement.{statement}
-use Rattle.memory.proofs.memory_count.Tie as tie
+use Rattle.memory_given.specs.Given.{memoryCount}
+use Rattle.memory_given.proofs.memory_count.Statement.{statement}
+use Rattle.memory_given.proofs.memory_count.Tie as tie
 
 returns : tie.Need-returns
 unfolding memoryCount

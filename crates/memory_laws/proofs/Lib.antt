@@ -1,3 +1,2 @@
-pub mod DecisionLaws
 pub mod MemoryLaws
 pub mod FoundLaws

@@ -1,11 +1,11 @@
--- `memory::memory_range_bad` meets its contract. Assumes nothing.
+-- `memory_given::memory_range_bad` meets its contract. Assumes nothing.
 use mathlib.Core.Path.{ap, _∙_}
 use Prim.Native.Nat.{ℕ}
 use Rattle.registers.specs.Core.{rangeBad}
-use Rattle.memory.proofs.DecisionLaws.{bytes-bad}
+use Rattle.memory_given.proofs.DecisionLaws.{bytes-bad}
 use borrow.Author.Needs.{needs}
-use Rattle.memory.proofs.memory_range_bad.Statement.{statement}
-use Rattle.memory.proofs.memory_range_bad.Tie as tie
+use Rattle.memory_given.proofs.memory_range_bad.Statement.{statement}
+use Rattle.memory_given.proofs.memory_range_bad.Tie as tie
 
 memory-bytes-requires : tie.Need-memory-bytes-requires
 memory-bytes-requires c κs = search needs

@@ -1,9 +1,9 @@
--- `memory::memory_bytes` meets its contract. Assumes nothing.
+-- `memory_given::memory_bytes` meets its contract. Assumes nothing.
 use native.Mathlib.Omega.{arith}
-use Rattle.memory.proofs.DecisionLaws.{bytes-long, bytes-fit, bytes-short}
+use Rattle.memory_given.proofs.DecisionLaws.{bytes-long, bytes-fit, bytes-short}
 use borrow.Author.Needs.{needs}
-use Rattle.memory.proofs.memory_bytes.Statement.{statement}
-use Rattle.memory.proofs.memory_bytes.Tie as tie
+use Rattle.memory_given.proofs.memory_bytes.Statement.{statement}
+use Rattle.memory_given.proofs.memory_bytes.Tie as tie
 
 div-if1 : tie.Need-div-if1
 div-if1 c = search needs

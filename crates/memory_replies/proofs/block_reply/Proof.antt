@@ -1,11 +1,11 @@
--- `memory::block_reply` meets its contract. Assumes nothing.
+-- `memory_replies::block_reply` meets its contract. Assumes nothing.
 use mathlib.Core.Path.{sym, _∙_}
 use borrow.Author.Tests.{le-leb, lt-leb, eq-eqb, ne-eqb}
 use Rattle.words.proofs.Tests.{when, unless}
-use Rattle.memory.specs.Core.{blockReply}
+use Rattle.memory_replies.specs.Replies.{blockReply}
 use borrow.Author.Needs.{needs}
-use Rattle.memory.proofs.block_reply.Statement.{statement}
-use Rattle.memory.proofs.block_reply.Tie as tie
+use Rattle.memory_replies.proofs.block_reply.Statement.{statement}
+use Rattle.memory_replies.proofs.block_reply.Tie as tie
 
 bad-count-requires : tie.Need-bad-count-requires
 bad-count-requires c κs = search needs

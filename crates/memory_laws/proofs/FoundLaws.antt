@@ -1,6 +1,6 @@
 -- What the search behind a registering asks of the table: the record that is written is sound, so the scan of the table finds who serves, and what it
 -- finds is sound. Assumes nothing.
-use mathlib.Core.Path.{_≡_, sym, ap, _∙_, subst}
+use mathlib.Core.Path.{_≡_, ap, _∙_}
 use mathlib.Core.Bool.{Bool, true, false}
 use mathlib.Core.List.{List}
 use Prim.Native.Nat.{ℕ, suc, _+_, _*_, _%_, _^_, _≤_, _<_}
@@ -14,9 +14,8 @@ use lib.ListN.{length, set}
 use lib.Seq.{getD-set-same, getD-set-other}
 use Rattle.words.proofs.Tests.{when, unless}
 use Rattle.runs.specs.declared.Found.{Found}
-use Rattle.runs.specs.declared.Found.the-variants.{At}
 use Rattle.runs.specs.Lowest.{all, least}
-use Rattle.runs.proofs.LowestLaws.{all-free-of, free-all, First, first-says}
+use Rattle.runs.proofs.LowestLaws.{all-free-of, free-all}
 use Rattle.arena.specs.declared.Arena.{Arena}
 use Rattle.arena.specs.Registering.{reservedArena}
 use Rattle.lookup.specs.Soundness.{soundArena}
@@ -28,12 +27,13 @@ use Rattle.layer.specs.World.{blank}
 use Rattle.layer.specs.Table.{at}
 use Rattle.layer.specs.Registering.{badCount}
 use Rattle.layer.specs.Claiming.{serves}
-use Rattle.registers.specs.Core.{rangeBad, recordsWith, storedAt}
+use Rattle.registers.specs.Core.{rangeBad, recordsWith}
 use Rattle.registers.proofs.DecisionLaws.{either, neither, few}
-use Rattle.registers.proofs.WriteLaws.{records-none, records-set}
-use Rattle.claims.proofs.ClaimLaws.{hits, serving, set-past}
-use Rattle.memory.specs.Core.{memoryRegisters, memoryId, waitingCount, waitingN, searchCount}
-use Rattle.memory.proofs.DecisionLaws.{Registers, registers-facts, registers-room}
+use Rattle.registers.proofs.WriteLaws.{records-set}
+use Rattle.claims.proofs.ClaimLaws.{hits, serving}
+use Rattle.memory_given.specs.Given.{memoryRegisters}
+use Rattle.memory.specs.Core.{memoryId, waitingCount, waitingN, searchCount}
+use Rattle.memory_given.proofs.DecisionLaws.{Registers, registers-facts, registers-room}
 
 -- ---- the record that is registered
 
@@ -66,15 +66,6 @@ waiting-most k Reserve = omega arith
 waiting-most k (Claim n commits) = le-refl k
 
 module _ (S : ℕ) (l : List Arena) (k chunks : ℕ) (commit exclusive : Bool) (waiting : Waiting) (granted : Bool) (base : ℕ) (met : Found) where
-  -- a store of memory_core's record at its id, which writes nothing at 32
-  pub memory-written : (a : Arena) → length l ≤ 32 → (memoryRegisters S k chunks granted base met ≡ true → a ≡ reservedArena base chunks commit exclusive)
-      → set l (memoryId S k chunks granted base met) a ≡ recordsWith l (memoryId S k chunks granted base met) (reservedArena base chunks commit exclusive)
-  unfolding memoryId
-  memory-written a h w =
-      either (memoryRegisters S k chunks granted base met)
-      (λ e. ap (set l (memoryId S k chunks granted base met)) (w e) ∙ sym (records-set l (memoryId S k chunks granted base met) _ h))
-      (λ e. ap (λ (i : ℕ). set l i a) (unless _ _ _ e) ∙ set-past l a h ∙ sym (records-none l (memoryId S k chunks granted base met) _ (unless _ _ _ e)))
-
   abbrev written : List Arena
   written = recordsWith l (memoryId S k chunks granted base met) (reservedArena base chunks commit exclusive)
 
@@ -116,13 +107,3 @@ module _ (S : ℕ) (l : List Arena) (k chunks : ℕ) (commit exclusive : Bool) (
     -- the scan of the table finds who serves
     pub memory-hits : least (λ i. hits (negsuc 0) (waitingN waiting) written i) 0 looked ≡ least (serves (negsuc 0) (waitingN waiting) written) 0 looked
     memory-hits = serving S (negsuc 0) (waitingN waiting) written looked memory-sound
-
-    -- what `search_end` asks of the record that was found
-    pub memory-found-sound :
-        let f = least (serves (negsuc 0) (waitingN waiting) written) 0 looked in
-        (x : ℕ) → f ≡ At x → soundArena S (at written (storedAt f)) ≡ true
-    memory-found-sound x e =
-        let h : First (serves (negsuc 0) (waitingN waiting) written) 0 looked (At x)
-        = subst (First (serves (negsuc 0) (waitingN waiting) written) 0 looked) e (first-says (serves (negsuc 0) (waitingN waiting) written) 0 looked) in
-        ap (λ (f : Found). soundArena S (at written (storedAt f))) e
-        ∙ all-free-of (λ i. soundArena S (at written i)) 0 looked memory-sound x (omega arith) (h .1)

@@ -1,10 +1,10 @@
--- `memory::memory_registers` meets its contract. Assumes nothing.
+-- `memory_given::memory_registers` meets its contract. Assumes nothing.
 use mathlib.Core.Path.{sym, _∙_}
 use borrow.Author.Tests.{not-true, not-false, eq-eqb, ne-eqb}
-use Rattle.memory.proofs.DecisionLaws.{registers-no, registers-bad, registers-count, registers-part, registers-whole}
+use Rattle.memory_given.proofs.DecisionLaws.{registers-no, registers-bad, registers-count, registers-part, registers-whole}
 use borrow.Author.Needs.{needs}
-use Rattle.memory.proofs.memory_registers.Statement.{statement}
-use Rattle.memory.proofs.memory_registers.Tie as tie
+use Rattle.memory_given.proofs.memory_registers.Statement.{statement}
+use Rattle.memory_given.proofs.memory_registers.Tie as tie
 
 returns : tie.Need-returns
 returns c = let a = c .before .args in registers-no (a .chunk-size) (a .count) (a .chunks) (a .granted) (a .base) (a .met) (not-true (a .granted) (c .if1 .taken))

@@ -13,7 +13,7 @@ use Rattle.runs.proofs.SearchLaws.{and-both}
 use Rattle.layer.specs.Registering.{badCount}
 use Rattle.registers.specs.Core.{rangeBad}
 use Rattle.registers.proofs.DecisionLaws.{few, either, range-zero, range-long}
-use Rattle.memory.specs.Core.{memoryBytes, memoryRegisters}
+use Rattle.memory_given.specs.Given.{memoryBytes, memoryRegisters}
 
 -- ---- the bytes
 

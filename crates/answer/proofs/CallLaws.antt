@@ -36,7 +36,8 @@ use Rattle.commit_answer.proofs.CommitLaws.{Room}
 use Rattle.purge_answer.specs.Part.{Purgeable, purgeLeft}
 use Rattle.purge_answer.proofs.PartLaws.{sound-purgeable}
 use Rattle.memory_answer.specs.Part.{Reservable, memoryLeft}
-use Rattle.answer.specs.Call.{goesFor, ownReply, Answerable, answerOn}
+use Rattle.answer_parts.specs.Parts.{goesFor, ownReply}
+use Rattle.answer.specs.Call.{Answerable, answerOn}
 
 -- ---- what row 1 says of the table
 

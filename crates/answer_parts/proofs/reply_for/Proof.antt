@@ -1,9 +1,9 @@
--- `answer::reply_for` meets its contract. Assumes nothing.
+-- `answer_parts::reply_for` meets its contract. Assumes nothing.
 use mathlib.Core.Path.{ap, _∙_}
 use Rattle.question_kinds.specs.Gate.{gated}
 use borrow.Author.Needs.{needs}
-use Rattle.answer.proofs.reply_for.Statement.{statement}
-use Rattle.answer.proofs.reply_for.Tie as tie
+use Rattle.answer_parts.proofs.reply_for.Statement.{statement}
+use Rattle.answer_parts.proofs.reply_for.Tie as tie
 
 own-reply-requires : tie.Need-own-reply-requires
 own-reply-requires c κs = search needs

@@ -1,10 +1,10 @@
--- `answer::goes` meets its contract. Assumes nothing.
+-- `answer_parts::goes` meets its contract. Assumes nothing.
 use mathlib.Core.Path.{sym, ap, _∙_}
 use mathlib.Core.Bool.{Bool, _&&_}
 use Rattle.layer.specs.Answering.{isFor}
 use borrow.Author.Needs.{needs}
-use Rattle.answer.proofs.goes.Statement.{statement}
-use Rattle.answer.proofs.goes.Tie as tie
+use Rattle.answer_parts.proofs.goes.Statement.{statement}
+use Rattle.answer_parts.proofs.goes.Tie as tie
 
 is-for-requires : tie.Need-is-for-requires
 is-for-requires c κs = search needs

@@ -1,10 +1,10 @@
--- `answer::own_reply` meets its contract. Assumes nothing.
+-- `answer_parts::own_reply` meets its contract. Assumes nothing.
 use mathlib.Core.Path.{sym, ap, _∙_}
 use Rattle.layer.specs.declared.Kind.{Kind}
-use Rattle.answer.specs.Call.{ownReply}
+use Rattle.answer_parts.specs.Parts.{ownReply}
 use borrow.Author.Needs.{needs}
-use Rattle.answer.proofs.own_reply.Statement.{statement}
-use Rattle.answer.proofs.own_reply.Tie as tie
+use Rattle.answer_parts.proofs.own_reply.Statement.{statement}
+use Rattle.answer_parts.proofs.own_reply.Tie as tie
 
 enum-told : tie.Need-enum-told
 enum-told c = search needs

@@ -31,7 +31,8 @@ use Rattle.open_purge.proofs.PurgeLaws.{return-range, for-purge, stayed, purge-
 use Rattle.sweeping.specs.Going.{Ranged, nextPlace}
 use Rattle.sweeping.proofs.GoingLaws.{ended}
 use Rattle.sweeping.proofs.LentLaws.{sound-sweepable}
-use Rattle.purge_answer.specs.Part.{Fit, Purgeable, found, Stays, placeOf, countOf, sweepFor, purgeLeft}
+use Rattle.purge_answer.specs.Part.{Fit, Purgeable, found, Stays, sweepFor, purgeLeft}
+use Rattle.purge_places.specs.Places.{placeOf, countOf}
 
 -- ---- ranges
 

@@ -40,14 +40,6 @@ Stays S stamps k mark granted a r i j w =
     × (r .asked ≡ isAsked (found stamps granted a i j w))
     × (r .reply ≡ stayReply S k mark (counted w granted) i (returnChunk a j granted (w .decommit)) (found stamps granted a i j w))
 
--- the record's place: past every slice where there is nothing to do
-abbrev pub placeOf : Bool → State → ℕ
-placeOf go s = cond go (purgingId (s .question)) 18446744073709551615
-
--- how many arenas the sweep goes on over
-abbrev pub countOf : Bool → State → ℕ
-countOf go s = cond go (s .count) 0
-
 -- the sweep with its answer counted
 abbrev pub sweepFor : Bool → State → Bool → Sweep
 sweepFor go s granted = cond go (counted (purgingSweep (s .question)) granted) (purgingSweep (s .question))

@@ -1,10 +1,10 @@
--- `purge_due::sweep_count` meets its contract. Assumes nothing.
+-- `sweep_start::sweep_count` meets its contract. Assumes nothing.
 use mathlib.Core.Path.{sym, _∙_}
 use borrow.Author.Needs.{needs}
 use borrow.Author.Tests.{not-true, not-false}
 use Rattle.words.proofs.Tests.{when, unless}
-use Rattle.purge_due.proofs.sweep_count.Statement.{statement}
-use Rattle.purge_due.proofs.sweep_count.Tie as tie
+use Rattle.sweep_start.proofs.sweep_count.Statement.{statement}
+use Rattle.sweep_start.proofs.sweep_count.Tie as tie
 
 returns : tie.Need-returns
 returns c = let a = c .before .args in sym (unless (a .ok) _ _ (not-true (a .ok) (c .if1 .taken)))

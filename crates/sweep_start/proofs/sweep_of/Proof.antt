@@ -1,4 +1,4 @@
--- `purge_due::sweep_of` meets its contract. Assumes nothing.
+-- `sweep_start::sweep_of` meets its contract. Assumes nothing.
 use mathlib.Core.Path.{ap, ap₂, _∙_}
 use Prim.Native.Nat.{ℕ}
 use mathlib.Core.Bool.{Bool}
@@ -8,8 +8,8 @@ use mir.Syntax.{w64}
 use mir.Val.{SFits}
 use Rattle.clock.specs.Clock.{delayMs}
 use Rattle.layer.specs.declared.Sweep.{Sweep}
-use Rattle.purge_due.proofs.sweep_of.Statement.{statement}
-use Rattle.purge_due.proofs.sweep_of.Tie as tie
+use Rattle.sweep_start.proofs.sweep_of.Statement.{statement}
+use Rattle.sweep_start.proofs.sweep_of.Tie as tie
 
 now-ms-requires : tie.Need-now-ms-requires
 now-ms-requires c κs = search needs

@@ -1,9 +1,9 @@
--- `purge_answer::rest_from` meets its contract. Assumes nothing.
+-- `purge_places::rest_from` meets its contract. Assumes nothing.
 use mathlib.Core.Path.{sym}
 use native.Mathlib.Omega.{arith}
 use Rattle.words.proofs.Tests.{when, unless}
-use Rattle.purge_answer.proofs.rest_from.Statement.{statement}
-use Rattle.purge_answer.proofs.rest_from.Tie as tie
+use Rattle.purge_places.proofs.rest_from.Statement.{statement}
+use Rattle.purge_places.proofs.rest_from.Tie as tie
 
 returns : tie.Need-returns
 returns c = sym (when _ _ _ (c .if1 .taken))

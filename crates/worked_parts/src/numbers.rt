@@ -1,7 +1,7 @@
 // Answers as the numbers that are shown.
 ghost use mathlib.Core.Path.{_≡_};
 ghost use Rattle.slice_pool.specs.Pool.{allocNumber, freeNumber};
-ghost use Rattle.worked.specs.Numbers.{startOf, addressOf};
+ghost use Rattle.worked_parts.specs.Numbers.{startOf, addressOf};
 use runs::Found;
 use slice_pool::Allocated;
 use slice_pool::Freed;

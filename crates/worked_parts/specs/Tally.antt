@@ -1,7 +1,7 @@
 -- The cases that were run, counted. Assumes nothing.
 use mathlib.Core.Bool.{Bool, cond}
 use Prim.Native.Nat.{ℕ, _+_, min}
-use Rattle.worked.specs.declared.tally.Tally.{Tally}
+use Rattle.worked_parts.specs.declared.tally.Tally.{Tally}
 
 abbrev pub none : Tally
 none = record { cases = 0; differ = 0 }

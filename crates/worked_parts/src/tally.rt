@@ -1,6 +1,6 @@
 // The cases that were run, counted.
 ghost use mathlib.Core.Path.{_≡_};
-ghost use Rattle.worked.specs.Tally.{none, oneMore, counted};
+ghost use Rattle.worked_parts.specs.Tally.{none, oneMore, counted};
 
 // How many cases were run, and in how many the two answers differ.
 pub struct Tally {

@@ -1,4 +1,4 @@
--- `worked::picture::draw` meets its contract: each character passed is a mark. The measure is what is left of them. Assumes nothing.
+-- `worked_parts::picture::draw` meets its contract: each character passed is a mark. The measure is what is left of them. Assumes nothing.
 use borrow.Author.Needs.{needs}
 use borrow.Author.Count.{below-more}
 use mathlib.Core.Path.{_≡_, refl, ap, _∙_, sym}
@@ -6,9 +6,9 @@ use Prim.Native.Nat.{ℕ, _≤_, _<_, _-_}
 use native.Mathlib.Omega.{arith}
 use lib.ListN.{length, length-set}
 use lib.Seq.{getD-set-same, getD-set-other}
-use Rattle.worked.specs.Picture.{markOf, Shows}
-use Rattle.worked.proofs.picture.draw.Statement.{statement}
-use Rattle.worked.proofs.picture.draw.Tie as tie
+use Rattle.worked_parts.specs.Picture.{markOf, Shows}
+use Rattle.worked_parts.proofs.picture.draw.Statement.{statement}
+use Rattle.worked_parts.proofs.picture.draw.Tie as tie
 
 abbrev Inv-loop : tie.InvT-loop
 Inv-loop pool text₀ j₀ text j = (j ≤ 128) × (128 ≡ length text) × Shows pool j text

@@ -2,7 +2,7 @@
 ghost use mathlib.Core.Path.{_≡_};
 ghost use Prim.Native.Nat.{_≤_};
 ghost use lib.ListN.{length};
-ghost use Rattle.worked.specs.Picture.{markOf, Shows};
+ghost use Rattle.worked_parts.specs.Picture.{markOf, Shows};
 
 // The character of slice j.
 fn mark(pool: &[u32], j: usize) -> u8

@@ -2,8 +2,8 @@
 use mathlib.Core.Path.{_≡_, refl, sym, ap, ap₂, _∙_}
 use mathlib.Core.Bool.{Bool, true, false, true≢false}
 use Prim.Native.Nat.{ℕ}
-use Rattle.worked.specs.declared.tally.Tally.{Tally}
-use Rattle.worked.specs.Tally.{oneMore, counted}
+use Rattle.worked_parts.specs.declared.tally.Tally.{Tally}
+use Rattle.worked_parts.specs.Tally.{oneMore, counted}
 
 pub count-same : (t : Tally) (same : Bool) (n : ℕ) → same ≡ true → n ≡ oneMore (t .cases) → _≡_ {A = Tally} (record { cases = n; differ = t .differ }) (counted t same)
 unfolding counted

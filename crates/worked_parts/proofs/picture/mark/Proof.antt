@@ -1,12 +1,12 @@
--- `worked::picture::mark` meets its contract: the test is the definition of a place's bit. Assumes nothing.
+-- `worked_parts::picture::mark` meets its contract: the test is the definition of a place's bit. Assumes nothing.
 use borrow.Author.Needs.{needs}
 use borrow.Author.Tests.{eq-eqb, ne-eqb}
 use mathlib.Core.Bool.{Bool, cond}
 use mathlib.Core.Path.{ap, sym}
 use Prim.Native.Nat.{ℕ}
 use Rattle.words.specs.Bits.{bit, bitAt}
-use Rattle.worked.proofs.picture.mark.Statement.{statement}
-use Rattle.worked.proofs.picture.mark.Tie as tie
+use Rattle.worked_parts.proofs.picture.mark.Statement.{statement}
+use Rattle.worked_parts.proofs.picture.mark.Tie as tie
 
 mul-if1 : tie.Need-mul-if1
 mul-if1 c = search needs

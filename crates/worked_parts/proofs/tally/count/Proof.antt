@@ -1,8 +1,8 @@
--- `worked::tally::count` meets its contract. Assumes nothing.
+-- `worked_parts::tally::count` meets its contract. Assumes nothing.
 use borrow.Author.Needs.{needs}
-use Rattle.worked.proofs.TallyLaws.{count-same, count-other}
-use Rattle.worked.proofs.tally.count.Statement.{statement}
-use Rattle.worked.proofs.tally.count.Tie as tie
+use Rattle.worked_parts.proofs.TallyLaws.{count-same, count-other}
+use Rattle.worked_parts.proofs.tally.count.Statement.{statement}
+use Rattle.worked_parts.proofs.tally.count.Tie as tie
 
 one-more-requires : tie.Need-one-more-requires
 one-more-requires c κs = search needs

@@ -41,27 +41,29 @@ use Rattle.layer.proofs.Reply as P
 use Rattle.layer.proofs.Reply.Laws as P′
 use Rattle.layer.proofs.Kind as J
 use Rattle.layer.proofs.Kind.Laws as J′
-use Rattle.answers.specs.Core.{gated, committingId, committingStart, committingLength}
+use Rattle.question_kinds.specs.Gate.{gated}
+use Rattle.open_commit.specs.Asked.{committingId, committingStart, committingLength}
 use Rattle.commit_answer.proofs.CommitLaws.{Room}
 use Rattle.purge_answer.specs.Part.{Purgeable, purgeLeft}
 use Rattle.memory_answer.specs.Part.{Reservable, memoryLeft}
-use Rattle.answer.specs.Call.{goesFor, ownReply, Answerable, answerOn}
+use Rattle.answer_parts.specs.Parts.{goesFor, ownReply}
+use Rattle.answer.specs.Call.{Answerable, answerOn}
 use Rattle.records.proofs.Walk.{Loan, sliceOf, lent}
 use Rattle.records.proofs.Calls.{Site, plain-call, mut-call, mut2-call}
-use Rattle.answer.proofs.goes_commit as goes-commit′
-use Rattle.answer.proofs.goes_commit.Symbol.{name as #answer·goes-commit}
-use Rattle.answer.proofs.goes_purge as goes-purge′
-use Rattle.answer.proofs.goes_purge.Symbol.{name as #answer·goes-purge}
-use Rattle.answer.proofs.goes_memory as goes-memory′
-use Rattle.answer.proofs.goes_memory.Symbol.{name as #answer·goes-memory}
+use Rattle.answer_parts.proofs.goes_commit as goes-commit′
+use Rattle.answer_parts.proofs.goes_commit.Symbol.{name as #answer-parts·goes-commit}
+use Rattle.answer_parts.proofs.goes_purge as goes-purge′
+use Rattle.answer_parts.proofs.goes_purge.Symbol.{name as #answer-parts·goes-purge}
+use Rattle.answer_parts.proofs.goes_memory as goes-memory′
+use Rattle.answer_parts.proofs.goes_memory.Symbol.{name as #answer-parts·goes-memory}
 use Rattle.commit_answer.proofs.commit_part as commit-part′
 use Rattle.commit_answer.proofs.commit_part.Symbol.{name as #commit-answer·commit-part}
 use Rattle.purge_answer.proofs.purge_part as purge-part′
 use Rattle.purge_answer.proofs.purge_part.Symbol.{name as #purge-answer·purge-part}
 use Rattle.memory_answer.proofs.memory_part as memory-part′
 use Rattle.memory_answer.proofs.memory_part.Symbol.{name as #memory-answer·memory-part}
-use Rattle.answer.proofs.reply_for as reply-for′
-use Rattle.answer.proofs.reply_for.Symbol.{name as #answer·reply-for}
+use Rattle.answer_parts.proofs.reply_for as reply-for′
+use Rattle.answer_parts.proofs.reply_for.Symbol.{name as #answer-parts·reply-for}
 use Rattle.answer.proofs.answer_on as answer-on′
 use Rattle.answer.proofs.answer_on.Symbol.{name as #answer·answer-on}
 
@@ -92,7 +94,7 @@ module _ {M : Type 1} (𝓤 : URA M) (H : Heap 𝓤) (A : Atoms 𝓤) (mem : Mem
   AnswerOn = tripleOf 𝓤 H A answer-on′.signature (answer-on′.spec 𝓤 H A mem run)
 
 module _ {M : Type 1} {𝓤 : URA M} {H : Heap 𝓤} {A : Atoms 𝓤} {K : Type 0} {W : Given 𝓤 H A} {Γ : List (Item 𝓤)} {C : Calls 𝓤 H} {E : Env 𝓤 H} {xs : List Operand} {G : Goal 𝓤 H} {after : Val → Goal 𝓤 H} {i : Item 𝓤} where
-  pub goes-commit-step : K → Site K W Γ C E #answer·goes-commit xs G after → (mem : Memory → SProp 𝓤) (run : Routine → Fun 𝓤) → Triple 𝓤 (C #answer·goes-commit) (GoesCommit 𝓤 H A mem run)
+  pub goes-commit-step : K → Site K W Γ C E #answer-parts·goes-commit xs G after → (mem : Memory → SProp 𝓤) (run : Routine → Fun 𝓤) → Triple 𝓤 (C #answer-parts·goes-commit) (GoesCommit 𝓤 H A mem run)
       → (ok : Bool) → (s : State) (vs : Val) → Is Z.the-row s (vs ∷ []) → (kind : Kind) (vkind : Val) → Is J.the-row kind (vkind ∷ [])
       → ((h : Item 𝓤) → Opds K W (h ∷ Γ) E xs (vbool ok ∷ vs ∷ vkind ∷ []))
       → Seq K W (i ∷ Γ) (after (vbool (goesFor ok s kind ForCommit)))
@@ -102,7 +104,7 @@ module _ {M : Type 1} {𝓤 : URA M} {H : Heap 𝓤} {A : Atoms 𝓤} {K : Type 
       (owns-make 𝓤 H A (bool ∷ Z.the-row ∷ J.the-row ∷ []) (Ises (bool ∷ Z.the-row ∷ J.the-row ∷ [])) (bool-makes 𝓤 H A W, (LL.makes Z.the-type Z′.the-plain 𝓤 H A, (EL.makes J.the-type J′.the-plain 𝓤 H A, tt))) (ok, (s, (kind, tt))) (vbool ok ∷ [], (vs ∷ [], (vkind ∷ [], tt))) (refl, (gs, (gkind, tt)))) tt (id⊢ 𝓤 _)
       (λ r. r ≡ (goesFor ok s kind ForCommit)) (λ r ws. id⊢ 𝓤 _) ops (λ v r is e. subst (λ (u : Val). Seq K W (i ∷ Γ) (after u)) (sym (ap only (bool-tells r (v ∷ []) is) ∙ ap vbool e)) k)
 
-  pub goes-purge-step : K → Site K W Γ C E #answer·goes-purge xs G after → (mem : Memory → SProp 𝓤) (run : Routine → Fun 𝓤) → Triple 𝓤 (C #answer·goes-purge) (GoesPurge 𝓤 H A mem run)
+  pub goes-purge-step : K → Site K W Γ C E #answer-parts·goes-purge xs G after → (mem : Memory → SProp 𝓤) (run : Routine → Fun 𝓤) → Triple 𝓤 (C #answer-parts·goes-purge) (GoesPurge 𝓤 H A mem run)
       → (ok : Bool) → (s : State) (vs : Val) → Is Z.the-row s (vs ∷ []) → (kind : Kind) (vkind : Val) → Is J.the-row kind (vkind ∷ [])
       → ((h : Item 𝓤) → Opds K W (h ∷ Γ) E xs (vbool ok ∷ vs ∷ vkind ∷ []))
       → Seq K W (i ∷ Γ) (after (vbool (goesFor ok s kind ForPurge)))
@@ -112,7 +114,7 @@ module _ {M : Type 1} {𝓤 : URA M} {H : Heap 𝓤} {A : Atoms 𝓤} {K : Type 
       (owns-make 𝓤 H A (bool ∷ Z.the-row ∷ J.the-row ∷ []) (Ises (bool ∷ Z.the-row ∷ J.the-row ∷ [])) (bool-makes 𝓤 H A W, (LL.makes Z.the-type Z′.the-plain 𝓤 H A, (EL.makes J.the-type J′.the-plain 𝓤 H A, tt))) (ok, (s, (kind, tt))) (vbool ok ∷ [], (vs ∷ [], (vkind ∷ [], tt))) (refl, (gs, (gkind, tt)))) tt (id⊢ 𝓤 _)
       (λ r. r ≡ (goesFor ok s kind ForPurge)) (λ r ws. id⊢ 𝓤 _) ops (λ v r is e. subst (λ (u : Val). Seq K W (i ∷ Γ) (after u)) (sym (ap only (bool-tells r (v ∷ []) is) ∙ ap vbool e)) k)
 
-  pub goes-memory-step : K → Site K W Γ C E #answer·goes-memory xs G after → (mem : Memory → SProp 𝓤) (run : Routine → Fun 𝓤) → Triple 𝓤 (C #answer·goes-memory) (GoesMemory 𝓤 H A mem run)
+  pub goes-memory-step : K → Site K W Γ C E #answer-parts·goes-memory xs G after → (mem : Memory → SProp 𝓤) (run : Routine → Fun 𝓤) → Triple 𝓤 (C #answer-parts·goes-memory) (GoesMemory 𝓤 H A mem run)
       → (ok : Bool) → (s : State) (vs : Val) → Is Z.the-row s (vs ∷ []) → (kind : Kind) (vkind : Val) → Is J.the-row kind (vkind ∷ [])
       → ((h : Item 𝓤) → Opds K W (h ∷ Γ) E xs (vbool ok ∷ vs ∷ vkind ∷ []))
       → Seq K W (i ∷ Γ) (after (vbool (goesFor ok s kind ForMemory)))
@@ -156,7 +158,7 @@ module _ {M : Type 1} {𝓤 : URA M} {H : Heap 𝓤} {A : Atoms 𝓤} {K : Type 
       (λ v r zs ts is e l l′. subst (λ (ps : List Arena). length ps ≡ length ys → Seq K W ((‵ (lent T.the-row L ps) ⊛ (‵ (lent u32 L′ ts) ⊛ i)) ∷ Γ) (after v)) (sym (e .1))
       (λ q. subst (λ (rs : List ℕ). length rs ≡ length us → Seq K W ((‵ (lent T.the-row L (cond go (memoryLeft S ys us s granted base .world .records) ys)) ⊛ (‵ (lent u32 L′ rs) ⊛ i)) ∷ Γ) (after v)) (sym (e .2)) (k v r is (e .0) q) l′) l)
 
-  pub reply-for-step : K → Site K W Γ C E #answer·reply-for xs G after → (mem : Memory → SProp 𝓤) (run : Routine → Fun 𝓤) → Triple 𝓤 (C #answer·reply-for) (ReplyFor 𝓤 H A mem run)
+  pub reply-for-step : K → Site K W Γ C E #answer-parts·reply-for xs G after → (mem : Memory → SProp 𝓤) (run : Routine → Fun 𝓤) → Triple 𝓤 (C #answer-parts·reply-for) (ReplyFor 𝓤 H A mem run)
       → (ok : Bool) → (s : State) (vs : Val) → Is Z.the-row s (vs ∷ []) → (kind : Kind) (vkind : Val) → Is J.the-row kind (vkind ∷ []) → (commit : Reply) (vcommit : Val) → Is P.the-row commit (vcommit ∷ []) → (purge : Reply) (vpurge : Val) → Is P.the-row purge (vpurge ∷ []) → (memory : Reply) (vmemory : Val) → Is P.the-row memory (vmemory ∷ [])
       → ((h : Item 𝓤) → Opds K W (h ∷ Γ) E xs (vbool ok ∷ vs ∷ vkind ∷ vcommit ∷ vpurge ∷ vmemory ∷ []))
       → ((v : Val) → Is P.the-row (gated ok s kind (ownReply s kind commit purge memory)) (v ∷ []) → Seq K W (i ∷ Γ) (after v))

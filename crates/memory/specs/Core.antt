@@ -1,54 +1,10 @@
--- The answer to a memory question by value. k arenas stand, `met` is what a scan for the range found, and the question is open as chunks, bytes, commit,
--- exclusive, waiting. S is the size of a chunk. Assumes nothing.
-use mathlib.Core.Bool.{Bool, false, cond, not, _&&_}
-use Prim.Native.Nat.{ℕ, suc, _*_, _%_, min}
-use lib.Dec.{eqb, leb}
-use Rattle.refusals.specs.declared.Refusal.the-variants.{Range, NoRun, MemoryRefused}
+-- What is registered, and the claim that waits. k arenas stand, and `met` is what a scan for the range found. S is the size of a chunk. Assumes nothing.
+use mathlib.Core.Bool.{Bool, false, cond}
+use Prim.Native.Nat.{ℕ, suc}
 use Rattle.runs.specs.declared.Found.{Found}
 use Rattle.layer.specs.declared.Waiting.{Waiting}
 use Rattle.layer.specs.declared.Waiting.the-variants.{Reserve, Claim}
-use Rattle.layer.specs.declared.Unusable.the-variants.{Count, Misaligned, Full}
-use Rattle.layer.specs.declared.Question.the-variants.{Reserving}
-use Rattle.layer.specs.declared.Answer.the-variants.{Registered}
-use Rattle.layer.specs.declared.Reply.{Reply}
-use Rattle.layer.specs.World.{stateOf, reply, turnDown, calm}
-use Rattle.layer.specs.Registering.{badCount}
-use Rattle.layer.specs.Answering.{failReply, giveBackReply}
-use Rattle.registers.specs.Core.{rangeBad}
-
--- the bytes of the chunks, in 64 bits: a range of the most bytes there are is bad wherever it starts, as a longer one is
-unfoldable pub memoryBytes : ℕ → ℕ → ℕ
-memoryBytes S chunks = min (chunks * S) 18446744073709551615
-
--- how many records the scan for overlaps looks at: none after a no
-unfoldable pub memoryCount : ℕ → Bool → ℕ
-memoryCount k granted = cond granted k 0
-
--- the host said yes, and none of 6, 12, 7 and 13 stands in the way
-unfoldable pub memoryRegisters : ℕ → ℕ → ℕ → Bool → ℕ → Found → Bool
-memoryRegisters S k chunks granted base met =
-    granted && (not (rangeBad base (chunks * S) met) && (not (badCount chunks) && (eqb (base % S) 0 && not (leb 32 k))))
-
--- the arena is registered; for a claim that waits, what a search in vain answers
-abbrev pub registeredReply : ℕ → Bool → Waiting → Reply
-registeredReply k mark Reserve = reply (Registered k) (calm (suc k) mark)
-registeredReply k mark (Claim n commits) = turnDown NoRun (calm (suc k) mark)
-
--- behind 6: 12, 7, 13, then the registering
-unfoldable pub blockReply : ℕ → ℕ → Bool → ℕ → ℕ → Waiting → ℕ → Reply
-blockReply S k mark chunks bytes waiting base =
-    cond (badCount chunks) (giveBackReply k mark base bytes Count waiting)
-    (cond (eqb (base % S) 0)
-    (cond (leb 32 k) (giveBackReply k mark base bytes Full waiting) (registeredReply k mark waiting))
-    (giveBackReply k mark base bytes Misaligned waiting))
-
--- what is answered where no search finds a run; 6 keeps the question open
-unfoldable pub memoryReply : ℕ → ℕ → Bool → ℕ → ℕ → Bool → Bool → Waiting → Bool → ℕ → Found → Reply
-memoryReply S k mark chunks bytes commit exclusive waiting granted base met =
-    cond granted
-    (cond (rangeBad base (chunks * S) met) (turnDown Range (stateOf k mark (Reserving chunks bytes commit exclusive waiting)))
-    (blockReply S k mark chunks bytes waiting base))
-    (failReply k mark MemoryRefused waiting)
+use Rattle.memory_given.specs.Given.{memoryRegisters}
 
 -- the id that is registered; 32 for none
 unfoldable pub memoryId : ℕ → ℕ → ℕ → Bool → ℕ → Found → ℕ

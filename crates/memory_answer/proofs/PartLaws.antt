@@ -26,9 +26,11 @@ use Rattle.registers.proofs.DecisionLaws.{either}
 use Rattle.claims.specs.Core.{searchReply, searchArena}
 use Rattle.claims.proofs.ClaimLaws.{set-same, scan-hits}
 use Rattle.memory.specs.declared.Memory.{Memory}
-use Rattle.memory.specs.Core.{memoryRegisters, memoryReply, memoryId, waitingN, waitingCommits, searchCount}
-use Rattle.memory.proofs.MemoryLaws.{memoryMet, memory-answer-by}
-use Rattle.memory.proofs.FoundLaws.{memory-sound, memory-hits}
+use Rattle.memory_given.specs.Given.{memoryRegisters}
+use Rattle.memory_replies.specs.Replies.{memoryReply}
+use Rattle.memory.specs.Core.{memoryId, waitingN, waitingCommits, searchCount}
+use Rattle.memory_laws.proofs.MemoryLaws.{memoryMet, memory-answer}
+use Rattle.memory_laws.proofs.FoundLaws.{memory-sound, memory-hits}
 use Rattle.writing.specs.Places.{recordPlace}
 use Rattle.writing.proofs.WriteLaws.{record-placed}
 use Rattle.memory_answer.specs.declared.Reserved.{Reserved}
@@ -141,7 +143,7 @@ module _ (S : ℕ) (l : List Arena) (stamps : List ℕ) (s : State) (granted : B
       ∙ ap (ending S new (waitingN (v .waiting)) (waitingCommits (v .waiting)) missed (stampsWith stamps id))
       (scan-hits S (negsuc 0) (waitingN (v .waiting)) new looked
       ∙ memory-hits S l (s .count) (v .chunks) (v .commit) (v .exclusive) (v .waiting) granted base met (h .0) (h .2))
-      ∙ sym (memory-answer-by S l stamps (s .count) (s .mark) (v .chunks) (v .bytes) (v .commit) (v .exclusive) (v .waiting) granted base)
+      ∙ sym (memory-answer S l stamps (s .count) (s .mark) (v .chunks) (v .bytes) (v .commit) (v .exclusive) (v .waiting) granted base)
 
   abbrev pub Comes : Bool → Memory → Type 0
   Comes go m =

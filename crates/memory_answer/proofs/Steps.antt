@@ -51,12 +51,13 @@ use Rattle.claims.specs.Core.{searchArena, searchReply}
 use Rattle.claims.proofs.Served as D
 use Rattle.claims.proofs.Served.Laws as D′
 use Rattle.memory.specs.declared.Memory.{Memory as Made}
-use Rattle.memory.specs.Core.{memoryBytes}
+use Rattle.memory_given.specs.Given.{memoryBytes}
 use Rattle.memory.proofs.Memory as X
 use Rattle.memory.proofs.Memory.Laws as X′
 use Rattle.writing.specs.declared.Writing.{Writing}
 use Rattle.writing.proofs.Writing as Y
-use Rattle.memory_answer.specs.Part.{reservingOf, scanCount, metOf, Decides, writingOf, againReply, againRecords}
+use Rattle.memory_answer.specs.Part.{reservingOf, scanCount, metOf, Decides, againReply, againRecords}
+use Rattle.memory_parts.specs.Parts.{writingOf}
 use Rattle.memory_answer.proofs.scan_count as scan-count′
 use Rattle.memory_answer.proofs.scan_count.Symbol.{name as #memory-answer·scan-count}
 use Rattle.memory_answer.proofs.range_query as range-query′
@@ -65,12 +66,12 @@ use Rattle.memory_answer.proofs.decide as decide′
 use Rattle.memory_answer.proofs.decide.Symbol.{name as #memory-answer·decide}
 use Rattle.memory_answer.proofs.memory_decided as memory-decided′
 use Rattle.memory_answer.proofs.memory_decided.Symbol.{name as #memory-answer·memory-decided}
-use Rattle.memory_answer.proofs.as_written as as-written′
-use Rattle.memory_answer.proofs.as_written.Symbol.{name as #memory-answer·as-written}
-use Rattle.memory_answer.proofs.search_of as search-of′
-use Rattle.memory_answer.proofs.search_of.Symbol.{name as #memory-answer·search-of}
-use Rattle.memory_answer.proofs.again_query as again-query′
-use Rattle.memory_answer.proofs.again_query.Symbol.{name as #memory-answer·again-query}
+use Rattle.memory_parts.proofs.as_written as as-written′
+use Rattle.memory_parts.proofs.as_written.Symbol.{name as #memory-parts·as-written}
+use Rattle.memory_parts.proofs.search_of as search-of′
+use Rattle.memory_parts.proofs.search_of.Symbol.{name as #memory-parts·search-of}
+use Rattle.memory_parts.proofs.again_query as again-query′
+use Rattle.memory_parts.proofs.again_query.Symbol.{name as #memory-parts·again-query}
 use Rattle.memory_answer.proofs.record_of as record-of′
 use Rattle.memory_answer.proofs.record_of.Symbol.{name as #memory-answer·record-of}
 use Rattle.memory_answer.proofs.reply_of as reply-of′
@@ -156,7 +157,7 @@ module _ {M : Type 1} {𝓤 : URA M} {H : Heap 𝓤} {A : Atoms 𝓤} {K : Type 
       (λ _. owns-make 𝓤 H A (bool ∷ Z.the-row ∷ bool ∷ u64 ∷ u64 ∷ []) (Ises (bool ∷ Z.the-row ∷ bool ∷ u64 ∷ u64 ∷ [])) (bool-makes 𝓤 H A W, (LL.makes Z.the-type Z′.the-plain 𝓤 H A, (bool-makes 𝓤 H A W, (uint-makes 𝓤 H A W w64, (uint-makes 𝓤 H A W w64, tt))))) (go, (s, (granted, (base, (S, tt))))) (vbool go ∷ [], (vs ∷ [], (vbool granted ∷ [], (vint w64 base ∷ [], (vint w64 S ∷ [], tt))))) (refl, (gs, (refl, ((refl, fbase), ((refl, fS), tt)))))) (λ _ _. tt) (λ _ _. factI 𝓤 _ (emp 𝓤) (pos, most))
       (λ o. Decides S go s (reservingOf (s .question)) granted base (metOf S ys go s granted base) o) (λ _ _ r ws. id⊢ 𝓤 _) (λ h _. ops h) k
 
-  pub as-written-step : K → Site K W Γ C E #memory-answer·as-written xs G after → (mem : Memory → SProp 𝓤) (run : Routine → Fun 𝓤) → Triple 𝓤 (C #memory-answer·as-written) (AsWritten 𝓤 H A mem run)
+  pub as-written-step : K → Site K W Γ C E #memory-parts·as-written xs G after → (mem : Memory → SProp 𝓤) (run : Routine → Fun 𝓤) → Triple 𝓤 (C #memory-parts·as-written) (AsWritten 𝓤 H A mem run)
       → (m : Made) (vm : Val) → Is X.the-row m (vm ∷ [])
       → ((h : Item 𝓤) → Opds K W (h ∷ Γ) E xs (vm ∷ []))
       → ((v : Val) → Is Y.the-row (writingOf m) (v ∷ []) → Seq K W (i ∷ Γ) (after v))
@@ -166,7 +167,7 @@ module _ {M : Type 1} {𝓤 : URA M} {H : Heap 𝓤} {A : Atoms 𝓤} {K : Type 
       (owns-make 𝓤 H A (X.the-row ∷ []) (Ises (X.the-row ∷ [])) (LL.makes X.the-type X′.the-plain 𝓤 H A, tt) (m, tt) (vm ∷ [], tt) (gm, tt)) tt (id⊢ 𝓤 _)
       (λ r. r ≡ writingOf m) (λ r ws. id⊢ 𝓤 _) ops (λ v r is e. k v (subst (λ (o : Writing). Is Y.the-row o (v ∷ [])) e is))
 
-  pub search-of-step : K → Site K W Γ C E #memory-answer·search-of xs G after → (mem : Memory → SProp 𝓤) (run : Routine → Fun 𝓤) → Triple 𝓤 (C #memory-answer·search-of) (SearchOf 𝓤 H A mem run)
+  pub search-of-step : K → Site K W Γ C E #memory-parts·search-of xs G after → (mem : Memory → SProp 𝓤) (run : Routine → Fun 𝓤) → Triple 𝓤 (C #memory-parts·search-of) (SearchOf 𝓤 H A mem run)
       → (m : Made) (vm : Val) → Is X.the-row m (vm ∷ [])
       → ((h : Item 𝓤) → Opds K W (h ∷ Γ) E xs (vm ∷ []))
       → (m .search < 2 ^ 64 → Seq K W (i ∷ Γ) (after (vint w64 (m .search))))
@@ -176,7 +177,7 @@ module _ {M : Type 1} {𝓤 : URA M} {H : Heap 𝓤} {A : Atoms 𝓤} {K : Type 
       (owns-make 𝓤 H A (X.the-row ∷ []) (Ises (X.the-row ∷ [])) (LL.makes X.the-type X′.the-plain 𝓤 H A, tt) (m, tt) (vm ∷ [], tt) (gm, tt)) tt (id⊢ 𝓤 _)
       (λ r. r ≡ m .search) (λ r ws. id⊢ 𝓤 _) ops (λ v r is e. subst (λ (u : Val). Seq K W (i ∷ Γ) (after u)) (sym (ap only (is .0) ∙ ap (vint w64) e)) (k (subst (λ (m : ℕ). m < 2 ^ 64) e (is .1))))
 
-  pub again-query-step : K → Site K W Γ C E #memory-answer·again-query xs G after → (mem : Memory → SProp 𝓤) (run : Routine → Fun 𝓤) → Triple 𝓤 (C #memory-answer·again-query) (AgainQuery 𝓤 H A mem run)
+  pub again-query-step : K → Site K W Γ C E #memory-parts·again-query xs G after → (mem : Memory → SProp 𝓤) (run : Routine → Fun 𝓤) → Triple 𝓤 (C #memory-parts·again-query) (AgainQuery 𝓤 H A mem run)
       → (m : Made) (vm : Val) → Is X.the-row m (vm ∷ [])
       → ((h : Item 𝓤) → Opds K W (h ∷ Γ) E xs (vm ∷ []))
       → ((v : Val) → Is Q.the-row (Serves (negsuc 0) (m .n)) (v ∷ []) → Seq K W (i ∷ Γ) (after v))

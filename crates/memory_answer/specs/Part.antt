@@ -23,8 +23,9 @@ use Rattle.judge.specs.Scan.{scanOf}
 use Rattle.claims.specs.Core.{searchArena, searchReply}
 use Rattle.registers.specs.Core.{storedAt}
 use Rattle.memory.specs.declared.Memory.{Memory}
-use Rattle.memory.specs.Core.{memoryBytes, memoryCount, memoryRegisters, memoryReply, memoryId, waitingN, waitingCommits, searchCount}
-use Rattle.writing.specs.declared.Writing.{Writing}
+use Rattle.memory_given.specs.Given.{memoryBytes, memoryCount, memoryRegisters}
+use Rattle.memory_replies.specs.Replies.{memoryReply}
+use Rattle.memory.specs.Core.{memoryId, waitingN, waitingCommits, searchCount}
 use Rattle.memory_answer.specs.declared.Reserved.{Reserved}
 
 -- ---- what the open question says; zeros where another question is open
@@ -59,10 +60,6 @@ Decides S go s v granted base met r =
     × (r .search ≡ cond go (searchCount S (s .count) (v .chunks) (v .waiting) granted base met) 0)
     × (r .n ≡ waitingN (v .waiting))
     × (r .commits ≡ waitingCommits (v .waiting))
-
--- the record, and the stamps of the id that is registered
-abbrev pub writingOf : Memory → Writing
-writingOf m = record { id = m .id; arena = m .arena; stamped = m .id; reply = m .reply }
 
 -- ---- the claim that waits
 

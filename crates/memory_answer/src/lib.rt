@@ -3,16 +3,15 @@
 ghost use mathlib.Core.Path.{_≡_};
 ghost use mathlib.Core.Bool.{true, cond};
 ghost use Prim.Native.Nat.{ℕ, _<_, _≤_};
-ghost use lib.IntN.{negsuc};
 ghost use Rattle.runs.specs.declared.Found.the-variants.{At};
 ghost use Rattle.runs.specs.Lowest.{all};
 ghost use Rattle.lookup.specs.Soundness.{soundArena};
-ghost use Rattle.judge.specs.declared.Query.the-variants.{Meets, Serves};
+ghost use Rattle.judge.specs.declared.Query.the-variants.{Meets};
 ghost use Rattle.layer.specs.World.{replyOf};
 ghost use Rattle.layer.specs.Table.{at};
 ghost use Rattle.claims.specs.Core.{searchArena, searchReply};
-ghost use Rattle.memory.specs.Core.{memoryBytes};
-ghost use Rattle.memory_answer.specs.Part.{noneReserved, reservingOf, scanCount, metOf, Decides, writingOf, againReply, againRecords, Reservable, memoryLeft};
+ghost use Rattle.memory_given.specs.Given.{memoryBytes};
+ghost use Rattle.memory_answer.specs.Part.{noneReserved, reservingOf, scanCount, metOf, Decides, againReply, againRecords, Reservable, memoryLeft};
 use arena::Arena;
 use claims::Served;
 use judge::Query;
@@ -22,7 +21,6 @@ use layer::State;
 use layer::Waiting;
 use memory::Memory;
 use runs::Found;
-use writing::Writing;
 
 // ---- what is decided
 
@@ -77,7 +75,7 @@ fn scan_count(go: bool, state: State, granted: bool) -> usize
     ensures { λ r. ⌜ r ≡ scanCount go state granted ⌝ }
 {
     if go {
-        return memory::memory_count(state.count, granted);
+        return memory_given::memory_count(state.count, granted);
     }
     0
 }
@@ -89,27 +87,8 @@ fn range_query(state: State, base: u64, chunk_size: u64) -> Query
 {
     let q = state.question;
     let v = reserving(q);
-    let bytes = memory::memory_bytes(v.chunks, chunk_size);
+    let bytes = memory_given::memory_bytes(v.chunks, chunk_size);
     Query::Meets { base, bytes }
-}
-
-// Where there is nothing to do, nothing is written and no record is looked at.
-fn only_if(go: bool, m: Memory) -> Memory
-    ensures { λ r. ⌜ (r .id ≡ cond go (m .id) 32) × (r .arena ≡ m .arena) × (r .reply ≡ m .reply) × (r .search ≡ cond go (m .search) 0) × (r .n ≡ m .n) × (r .commits ≡ m .commits) ⌝ }
-{
-    if go {
-        return m;
-    }
-    let arena = m.arena;
-    let reply = m.reply;
-    Memory {
-        id: 32,
-        arena,
-        reply,
-        search: 0,
-        n: m.n,
-        commits: m.commits,
-    }
 }
 
 // What is decided, the scan for overlaps having found `met`.
@@ -133,7 +112,7 @@ fn decide(go: bool, state: State, granted: bool, base: u64, met: Found, chunk_si
         met,
         chunk_size,
     );
-    only_if(go, m)
+    memory_parts::only_if(go, m)
 }
 
 // The same by a scan of the lent records.
@@ -154,35 +133,7 @@ fn memory_decided(
     decide(go, state, granted, base, met, chunk_size)
 }
 
-// What is written: the stamps are those of the id that is registered.
-fn as_written(m: Memory) -> Writing
-    ensures { λ r. ⌜ r ≡ writingOf m ⌝ }
-{
-    let arena = m.arena;
-    let reply = m.reply;
-    Writing {
-        id: m.id,
-        arena,
-        stamped: m.id,
-        reply,
-    }
-}
-
 // ---- the claim that waits
-
-// How many records it looks at.
-fn search_of(m: Memory) -> usize
-    ensures { λ r. ⌜ r ≡ m .search ⌝ }
-{
-    m.search
-}
-
-// It names no arena.
-fn again_query(m: Memory) -> Query
-    ensures { λ r. ⌜ r ≡ Serves (negsuc 0) (m .n) ⌝ }
-{
-    Query::Serves { id: -1, n: m.n }
-}
 
 // The search's end: the lowest run in record a, or what was answered already.
 fn ended(m: Memory, a: Arena, f: Found, chunk_size: u64) -> Served
@@ -212,8 +163,8 @@ fn search_again(records: &mut [Arena], m: Memory, chunk_size: u64) -> Reply
     requires { ⌜ (0 < «chunk_size») × («chunk_size» ≤ 4294967296) × (all (λ i. soundArena «chunk_size» (at (now records) i)) 0 (m .search) ≡ true) ⌝ }
     ensures { λ r. ⌜ (r ≡ againReply «chunk_size» (now (records .entry)) m) × (now (records .exit) ≡ againRecords «chunk_size» (now (records .entry)) m) ⌝ }
 {
-    let k = search_of(m);
-    let q = again_query(m);
+    let k = memory_parts::search_of(m);
+    let q = memory_parts::again_query(m);
     let f = table::scan(records, k, chunk_size, q);
     let i = entry::stored_at(f);
     let a = records::load_or(records, i);
@@ -241,7 +192,7 @@ pub fn memory_part(
         × (now (stamps .exit) ≡ cond go (memoryLeft «chunk_size» (now (records .entry)) (now (stamps .entry)) state granted base .world .stamps) (now (stamps .entry))) ⌝ }
 {
     let m = memory_decided(records, go, state, granted, base, chunk_size);
-    let w = as_written(m);
+    let w = memory_parts::as_written(m);
     writing::write(records, stamps, w);
     search_again(records, m, chunk_size)
 }

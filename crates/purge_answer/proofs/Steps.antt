@@ -38,23 +38,24 @@ use Rattle.layer.specs.declared.Sweep.{Sweep}
 use Rattle.layer.specs.declared.State.{State}
 use Rattle.layer.specs.declared.Reply.{Reply}
 use Rattle.sweeps.specs.declared.Stay.{Stay}
-use Rattle.answers.specs.Core.{purgingId, purgingChunk, purgingSweep}
+use Rattle.open_purge.specs.Asked.{purgingId, purgingChunk, purgingSweep}
 use Rattle.sweeping.specs.Going.{nextPlace}
-use Rattle.purge_answer.specs.Part.{Fit, Stays, placeOf, countOf, sweepFor}
+use Rattle.purge_answer.specs.Part.{Fit, Stays, sweepFor}
+use Rattle.purge_places.specs.Places.{placeOf, countOf}
 use Rattle.records.proofs.Walk.{Loan, sliceOf, lent}
 use Rattle.records.proofs.Calls.{Site, plain-call, shr-call}
-use Rattle.purge_answer.proofs.place_of as place′
-use Rattle.purge_answer.proofs.place_of.Symbol.{name as #purge-answer·place-of}
-use Rattle.purge_answer.proofs.count_of as count′
-use Rattle.purge_answer.proofs.count_of.Symbol.{name as #purge-answer·count-of}
+use Rattle.purge_places.proofs.place_of as place′
+use Rattle.purge_places.proofs.place_of.Symbol.{name as #purge-places·place-of}
+use Rattle.purge_places.proofs.count_of as count′
+use Rattle.purge_places.proofs.count_of.Symbol.{name as #purge-places·count-of}
 use Rattle.purge_answer.proofs.sweep_for as for′
 use Rattle.purge_answer.proofs.sweep_for.Symbol.{name as #purge-answer·sweep-for}
 use Rattle.purge_answer.proofs.purge_at as at′
 use Rattle.purge_answer.proofs.purge_at.Symbol.{name as #purge-answer·purge-at}
-use Rattle.purge_answer.proofs.rest_from as rest′
-use Rattle.purge_answer.proofs.rest_from.Symbol.{name as #purge-answer·rest-from}
-use Rattle.purge_answer.proofs.pick as pick′
-use Rattle.purge_answer.proofs.pick.Symbol.{name as #purge-answer·pick}
+use Rattle.purge_places.proofs.rest_from as rest′
+use Rattle.purge_places.proofs.rest_from.Symbol.{name as #purge-places·rest-from}
+use Rattle.purge_places.proofs.pick as pick′
+use Rattle.purge_places.proofs.pick.Symbol.{name as #purge-places·pick}
 
 -- the contracts that the walk cites
 module _ {M : Type 1} (𝓤 : URA M) (H : Heap 𝓤) (A : Atoms 𝓤) (mem : Memory → SProp 𝓤) (run : Routine → Fun 𝓤) where
@@ -77,7 +78,7 @@ module _ {M : Type 1} (𝓤 : URA M) (H : Heap 𝓤) (A : Atoms 𝓤) (mem : Mem
   Picks = tripleOf 𝓤 H A pick′.signature (pick′.spec 𝓤 H A mem run)
 
 module _ {M : Type 1} {𝓤 : URA M} {H : Heap 𝓤} {A : Atoms 𝓤} {K : Type 0} {W : Given 𝓤 H A} {Γ : List (Item 𝓤)} {C : Calls 𝓤 H} {E : Env 𝓤 H} {xs : List Operand} {G : Goal 𝓤 H} {after : Val → Goal 𝓤 H} {i : Item 𝓤} where
-  pub place-step : K → Site K W Γ C E #purge-answer·place-of xs G after → (mem : Memory → SProp 𝓤) (run : Routine → Fun 𝓤) → Triple 𝓤 (C #purge-answer·place-of) (Places 𝓤 H A mem run)
+  pub place-step : K → Site K W Γ C E #purge-places·place-of xs G after → (mem : Memory → SProp 𝓤) (run : Routine → Fun 𝓤) → Triple 𝓤 (C #purge-places·place-of) (Places 𝓤 H A mem run)
       → (ok : Bool) → (s : State) (vs : Val) → Is Z.the-row s (vs ∷ [])
       → ((h : Item 𝓤) → Opds K W (h ∷ Γ) E xs (vbool ok ∷ vs ∷ []))
       → (placeOf ok s < 2 ^ 64 → Seq K W (i ∷ Γ) (after (vint w64 (placeOf ok s))))
@@ -87,7 +88,7 @@ module _ {M : Type 1} {𝓤 : URA M} {H : Heap 𝓤} {A : Atoms 𝓤} {K : Type 
       (owns-make 𝓤 H A (bool ∷ Z.the-row ∷ []) (Ises (bool ∷ Z.the-row ∷ [])) (bool-makes 𝓤 H A W, (LL.makes Z.the-type Z′.the-plain 𝓤 H A, tt)) (ok, (s, tt)) (vbool ok ∷ [], (vs ∷ [], tt)) (refl, (gs, tt))) tt (id⊢ 𝓤 _)
       (λ r. r ≡ placeOf ok s) (λ r ws. id⊢ 𝓤 _) ops (λ v r is e. subst (λ (u : Val). Seq K W (i ∷ Γ) (after u)) (sym (ap only (is .0) ∙ ap (vint w64) e)) (k (subst (λ (m : ℕ). m < 2 ^ 64) e (is .1))))
 
-  pub count-step : K → Site K W Γ C E #purge-answer·count-of xs G after → (mem : Memory → SProp 𝓤) (run : Routine → Fun 𝓤) → Triple 𝓤 (C #purge-answer·count-of) (Counts 𝓤 H A mem run)
+  pub count-step : K → Site K W Γ C E #purge-places·count-of xs G after → (mem : Memory → SProp 𝓤) (run : Routine → Fun 𝓤) → Triple 𝓤 (C #purge-places·count-of) (Counts 𝓤 H A mem run)
       → (ok : Bool) → (s : State) (vs : Val) → Is Z.the-row s (vs ∷ [])
       → ((h : Item 𝓤) → Opds K W (h ∷ Γ) E xs (vbool ok ∷ vs ∷ []))
       → (countOf ok s < 2 ^ 64 → Seq K W (i ∷ Γ) (after (vint w64 (countOf ok s))))
@@ -118,7 +119,7 @@ module _ {M : Type 1} {𝓤 : URA M} {H : Heap 𝓤} {A : Atoms 𝓤} {K : Type 
       (λ _. owns-make 𝓤 H A (bool ∷ Z.the-row ∷ T.the-row ∷ bool ∷ u64 ∷ []) (Ises (bool ∷ Z.the-row ∷ T.the-row ∷ bool ∷ u64 ∷ [])) (bool-makes 𝓤 H A W, (LL.makes Z.the-type Z′.the-plain 𝓤 H A, (LL.makes T.the-type T′.the-plain 𝓤 H A, (bool-makes 𝓤 H A W, (uint-makes 𝓤 H A W w64, tt))))) (ok, (s, (a, (granted, (S, tt))))) (vbool ok ∷ [], (vs ∷ [], (va ∷ [], (vbool granted ∷ [], (vint w64 S ∷ [], tt))))) (refl, (gs, (ga, (refl, ((refl, fS), tt)))))) (λ _ _. tt) (λ _ _. factI 𝓤 _ (emp 𝓤) (most, fit))
       (λ o. (ok ≡ true → Stays S us (s .count) (s .mark) granted a o (purgingId (s .question)) (purgingChunk (s .question)) (purgingSweep (s .question))) × (ok ≡ false → o .asked ≡ true)) (λ _ _ r ws. id⊢ 𝓤 _) (λ h _. ops h) (λ v r is e. k v r is e)
 
-  pub rest-step : K → Site K W Γ C E #purge-answer·rest-from xs G after → (mem : Memory → SProp 𝓤) (run : Routine → Fun 𝓤) → Triple 𝓤 (C #purge-answer·rest-from) (Rests 𝓤 H A mem run)
+  pub rest-step : K → Site K W Γ C E #purge-places·rest-from xs G after → (mem : Memory → SProp 𝓤) (run : Routine → Fun 𝓤) → Triple 𝓤 (C #purge-places·rest-from) (Rests 𝓤 H A mem run)
       → (j : ℕ) → j < 2 ^ 64 → (o : Stay) (vo : Val) → Is Y.the-row o (vo ∷ []) → (n : ℕ) → n < 2 ^ 64 → (o .asked ≡ false → j < 32)
       → ((h : Item 𝓤) → Opds K W (h ∷ Γ) E xs (vint w64 j ∷ vo ∷ vint w64 n ∷ []))
       → (nextPlace j (o .asked) n < 2 ^ 64 → Seq K W (i ∷ Γ) (after (vint w64 (nextPlace j (o .asked) n))))
@@ -128,7 +129,7 @@ module _ {M : Type 1} {𝓤 : URA M} {H : Heap 𝓤} {A : Atoms 𝓤} {K : Type 
       (owns-make 𝓤 H A (usize ∷ Y.the-row ∷ usize ∷ []) (Ises (usize ∷ Y.the-row ∷ usize ∷ [])) (uint-makes 𝓤 H A W w64, (LL.makes Y.the-type Y′.the-plain 𝓤 H A, (uint-makes 𝓤 H A W w64, tt))) (j, (o, (n, tt))) (vint w64 j ∷ [], (vo ∷ [], (vint w64 n ∷ [], tt))) ((refl, fj), (go, ((refl, fn), tt)))) tt (factI 𝓤 _ (emp 𝓤) l)
       (λ r. r ≡ nextPlace j (o .asked) n) (λ r ws. id⊢ 𝓤 _) ops (λ v r is e. subst (λ (u : Val). Seq K W (i ∷ Γ) (after u)) (sym (ap only (is .0) ∙ ap (vint w64) e)) (k (subst (λ (m : ℕ). m < 2 ^ 64) e (is .1))))
 
-  pub pick-step : K → Site K W Γ C E #purge-answer·pick xs G after → (mem : Memory → SProp 𝓤) (run : Routine → Fun 𝓤) → Triple 𝓤 (C #purge-answer·pick) (Picks 𝓤 H A mem run)
+  pub pick-step : K → Site K W Γ C E #purge-places·pick xs G after → (mem : Memory → SProp 𝓤) (run : Routine → Fun 𝓤) → Triple 𝓤 (C #purge-places·pick) (Picks 𝓤 H A mem run)
       → (o : Stay) (vo : Val) → Is Y.the-row o (vo ∷ []) → (rest : Reply) (vr : Val) → Is P.the-row rest (vr ∷ [])
       → ((h : Item 𝓤) → Opds K W (h ∷ Γ) E xs (vo ∷ vr ∷ []))
       → ((v : Val) → Is P.the-row (cond (o .asked) (o .reply) rest) (v ∷ []) → Seq K W (i ∷ Γ) (after v))

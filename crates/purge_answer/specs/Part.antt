@@ -15,7 +15,7 @@ use Rattle.layer.specs.Table.{at}
 use Rattle.layer.specs.Answering.{counted, answerPurge}
 use Rattle.sweeps.specs.declared.Stay.{Stay}
 use Rattle.sweeps.specs.Core.{nextOf, stayArena, stayReply, isAsked}
-use Rattle.answers.specs.Core.{purgingId, purgingChunk, purgingSweep}
+use Rattle.open_purge.specs.Asked.{purgingId, purgingChunk, purgingSweep}
 use Rattle.sweeping.specs.Going.{Ranged}
 
 -- arena a, its id i and chunk j, and the sweep w are within bounds
@@ -39,14 +39,6 @@ Stays S stamps k mark granted a r i j w =
     (r .arena ≡ stayArena (counted w granted) (returnChunk a j granted (w .decommit)) (stampsOf stamps i) (found stamps granted a i j w))
     × (r .asked ≡ isAsked (found stamps granted a i j w))
     × (r .reply ≡ stayReply S k mark (counted w granted) i (returnChunk a j granted (w .decommit)) (found stamps granted a i j w))
-
--- the record's place: past every slice where there is nothing to do
-abbrev pub placeOf : Bool → State → ℕ
-placeOf go s = cond go (purgingId (s .question)) 18446744073709551615
-
--- how many arenas the sweep goes on over
-abbrev pub countOf : Bool → State → ℕ
-countOf go s = cond go (s .count) 0
 
 -- the sweep with its answer counted
 abbrev pub sweepFor : Bool → State → Bool → Sweep

@@ -1,38 +1,15 @@
 // The answer to a purge question over the lent table: the borrowed chunk comes back, and the sweep goes on.
 ghost use mathlib.Core.Path.{_≡_};
 ghost use mathlib.Core.Bool.{true, false, cond};
-ghost use Prim.Native.Nat.{_<_, _≤_};
+ghost use Prim.Native.Nat.{_≤_};
 ghost use Rattle.layer.specs.World.{replyOf};
-ghost use Rattle.answers.specs.Core.{purgingId, purgingChunk, purgingSweep};
-ghost use Rattle.sweeping.specs.Going.{nextPlace};
-ghost use Rattle.purge_answer.specs.Part.{Fit, Purgeable, Stays, placeOf, countOf, sweepFor, purgeLeft};
+ghost use Rattle.open_purge.specs.Asked.{purgingId, purgingChunk, purgingSweep};
+ghost use Rattle.purge_answer.specs.Part.{Fit, Purgeable, Stays, sweepFor, purgeLeft};
 use arena::Arena;
 use layer::Reply;
 use layer::State;
 use layer::Sweep;
 use sweeps::Stay;
-
-// The place of the arena that is asked about; past every slice where there is nothing to do.
-fn place_of(go: bool, state: State) -> usize
-    ensures { λ r. ⌜ r ≡ placeOf go state ⌝ }
-{
-    let q = state.question;
-    let p = answers::purging(q);
-    if go {
-        return p.id;
-    }
-    18446744073709551615
-}
-
-// How many arenas the sweep goes on over.
-fn count_of(go: bool, state: State) -> usize
-    ensures { λ r. ⌜ r ≡ countOf go state ⌝ }
-{
-    if go {
-        return state.count;
-    }
-    0
-}
 
 // The sweep with its answer counted.
 fn sweep_for(go: bool, state: State, granted: bool) -> Sweep
@@ -40,9 +17,9 @@ fn sweep_for(go: bool, state: State, granted: bool) -> Sweep
     ensures { λ r. ⌜ r ≡ sweepFor go state granted ⌝ }
 {
     let q = state.question;
-    let p = answers::purging(q);
+    let p = open_purge::purging(q);
     if go {
-        return answers::counted_sweep(p.sweep, granted);
+        return open_purge::counted_sweep(p.sweep, granted);
     }
     p.sweep
 }
@@ -60,9 +37,9 @@ fn purge_at(
     ensures { λ r. ⌜ (go ≡ true → Stays «chunk_size» (now (stamps .entry)) (state .count) (state .mark) granted a r (purgingId (state .question)) (purgingChunk (state .question)) (purgingSweep (state .question))) × (go ≡ false → r .asked ≡ true) ⌝ }
 {
     let q = state.question;
-    let p = answers::purging(q);
+    let p = open_purge::purging(q);
     if go {
-        return answers::purge_core(
+        return open_purge::purge_core(
             a,
             stamps,
             p.id,
@@ -81,28 +58,6 @@ fn purge_at(
     }
 }
 
-// Where the sweep goes on: past the last arena once a question is put.
-fn rest_from(i: usize, s: Stay, count: usize) -> usize
-    requires { ⌜ (s .asked ≡ false → i < 32) ⌝ }
-    ensures { λ r. ⌜ r ≡ nextPlace i (s .asked) count ⌝ }
-{
-    if s.asked {
-        return count;
-    }
-    i + 1
-}
-
-// The question of the arena, or what the arenas behind it say.
-fn pick(s: Stay, rest: Reply) -> Reply
-    ensures { λ r. ⌜ r ≡ cond (s .asked) (s .reply) rest ⌝ }
-{
-    let first = s.reply;
-    if s.asked {
-        return first;
-    }
-    rest
-}
-
 // The answer to the purge question that is open, where go says that it passes rows 1 and 3.
 pub fn purge_part(
     records: &mut [Arena],
@@ -117,15 +72,15 @@ pub fn purge_part(
         × (now (records .exit) ≡ cond go (purgeLeft «chunk_size» (now (records .entry)) (now (stamps .entry)) state granted .world .records) (now (records .entry)))
         × (now (stamps .exit) ≡ now (stamps .entry)) ⌝ }
 {
-    let i = place_of(go, state);
-    let count = count_of(go, state);
+    let i = purge_places::place_of(go, state);
+    let count = purge_places::count_of(go, state);
     let v = sweep_for(go, state, granted);
     let a = records::load_or(records, i);
     let s = purge_at(stamps, go, state, a, granted, chunk_size);
     let left = sweeping::arena_left(s);
     records::store_if(records, i, left);
-    let from = rest_from(i, s, count);
+    let from = purge_places::rest_from(i, s, count);
     let mark = sweeping::mark_of(state);
     let rest = sweeping::sweep_on(records, stamps, from, count, mark, v, chunk_size);
-    pick(s, rest)
+    purge_places::pick(s, rest)
 }

@@ -36,11 +36,11 @@ use Rattle.layer.specs.declared.State.{State}
 use Rattle.layer.specs.declared.Reply.{Reply}
 use Rattle.layer.specs.Step.{sweepOf}
 use Rattle.layer.proofs.Sweep as X
-use Rattle.purge_due.specs.Going.{sweepCount}
-use Rattle.purge_due.proofs.sweep_count as count′
-use Rattle.purge_due.proofs.sweep_count.Symbol.{name as #purge-due·sweep-count}
-use Rattle.purge_due.proofs.sweep_of as of′
-use Rattle.purge_due.proofs.sweep_of.Symbol.{name as #purge-due·sweep-of}
+use Rattle.sweep_start.specs.Start.{sweepCount}
+use Rattle.sweep_start.proofs.sweep_count as count′
+use Rattle.sweep_start.proofs.sweep_count.Symbol.{name as #sweep-start·sweep-count}
+use Rattle.sweep_start.proofs.sweep_of as of′
+use Rattle.sweep_start.proofs.sweep_of.Symbol.{name as #sweep-start·sweep-of}
 use Rattle.registers.specs.Core.{gated}
 use Rattle.registers.proofs.gate as gate′
 use Rattle.registers.proofs.gate.Symbol.{name as #registers·gate}
@@ -58,7 +58,7 @@ module _ {M : Type 1} (𝓤 : URA M) (H : Heap 𝓤) (A : Atoms 𝓤) (mem : Mem
   Gate = tripleOf 𝓤 H A gate′.signature (gate′.spec 𝓤 H A mem run)
 
 module _ {M : Type 1} {𝓤 : URA M} {H : Heap 𝓤} {A : Atoms 𝓤} {K : Type 0} {W : Given 𝓤 H A} {Γ : List (Item 𝓤)} {C : Calls 𝓤 H} {E : Env 𝓤 H} {xs : List Operand} {G : Goal 𝓤 H} {after : Val → Goal 𝓤 H} {i : Item 𝓤} where
-  pub sweep-count-step : K → Site K W Γ C E #purge-due·sweep-count xs G after → (mem : Memory → SProp 𝓤) (run : Routine → Fun 𝓤) → Triple 𝓤 (C #purge-due·sweep-count) (Counts 𝓤 H A mem run)
+  pub sweep-count-step : K → Site K W Γ C E #sweep-start·sweep-count xs G after → (mem : Memory → SProp 𝓤) (run : Routine → Fun 𝓤) → Triple 𝓤 (C #sweep-start·sweep-count) (Counts 𝓤 H A mem run)
       → (ok : Bool) → (s : State) (vs : Val) → Is Z.the-row s (vs ∷ [])
       → ((h : Item 𝓤) → Opds K W (h ∷ Γ) E xs (vbool ok ∷ vs ∷ []))
       → (sweepCount ok s < 2 ^ 64 → Seq K W (i ∷ Γ) (after (vint w64 (sweepCount ok s))))
@@ -68,7 +68,7 @@ module _ {M : Type 1} {𝓤 : URA M} {H : Heap 𝓤} {A : Atoms 𝓤} {K : Type 
       (owns-make 𝓤 H A (bool ∷ Z.the-row ∷ []) (Ises (bool ∷ Z.the-row ∷ [])) (bool-makes 𝓤 H A W, (LL.makes Z.the-type Z′.the-plain 𝓤 H A, tt)) (ok, (s, tt)) (vbool ok ∷ [], (vs ∷ [], tt)) (refl, (gs, tt))) tt (id⊢ 𝓤 _)
       (λ r. r ≡ sweepCount ok s) (λ r ws. id⊢ 𝓤 _) ops (λ v r is e. subst (λ (u : Val). Seq K W (i ∷ Γ) (after u)) (sym (ap only (is .0) ∙ ap (vint w64) e)) (k (subst (λ (m : ℕ). m < 2 ^ 64) e (is .1))))
 
-  pub sweep-of-step : K → Site K W Γ C E #purge-due·sweep-of xs G after → (mem : Memory → SProp 𝓤) (run : Routine → Fun 𝓤) → Triple 𝓤 (C #purge-due·sweep-of) (Begins 𝓤 H A mem run)
+  pub sweep-of-step : K → Site K W Γ C E #sweep-start·sweep-of xs G after → (mem : Memory → SProp 𝓤) (run : Routine → Fun 𝓤) → Triple 𝓤 (C #sweep-start·sweep-of) (Begins 𝓤 H A mem run)
       → (force : Bool) → (ns : ℕ) → ns < 2 ^ 64 → (settings : Settings) (vsettings : Val) → Is D.the-row settings (vsettings ∷ [])
       → ((h : Item 𝓤) → Opds K W (h ∷ Γ) E xs (vbool force ∷ vint w64 ns ∷ vsettings ∷ []))
       → ((v : Val) → Is X.the-row (sweepOf force ns settings) (v ∷ []) → Seq K W (i ∷ Γ) (after v))

@@ -1,18 +1,17 @@
 // Runs the worked cases of document 01 on the compiled code and prints a table: what is computed, our
 // answer, what document 01 says. Then a picture of a slice pool, from which the lowest run is taken.
 // No contract can say what is printed, so all that prints stands here, and nothing here is public. What
-// is printed comes from functions that are: the libraries', and those of the modules below. The answer
-// of each is fixed by an `ensures`.
+// is printed comes from functions that are: the libraries', and those of `worked_parts`. The answer of
+// each is fixed by an `ensures`.
 //
 // The cases are document 01's "Worked by hand", but for its lines on managing and adopting, whose calls
 // are on the lent table of arenas (`cases` and `layer_cases` compute those), and the slice pool's rows of
 // "Turned down". A refusal is shown by its number there.
-mod numbers;
-mod picture;
-mod tally;
-
 use libc::STDOUT_FILENO;
-use tally::Tally;
+use worked_parts::numbers;
+use worked_parts::picture;
+use worked_parts::tally;
+use worked_parts::tally::Tally;
 ghost use Prim.Native.Nat.{_≤_};
 ghost use lib.ListN.{length};
 

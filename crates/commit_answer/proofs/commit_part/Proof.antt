@@ -43,7 +43,7 @@ use Rattle.layer.specs.Table.{at}
 use Rattle.layer.specs.Answering.{commitArena, commitReply}
 use Rattle.claims.proofs.Served as D
 use Rattle.claims.proofs.Served.Laws as D′
-use Rattle.answers.specs.Core.{committingId, committingStart, committingLength}
+use Rattle.open_commit.specs.Asked.{committingId, committingStart, committingLength}
 use Rattle.records.proofs.Walk.{Loan, Known, lent, sliceOf}
 use Rattle.records.proofs.Locals.{enters, used}
 use Rattle.records.proofs.Calls.{in-seq}

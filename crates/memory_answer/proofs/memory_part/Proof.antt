@@ -46,7 +46,8 @@ use Rattle.memory.proofs.Memory.Laws as X′
 use Rattle.writing.proofs.Writing as Y
 use Rattle.writing.proofs.Writing.Laws as Y′
 use Rattle.writing.proofs.WriteSteps.{Write, write-step}
-use Rattle.memory_answer.specs.Part.{writingOf, foundOf, againReply, againRecords, Reservable, memoryLeft}
+use Rattle.memory_parts.specs.Parts.{writingOf}
+use Rattle.memory_answer.specs.Part.{foundOf, againReply, againRecords, Reservable, memoryLeft}
 use Rattle.records.proofs.Walk.{Loan, Known, lent, sliceOf}
 use Rattle.records.proofs.Locals.{enters, used}
 use Rattle.records.proofs.Calls.{in-seq}
@@ -56,9 +57,9 @@ use Rattle.memory_answer.proofs.Steps.{MemoryDecided, AsWritten, Search
 use Rattle.memory_answer.proofs.memory_decided.Symbol as memory-decided-def
 use Rattle.memory_answer.proofs.memory_decided.Symbol.{name as #memory-answer·memory-decided}
 use Rattle.memory_answer.proofs.memory_decided.Met as memory-decided-thm
-use Rattle.memory_answer.proofs.as_written.Symbol as as-written-def
-use Rattle.memory_answer.proofs.as_written.Symbol.{name as #memory-answer·as-written}
-use Rattle.memory_answer.proofs.as_written.Met as as-written-thm
+use Rattle.memory_parts.proofs.as_written.Symbol as as-written-def
+use Rattle.memory_parts.proofs.as_written.Symbol.{name as #memory-parts·as-written}
+use Rattle.memory_parts.proofs.as_written.Met as as-written-thm
 use Rattle.writing.proofs.write.Symbol as write-def
 use Rattle.writing.proofs.write.Symbol.{name as #writing·write}
 use Rattle.writing.proofs.write.Met as write-thm
@@ -72,7 +73,7 @@ use Rattle.memory_answer.proofs.memory_part.Code as code
 
 module _ {M : Type 1} (𝓤 : URA M) (H : Heap 𝓤) (A : Atoms 𝓤) (W : Given 𝓤 H A) (mem : Memory → SProp 𝓤) (run : Routine → Fun 𝓤) (𝓣 : Tables 𝓤 H)
     (known-memory-decided : Triple 𝓤 (𝓣 .C #memory-answer·memory-decided) (MemoryDecided 𝓤 H A mem run))
-    (known-as-written : Triple 𝓤 (𝓣 .C #memory-answer·as-written) (AsWritten 𝓤 H A mem run))
+    (known-as-written : Triple 𝓤 (𝓣 .C #memory-parts·as-written) (AsWritten 𝓤 H A mem run))
     (known-write : Triple 𝓤 (𝓣 .C #writing·write) (Write 𝓤 H A mem run))
     (known-search-again : Triple 𝓤 (𝓣 .C #memory-answer·search-again) (SearchAgain 𝓤 H A mem run)) where
   module _ (κ κ′ : Lft) (q q′ : Share) (γ γ′ : GName) (b o b′ o′ : ℕ) (ys : List Arena) (us : List ℕ) (go : Bool) (s : State) (granted : Bool) (base : ℕ) (S : ℕ) where
@@ -137,6 +138,6 @@ memory-part-spec 𝓤 H 𝓜 𝓖 𝓡 =
     (tables 𝓤 H 𝓜 𝓡 code.env .C) (tables 𝓤 H 𝓜 𝓡 code.env .Λ) #memory-answer·memory-part code.function (code.unfolded 𝓤 H 𝓜 𝓡)
     (memory-part-meets 𝓤 H (𝓖 .A) (givenOf 𝓤 H 𝓜 𝓖) (𝓜 .mem) (𝓡 .run) (tablesOf 𝓤 H 𝓜 (tables 𝓤 H 𝓜 𝓡 code.env))
     (cited 𝓤 H (MemoryDecided 𝓤 H (𝓖 .A) (𝓜 .mem) (𝓡 .run)) 𝓜 𝓡 code.env #memory-answer·memory-decided memory-decided-def.routine code.calls-memory-answer·memory-decided (memory-decided-thm.met 𝓤 H 𝓜 𝓖 𝓡))
-    (cited 𝓤 H (AsWritten 𝓤 H (𝓖 .A) (𝓜 .mem) (𝓡 .run)) 𝓜 𝓡 code.env #memory-answer·as-written as-written-def.routine code.calls-memory-answer·as-written (as-written-thm.met 𝓤 H 𝓜 𝓖 𝓡))
+    (cited 𝓤 H (AsWritten 𝓤 H (𝓖 .A) (𝓜 .mem) (𝓡 .run)) 𝓜 𝓡 code.env #memory-parts·as-written as-written-def.routine code.calls-memory-parts·as-written (as-written-thm.met 𝓤 H 𝓜 𝓖 𝓡))
     (cited 𝓤 H (Write 𝓤 H (𝓖 .A) (𝓜 .mem) (𝓡 .run)) 𝓜 𝓡 code.env #writing·write write-def.routine code.calls-writing·write (write-thm.met 𝓤 H 𝓜 𝓖 𝓡))
     (cited 𝓤 H (SearchAgain 𝓤 H (𝓖 .A) (𝓜 .mem) (𝓡 .run)) 𝓜 𝓡 code.env #memory-answer·search-again search-again-def.routine code.calls-memory-answer·search-again (search-again-thm.met 𝓤 H 𝓜 𝓖 𝓡)))

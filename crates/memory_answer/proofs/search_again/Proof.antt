@@ -63,12 +63,12 @@ use Rattle.table.proofs.Steps.{Scan, scan-step}
 use Rattle.entry.proofs.EntrySteps.{Stored, stored-step}
 use Rattle.memory_answer.proofs.PartLaws.{again-found}
 use Rattle.memory_answer.proofs.Steps.{AgainQuery, SearchOf, RecordOf, ReplyOf, Ended, again-query-step, search-of-step, record-of-step, reply-of-step, ended-step}
-use Rattle.memory_answer.proofs.search_of.Symbol as search-of-def
-use Rattle.memory_answer.proofs.search_of.Symbol.{name as #memory-answer·search-of}
-use Rattle.memory_answer.proofs.search_of.Met as search-of-thm
-use Rattle.memory_answer.proofs.again_query.Symbol as again-query-def
-use Rattle.memory_answer.proofs.again_query.Symbol.{name as #memory-answer·again-query}
-use Rattle.memory_answer.proofs.again_query.Met as again-query-thm
+use Rattle.memory_parts.proofs.search_of.Symbol as search-of-def
+use Rattle.memory_parts.proofs.search_of.Symbol.{name as #memory-parts·search-of}
+use Rattle.memory_parts.proofs.search_of.Met as search-of-thm
+use Rattle.memory_parts.proofs.again_query.Symbol as again-query-def
+use Rattle.memory_parts.proofs.again_query.Symbol.{name as #memory-parts·again-query}
+use Rattle.memory_parts.proofs.again_query.Met as again-query-thm
 use Rattle.table.proofs.scan.Symbol as scan-def
 use Rattle.table.proofs.scan.Symbol.{name as #table·scan}
 use Rattle.table.proofs.scan.Met as scan-thm
@@ -96,8 +96,8 @@ use Rattle.memory_answer.proofs.search_again.Statement as stated
 use Rattle.memory_answer.proofs.search_again.Code as code
 
 module _ {M : Type 1} (𝓤 : URA M) (H : Heap 𝓤) (A : Atoms 𝓤) (W : Given 𝓤 H A) (mem : Memory → SProp 𝓤) (run : Routine → Fun 𝓤) (𝓣 : Tables 𝓤 H)
-    (known-search-of : Triple 𝓤 (𝓣 .C #memory-answer·search-of) (SearchOf 𝓤 H A mem run))
-    (known-again-query : Triple 𝓤 (𝓣 .C #memory-answer·again-query) (AgainQuery 𝓤 H A mem run))
+    (known-search-of : Triple 𝓤 (𝓣 .C #memory-parts·search-of) (SearchOf 𝓤 H A mem run))
+    (known-again-query : Triple 𝓤 (𝓣 .C #memory-parts·again-query) (AgainQuery 𝓤 H A mem run))
     (known-scan : Triple 𝓤 (𝓣 .C #table·scan) (Scan 𝓤 H A mem run))
     (known-stored-at : Triple 𝓤 (𝓣 .C #entry·stored-at) (Stored 𝓤 H A mem run))
     (known-load-or : Triple 𝓤 (𝓣 .C #records·load-or) (LoadOr 𝓤 H A mem run))
@@ -177,8 +177,8 @@ search-again-spec 𝓤 H 𝓜 𝓖 𝓡 =
     entered 𝓤 H (tripleOf 𝓤 H (𝓖 .A) search-again′.signature (search-again′.spec 𝓤 H (𝓖 .A) (𝓜 .mem) (𝓡 .run)))
     (tables 𝓤 H 𝓜 𝓡 code.env .C) (tables 𝓤 H 𝓜 𝓡 code.env .Λ) #memory-answer·search-again code.function (code.unfolded 𝓤 H 𝓜 𝓡)
     (search-again-meets 𝓤 H (𝓖 .A) (givenOf 𝓤 H 𝓜 𝓖) (𝓜 .mem) (𝓡 .run) (tablesOf 𝓤 H 𝓜 (tables 𝓤 H 𝓜 𝓡 code.env))
-    (cited 𝓤 H (SearchOf 𝓤 H (𝓖 .A) (𝓜 .mem) (𝓡 .run)) 𝓜 𝓡 code.env #memory-answer·search-of search-of-def.routine code.calls-memory-answer·search-of (search-of-thm.met 𝓤 H 𝓜 𝓖 𝓡))
-    (cited 𝓤 H (AgainQuery 𝓤 H (𝓖 .A) (𝓜 .mem) (𝓡 .run)) 𝓜 𝓡 code.env #memory-answer·again-query again-query-def.routine code.calls-memory-answer·again-query (again-query-thm.met 𝓤 H 𝓜 𝓖 𝓡))
+    (cited 𝓤 H (SearchOf 𝓤 H (𝓖 .A) (𝓜 .mem) (𝓡 .run)) 𝓜 𝓡 code.env #memory-parts·search-of search-of-def.routine code.calls-memory-parts·search-of (search-of-thm.met 𝓤 H 𝓜 𝓖 𝓡))
+    (cited 𝓤 H (AgainQuery 𝓤 H (𝓖 .A) (𝓜 .mem) (𝓡 .run)) 𝓜 𝓡 code.env #memory-parts·again-query again-query-def.routine code.calls-memory-parts·again-query (again-query-thm.met 𝓤 H 𝓜 𝓖 𝓡))
     (cited 𝓤 H (Scan 𝓤 H (𝓖 .A) (𝓜 .mem) (𝓡 .run)) 𝓜 𝓡 code.env #table·scan scan-def.routine code.calls-table·scan (scan-thm.met 𝓤 H 𝓜 𝓖 𝓡))
     (cited 𝓤 H (Stored 𝓤 H (𝓖 .A) (𝓜 .mem) (𝓡 .run)) 𝓜 𝓡 code.env #entry·stored-at stored-at-def.routine code.calls-entry·stored-at (stored-at-thm.met 𝓤 H 𝓜 𝓖 𝓡))
     (cited 𝓤 H (LoadOr 𝓤 H (𝓖 .A) (𝓜 .mem) (𝓡 .run)) 𝓜 𝓡 code.env #records·load-or load-or-def.routine code.calls-records·load-or (load-or-thm.met 𝓤 H 𝓜 𝓖 𝓡))

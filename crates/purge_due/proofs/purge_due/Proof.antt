@@ -60,7 +60,7 @@ use Rattle.table.proofs.Steps.{Row, row-step}
 use Rattle.table.proofs.row_one.Symbol as row-def
 use Rattle.table.proofs.row_one.Symbol.{name as #table·row-one}
 use Rattle.table.proofs.row_one.Met as row-thm
-use Rattle.purge_due.specs.Going.{sweepCount}
+use Rattle.sweep_start.specs.Start.{sweepCount}
 use Rattle.purge_due.proofs.CallLaws.{sweepable, swept, comes}
 use Rattle.records.proofs.Big.{big-lit}
 use Rattle.entry.proofs.EntrySteps.{Page, page-step}
@@ -73,12 +73,12 @@ use Rattle.entry.proofs.page_of.Met as page-thm
 use Rattle.sweeping.proofs.mark_of.Symbol as mark-def
 use Rattle.sweeping.proofs.mark_of.Symbol.{name as #sweeping·mark-of}
 use Rattle.sweeping.proofs.mark_of.Met as mark-thm
-use Rattle.purge_due.proofs.sweep_count.Symbol as count-def
-use Rattle.purge_due.proofs.sweep_count.Symbol.{name as #purge-due·sweep-count}
-use Rattle.purge_due.proofs.sweep_count.Met as count-thm
-use Rattle.purge_due.proofs.sweep_of.Symbol as of-def
-use Rattle.purge_due.proofs.sweep_of.Symbol.{name as #purge-due·sweep-of}
-use Rattle.purge_due.proofs.sweep_of.Met as of-thm
+use Rattle.sweep_start.proofs.sweep_count.Symbol as count-def
+use Rattle.sweep_start.proofs.sweep_count.Symbol.{name as #sweep-start·sweep-count}
+use Rattle.sweep_start.proofs.sweep_count.Met as count-thm
+use Rattle.sweep_start.proofs.sweep_of.Symbol as of-def
+use Rattle.sweep_start.proofs.sweep_of.Symbol.{name as #sweep-start·sweep-of}
+use Rattle.sweep_start.proofs.sweep_of.Met as of-thm
 use Rattle.sweeping.proofs.sweep_on.Symbol as on-def
 use Rattle.sweeping.proofs.sweep_on.Symbol.{name as #sweeping·sweep-on}
 use Rattle.sweeping.proofs.sweep_on.Met as on-thm
@@ -89,7 +89,7 @@ use Rattle.purge_due.proofs.purge_due.Code as code
 
 module _ {M : Type 1} (𝓤 : URA M) (H : Heap 𝓤) (A : Atoms 𝓤) (W : Given 𝓤 H A) (mem : Memory → SProp 𝓤) (run : Routine → Fun 𝓤) (𝓣 : Tables 𝓤 H)
     (known-page : Triple 𝓤 (𝓣 .C #entry·page-of) (Page 𝓤 H A mem run)) (known-mark : Triple 𝓤 (𝓣 .C #sweeping·mark-of) (Marks 𝓤 H A mem run))
-    (known-row : Triple 𝓤 (𝓣 .C #table·row-one) (Row 𝓤 H A mem run)) (known-count : Triple 𝓤 (𝓣 .C #purge-due·sweep-count) (Counts 𝓤 H A mem run)) (known-of : Triple 𝓤 (𝓣 .C #purge-due·sweep-of) (Begins 𝓤 H A mem run))
+    (known-row : Triple 𝓤 (𝓣 .C #table·row-one) (Row 𝓤 H A mem run)) (known-count : Triple 𝓤 (𝓣 .C #sweep-start·sweep-count) (Counts 𝓤 H A mem run)) (known-of : Triple 𝓤 (𝓣 .C #sweep-start·sweep-of) (Begins 𝓤 H A mem run))
     (known-on : Triple 𝓤 (𝓣 .C #sweeping·sweep-on) (On 𝓤 H A mem run)) (known-gate : Triple 𝓤 (𝓣 .C #registers·gate) (Gate 𝓤 H A mem run)) where
   module _ (κ κ′ : Lft) (q q′ : Share) (γ γ′ : GName) (b o b′ o′ : ℕ) (ys : List Arena) (us : List ℕ) (s : State) (ns : ℕ) (settings : Settings) (force : Bool) where
     abbrev L : Loan
@@ -164,7 +164,7 @@ purge-due-spec 𝓤 H 𝓜 𝓖 𝓡 =
     (cited 𝓤 H (Page 𝓤 H (𝓖 .A) (𝓜 .mem) (𝓡 .run)) 𝓜 𝓡 code.env #entry·page-of page-def.routine code.calls-entry·page-of (page-thm.met 𝓤 H 𝓜 𝓖 𝓡))
     (cited 𝓤 H (Marks 𝓤 H (𝓖 .A) (𝓜 .mem) (𝓡 .run)) 𝓜 𝓡 code.env #sweeping·mark-of mark-def.routine code.calls-sweeping·mark-of (mark-thm.met 𝓤 H 𝓜 𝓖 𝓡))
     (cited 𝓤 H (Row 𝓤 H (𝓖 .A) (𝓜 .mem) (𝓡 .run)) 𝓜 𝓡 code.env #table·row-one row-def.routine code.calls-table·row-one (row-thm.met 𝓤 H 𝓜 𝓖 𝓡))
-    (cited 𝓤 H (Counts 𝓤 H (𝓖 .A) (𝓜 .mem) (𝓡 .run)) 𝓜 𝓡 code.env #purge-due·sweep-count count-def.routine code.calls-purge-due·sweep-count (count-thm.met 𝓤 H 𝓜 𝓖 𝓡))
-    (cited 𝓤 H (Begins 𝓤 H (𝓖 .A) (𝓜 .mem) (𝓡 .run)) 𝓜 𝓡 code.env #purge-due·sweep-of of-def.routine code.calls-purge-due·sweep-of (of-thm.met 𝓤 H 𝓜 𝓖 𝓡))
+    (cited 𝓤 H (Counts 𝓤 H (𝓖 .A) (𝓜 .mem) (𝓡 .run)) 𝓜 𝓡 code.env #sweep-start·sweep-count count-def.routine code.calls-sweep-start·sweep-count (count-thm.met 𝓤 H 𝓜 𝓖 𝓡))
+    (cited 𝓤 H (Begins 𝓤 H (𝓖 .A) (𝓜 .mem) (𝓡 .run)) 𝓜 𝓡 code.env #sweep-start·sweep-of of-def.routine code.calls-sweep-start·sweep-of (of-thm.met 𝓤 H 𝓜 𝓖 𝓡))
     (cited 𝓤 H (On 𝓤 H (𝓖 .A) (𝓜 .mem) (𝓡 .run)) 𝓜 𝓡 code.env #sweeping·sweep-on on-def.routine code.calls-sweeping·sweep-on (on-thm.met 𝓤 H 𝓜 𝓖 𝓡))
     (cited 𝓤 H (Gate 𝓤 H (𝓖 .A) (𝓜 .mem) (𝓡 .run)) 𝓜 𝓡 code.env #registers·gate gate-def.routine code.calls-registers·gate (gate-thm.met 𝓤 H 𝓜 𝓖 𝓡)))

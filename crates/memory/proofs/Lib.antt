@@ -1,3 +1,0 @@
-pub mod DecisionLaws
-pub mod MemoryLaws
-pub mod FoundLaws

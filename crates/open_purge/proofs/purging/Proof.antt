@@ -1,0 +1,68 @@
+-- `open_purge::purging` meets its contract. Assumes nothing.
+use mathlib.Core.Path.{sym, ap}
+use Rattle.open_purge.specs.Asked.{purgingId, purgingChunk, purgingSweep}
+use borrow.Author.Needs.{needs}
+use Rattle.open_purge.proofs.purging.Statement.{statement}
+use Rattle.open_purge.proofs.purging.Tie as tie
+
+enum-told : tie.Need-enum-told
+enum-told c = search needs
+
+none-purged-requires : tie.Need-none-purged-requires
+none-purged-requires c κs = search needs
+
+enum-told-2 : tie.Need-enum-told-2
+enum-told-2 c = search needs
+
+none-purged-requires-2 : tie.Need-none-purged-requires-2
+none-purged-requires-2 c κs = search needs
+
+enum-known-q : tie.Need-enum-known-q
+enum-known-q c = search needs
+
+enum-told-3 : tie.Need-enum-told-3
+enum-told-3 c = search needs
+
+none-purged-requires-3 : tie.Need-none-purged-requires-3
+none-purged-requires-3 c κs = search needs
+
+enum-told-4 : tie.Need-enum-told-4
+enum-told-4 c = search needs
+
+none-purged-requires-4 : tie.Need-none-purged-requires-4
+none-purged-requires-4 c κs = search needs
+
+returns : tie.Need-returns
+returns c = search needs
+
+returns-2 : tie.Need-returns-2
+returns-2 c = search needs
+
+returns-3 : tie.Need-returns-3
+returns-3 c =
+    let e = c .before .q .given .1 in (sym (ap purgingId e), sym (ap purgingChunk e), sym (ap purgingSweep e))
+
+returns-4 : tie.Need-returns-4
+returns-4 c = search needs
+
+returns-5 : tie.Need-returns-5
+returns-5 c = search needs
+
+pub purging-spec : {M : Type 1} → statement M
+purging-spec =
+    tie.close
+    (tie.spec
+    enum-told
+    none-purged-requires
+    enum-told-2
+    none-purged-requires-2
+    enum-known-q
+    enum-told-3
+    none-purged-requires-3
+    enum-told-4
+    none-purged-requires-4
+    returns
+    returns-2
+    returns-3
+    returns-4
+    returns-5)

@@ -1,3 +1,3 @@
 mod Cuts
 mod Laws
-mod Steps
+pub mod Steps

@@ -19,7 +19,7 @@ fn arm_in(deadline: &mut u32, due: u32)
 }
 
 // The deadline of a record armed.
-pub fn arm_at(records: &mut [Arena], i: usize, due: u32)
+fn arm_at(records: &mut [Arena], i: usize, due: u32)
     requires { ⌜ i < length (now records) ⌝ }
     ensures { λ _. ⌜ now (records .exit) ≡ set (now (records .entry)) i (withDeadline (getD (now (records .entry)) i blank) (armed (getD (now (records .entry)) i blank .deadline) due)) ⌝ }
 {
@@ -39,7 +39,7 @@ fn tell_row(row: &mut [u32; 32], s: usize, n: usize, told: Commitment)
 }
 
 // The run's committed bits set, cleared or left, as the release says.
-pub fn tell_at(records: &mut [Arena], i: usize, s: usize, n: usize, told: Commitment)
+fn tell_at(records: &mut [Arena], i: usize, s: usize, n: usize, told: Commitment)
     requires { ⌜ (i < length (now records)) × (s + n ≤ 1024) ⌝ }
     ensures { λ _. ⌜ now (records .exit) ≡ set (now (records .entry)) i (tellRun (getD (now (records .entry)) i blank) s n told) ⌝ }
 {

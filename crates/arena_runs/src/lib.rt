@@ -1,9 +1,9 @@
-// Runs of one arena's chunks, by value: taken, given back, committed, dirtied, released. A used bit is written by
+// Runs of one arena's chunks, by value: taken, given back, committed, dirtied, told. A used bit is written by
 // take_run and give_back_run alone, beside registering and growth.
 ghost use mathlib.Core.Path.{_≡_};
 ghost use Prim.Native.Nat.{_+_, _≤_};
 ghost use Rattle.arena.specs.Claiming.{takeRun, giveBackRun, commitRun, dirtyRun, finishGrant};
-ghost use Rattle.arena.specs.Releasing.{tellRun, pendRun, releaseRun};
+ghost use Rattle.arena.specs.Releasing.{tellRun};
 use arena::Arena;
 use arena::Commitment;
 
@@ -72,35 +72,4 @@ pub fn tell_run(a: Arena, s: usize, n: usize, told: Commitment) -> Arena
             b
         }
     }
-}
-
-// The run's pending bits set, and the deadline armed.
-fn pend_run(a: Arena, s: usize, n: usize, now: u32, delay: u32) -> Arena
-    requires { ⌜ s + n ≤ 1024 ⌝ }
-    ensures { λ r. ⌜ r ≡ pendRun a s n now delay ⌝ }
-{
-    let mut b = a;
-    words::set_row(&mut b.pending, s, n);
-    b.deadline = clock::arm(a.deadline, clock::due_at(now, delay));
-    b
-}
-
-// What a release makes of the record; its stamps are stamp_run's.
-pub fn release_run(
-    a: Arena,
-    s: usize,
-    n: usize,
-    told: Commitment,
-    pending: bool,
-    now: u32,
-    delay: u32,
-) -> Arena
-    requires { ⌜ s + n ≤ 1024 ⌝ }
-    ensures { λ r. ⌜ r ≡ releaseRun a s n told pending now delay ⌝ }
-{
-    let b = tell_run(give_back_run(a, s, n), s, n, told);
-    if pending {
-        return pend_run(b, s, n, now, delay);
-    }
-    b
 }

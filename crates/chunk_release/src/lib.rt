@@ -1,5 +1,5 @@
-// `chunk_release` over the lent table: row 1, one scan, one store, and the stamps. All decisions are made by
-// value, in the crates below.
+// `chunk_release` over the lent table: row 1, one scan, the release in the record that it found, and the stamps.
+// All decisions are made by value, in the crates below, and no record is copied.
 ghost use mathlib.Core.Path.{_≡_};
 ghost use Rattle.clock.specs.Clock.{nowMs, delayMs};
 ghost use Rattle.layer.specs.World.{worldOf, Leaves};
@@ -54,11 +54,12 @@ pub fn chunk_release(
     let k = releases::release_count(ok, state, n);
     let f = table::scan(records, k, CHUNK, entry::holds_query(address));
     let i = entry::stored_at(f);
-    let a = records::load_or(records, i);
+    let h = table::head_or(records, i);
+    let on = releases::is_granted(h, address, n, f, CHUNK);
+    let s = releases::start_of(h, address, CHUNK);
     let ms = release_ms(ns);
     let delay = release_delay(settings);
-    let b = releases::release_arena(address, n, told, pending, ms, delay, f, a, CHUNK);
-    records::store_if(records, i, b);
-    releases::release_stamps(stamps, address, n, pending, ms, f, a, CHUNK);
-    releases::release_answer(ok, state, address, n, f, a, CHUNK)
+    release_at::release_if(records, on, i, s, n, told, pending, ms, delay);
+    releases::release_stamps(stamps, address, n, pending, ms, f, h, CHUNK);
+    releases::release_answer(ok, state, address, n, f, h, CHUNK)
 }

@@ -3,10 +3,10 @@
 ghost use mathlib.Core.Path.{_≡_};
 ghost use Prim.Native.Nat.{_+_, _<_, _≤_};
 ghost use lib.ListN.{length, getD, set};
-ghost use Rattle.words.specs.Rows.{setRun, clearRun};
+ghost use Rattle.words.specs.Rows.{setRun};
 ghost use Rattle.layer.specs.World.{blank};
-ghost use Rattle.arena.specs.Record.{withCommitted, withPending};
-ghost use Rattle.arena.specs.Claiming.{takeRun, giveBackRun, commitRun, dirtyRun};
+ghost use Rattle.arena.specs.Record.{withPending};
+ghost use Rattle.arena.specs.Claiming.{takeRun, giveBackRun, dirtyRun};
 use arena::Arena;
 
 // The run's used bits set.
@@ -23,22 +23,6 @@ pub fn give_back_at(records: &mut [Arena], i: usize, s: usize, n: usize)
     ensures { λ _. ⌜ now (records .exit) ≡ set (now (records .entry)) i (giveBackRun (getD (now (records .entry)) i blank) s n) ⌝ }
 {
     words::clear_row(&mut records[i].used, s, n);
-}
-
-// The run's committed bits set.
-pub fn commit_at(records: &mut [Arena], i: usize, s: usize, n: usize)
-    requires { ⌜ (i < length (now records)) × (s + n ≤ 1024) ⌝ }
-    ensures { λ _. ⌜ now (records .exit) ≡ set (now (records .entry)) i (commitRun (getD (now (records .entry)) i blank) s n) ⌝ }
-{
-    words::set_row(&mut records[i].committed, s, n);
-}
-
-// The run's committed bits cleared.
-pub fn uncommit_at(records: &mut [Arena], i: usize, s: usize, n: usize)
-    requires { ⌜ (i < length (now records)) × (s + n ≤ 1024) ⌝ }
-    ensures { λ _. ⌜ now (records .exit) ≡ set (now (records .entry)) i (withCommitted (getD (now (records .entry)) i blank) (clearRun (getD (now (records .entry)) i blank .committed) s n)) ⌝ }
-{
-    words::clear_row(&mut records[i].committed, s, n);
 }
 
 // The run's dirty bits set.

@@ -8,7 +8,6 @@ use native.Mathlib.Omega.{arith}
 use borrow.Author.Tests.{eqb-true, leb-true}
 use lib.Dec.{eqb, leb}
 use lib.ListN.{length, set}
-use lib.Seq.{set-getD}
 use Rattle.refusals.specs.declared.Refusal.the-variants.{Broken, QuestionOpen, Zero}
 use Rattle.clock.specs.Clock.{nowMs, delayMs}
 use Rattle.runs.specs.declared.Found.{Found}
@@ -35,13 +34,7 @@ use Rattle.layer.specs.Step.{release, gate, step}
 use Rattle.registers.specs.Core.{isIdle, gated, storedAt}
 use Rattle.words.proofs.Tests.{when, unless}
 use Rattle.registers.proofs.DecisionLaws.{and-first, and-second}
-use Rattle.releases.specs.Core.{releaseCount, foundReply, releaseAnswer, releaseArena, stampsAfter}
-
--- ---- the store
-
--- a store of what stands there
-pub set-same : (l : List Arena) (x : ℕ) → set l x (at l x) ≡ l
-set-same l x = set-getD l x _
+use Rattle.releases.specs.Core.{releaseCount, granted, foundReply, releaseAnswer, recordsAfter, stampsAfter}
 
 -- ---- the gate
 
@@ -106,7 +99,7 @@ module _ (S : ℕ) (l : List Arena) (stamps : List ℕ) (k : ℕ) (mark : Bool) 
 
   -- the records and the stamps, by what the scan found
   abbrev written : Reply → Found → Outcome
-  written r f = after r (set l (storedAt f) (releaseArena S address n told pending ms delay f (arenaAt f))) (stampsAfter S stamps address n pending ms f (arenaAt f))
+  written r f = after r (recordsAfter S l address n told pending ms delay f (arenaAt f)) (stampsAfter S stamps address n pending ms f (arenaAt f))
 
   abbrev out : Found → Outcome
   out f = written (releaseAnswer S ok state address n f (arenaAt f)) f
@@ -114,16 +107,11 @@ module _ (S : ℕ) (l : List Arena) (stamps : List ℕ) (k : ℕ) (mark : Bool) 
   abbrev scan : ℕ → Found
   scan c = least (λ i. isInside S (at l i) address) 0 c
 
-  -- nothing found: nothing written
-  kept : set l 32 (releaseArena S address n told pending ms delay Nothing (at l 32)) ≡ l
-  unfolding releaseArena
-  kept = set-same l 32
-
   -- turned down before the search: no record is looked at
   unsearched : (r : Reply) → 0 ≡ releaseCount ok state n → releaseAnswer S ok state address n Nothing (at l 32) ≡ r
       → after r l stamps ≡ out (scan (releaseCount ok state n))
-  unfolding least
-  unsearched r c e = ap₂ (λ (x : Reply) (m : List Arena). after x m stamps) (sym e) (sym kept) ∙ ap (λ (c : ℕ). out (scan c)) c
+  unfolding least recordsAfter
+  unsearched r c e = ap (λ (x : Reply). after x l stamps) (sym e) ∙ ap (λ (c : ℕ). out (scan c)) c
 
   -- the reply of each row
   answer-broken : (f : Found) (a : Arena) → ok ≡ false → releaseAnswer S ok state address n f a ≡ turnDown Broken state
@@ -143,16 +131,16 @@ module _ (S : ℕ) (l : List Arena) (stamps : List ℕ) (k : ℕ) (mark : Bool) 
   answer-found f a e i z = when _ _ _ e ∙ when _ _ _ i ∙ unless _ _ _ z
 
   -- the search's end
-  granted-step : (r : Reply) (i : ℕ) (run : Arena) (stamped : List ℕ) (b : Bool)
-      → cond b (after r (set l i run) (cond pending stamped stamps)) (after r l stamps) ≡ after r (set l i (cond b run (at l i))) (cond (b && pending) stamped stamps)
-  granted-step r i run stamped true = refl
-  granted-step r i run stamped false = ap (λ (m : List Arena). after r m stamps) (sym (set-same l i))
+  granted-step : (r : Reply) (new : List Arena) (stamped : List ℕ) (b : Bool)
+      → cond b (after r new (cond pending stamped stamps)) (after r l stamps) ≡ after r (cond b new l) (cond (b && pending) stamped stamps)
+  granted-step r new stamped true = refl
+  granted-step r new stamped false = refl
 
   found-step : (f : Found) → releaseAt S l stamps k mark address n told pending ms delay f ≡ written (foundReply S state (arenaAt f) address n f) f
-  unfolding releaseArena
-  found-step Nothing = ap (λ (m : List Arena). after (foundReply S state (at l 32) address n Nothing) m stamps) (sym (set-same l 32))
+  unfolding recordsAfter
+  found-step Nothing = refl
   found-step (At i) =
-      granted-step (releaseReply S k mark (at l i) (address - at l i .base) n) i (releaseRun (at l i) ((address - at l i .base) / S) n told pending ms delay)
+      granted-step (releaseReply S k mark (at l i) (address - at l i .base) n) (set l i (releaseRun (at l i) ((address - at l i .base) / S) n told pending ms delay))
       (stampRun stamps (1024 * i + (address - at l i .base) / S) n ms) (releases S (at l i) (address - at l i .base) n)
 
   -- the release's own rows, and its search
@@ -177,14 +165,14 @@ module _ (S : ℕ) (l : List Arena) (stamps : List ℕ) (k : ℕ) (mark : Bool) 
       by-ok true e = when _ _ _ e ∙ by-question e (isIdle q) refl
       by-ok false e = unless _ _ _ e ∙ unsearched (turnDown Broken state) (count-broken ok state n e) (answer-broken Nothing (at l 32) e)
 
--- the layer's step is one scan of so many records, the release by value on the record that it found, one store and the stamps
+-- the layer's step is one scan of so many records, the release in the record that it found, and the stamps
 pub release-step : (S : ℕ) (l : List Arena) (stamps : List ℕ) (k : ℕ) (mark : Bool) (q : Question) (ns : ℕ) (settings : Settings) (address n : ℕ) (told : Commitment) (pending : Bool)
     → let state = stateOf k mark q in
     let ok = soundLent S l (length stamps) state (settings .page) in
     let f = least (λ i. isInside S (at l i) address) 0 (releaseCount ok state n) in
     let a = at l (storedAt f) in
     step S (worldOf l stamps state) ns settings (release address n told pending)
-    ≡ after (releaseAnswer S ok state address n f a) (set l (storedAt f) (releaseArena S address n told pending (nowMs ns) (delayMs (settings .delay)) f a))
+    ≡ after (releaseAnswer S ok state address n f a) (recordsAfter S l address n told pending (nowMs ns) (delayMs (settings .delay)) f a)
     (stampsAfter S stamps address n pending (nowMs ns) f a)
 release-step S l stamps k mark q ns settings address n told pending = whole S l stamps k mark q ns settings address n told pending
 
@@ -193,6 +181,7 @@ release-step S l stamps k mark q ns settings address n told pending = whole S l 
 module _ (S : ℕ) (l : List Arena) (stamps : ℕ) (state : State) (page : ℕ) where
   -- what row 1 says of lengths, count and records
   pub record Lent : Type 0 where
+    pub whole : length l ≡ 32
     pub long : stamps ≡ 32768
     pub few : state .count ≤ 32
     pub sounds : all (λ i. soundArena S (at l i)) 0 (state .count) ≡ true
@@ -205,26 +194,27 @@ module _ (S : ℕ) (l : List Arena) (stamps : ℕ) (state : State) (page : ℕ) 
       let c = and-both (pageSizeSound page) _ (b .1) in
       let d = and-both (leb (state .count) 32) _ (c .1) in
       record {
+        whole = eqb-true (length l) 32 (a .0);
         long = eqb-true stamps 32768 (b .0);
         few = leb-true (state .count) 32 (d .0);
         sounds = and-both (all (λ i. soundArena S (at l i)) 0 (state .count)) _ (d .1) .0;
       }
 
-  -- it is one of the table's, and of no more than 1,024 chunks; and all stamps are lent
+  -- it is one of the table's, which is lent whole, and of no more than 1,024 chunks; and all stamps are lent
   pub found-facts : (p : ℕ → Bool) (n x : ℕ) → least p 0 (releaseCount (soundLent S l stamps state page) state n) ≡ At x
-      → (at l x .chunks ≤ 1024) × (x < 32) × (stamps ≡ 32768)
+      → (at l x .chunks ≤ 1024) × (x < 32) × (stamps ≡ 32768) × (length l ≡ 32)
   found-facts p n x e = go (soundLent S l stamps state page) refl
     where
       found : First p 0 (releaseCount (soundLent S l stamps state page) state n) (At x)
       found = subst (First p 0 (releaseCount (soundLent S l stamps state page) state n)) e (first-says p 0 (releaseCount (soundLent S l stamps state page) state n))
 
-      go : (b : Bool) → soundLent S l stamps state page ≡ b → (at l x .chunks ≤ 1024) × (x < 32) × (stamps ≡ 32768)
+      go : (b : Bool) → soundLent S l stamps state page ≡ b → (at l x .chunks ≤ 1024) × (x < 32) × (stamps ≡ 32768) × (length l ≡ 32)
       go true o =
           let h : x < 0 + releaseCount (soundLent S l stamps state page) state n = found .1 in
           let c : releaseCount (soundLent S l stamps state page) state n ≤ state .count = count-most (soundLent S l stamps state page) state n in
           let t : Lent = lent-facts o in
           let m : state .count ≤ 32 = t .few in
-          (arena-facts S (at l x) (all-free-of (λ i. soundArena S (at l i)) 0 (state .count) (t .sounds) x (omega arith) (omega arith)) .range .few, omega arith, t .long)
+          (arena-facts S (at l x) (all-free-of (λ i. soundArena S (at l i)) 0 (state .count) (t .sounds) x (omega arith) (omega arith)) .range .few, omega arith, t .long, t .whole)
       go false o =
           let h : x < 0 + releaseCount (soundLent S l stamps state page) state n = found .1 in
           let c : 0 ≡ releaseCount (soundLent S l stamps state page) state n = count-broken (soundLent S l stamps state page) state n o in

@@ -4,6 +4,7 @@ use Prim.Native.Nat.{ℕ}
 use borrow.Author.Needs.{needs}
 use Rattle.layer.specs.Releasing.{releases}
 use Rattle.releases.specs.Core.{granted}
+use Rattle.judge.specs.Heads.{headed}
 use Rattle.releases.proofs.is_granted.Statement.{statement}
 use Rattle.releases.proofs.is_granted.Tie as tie
 
@@ -22,11 +23,11 @@ enum-told-2 c = search needs
 returns : tie.Need-returns
 returns c =
     let a = c .before .before .before .before .args in
-    c .fits2 .ensures ∙ ap (λ (x : ℕ). releases (a .chunk-size) (a .a) x (a .n)) (c .before .offset-of .ensures)
-    ∙ sym (ap (granted (a .chunk-size) (a .a) (a .address) (a .n)) (c .before .before .enum-told .given .1))
+    c .fits2 .ensures ∙ ap (λ (x : ℕ). releases (a .chunk-size) (headed (a .h)) x (a .n)) (c .before .offset-of .ensures)
+    ∙ sym (ap (granted (a .chunk-size) (headed (a .h)) (a .address) (a .n)) (c .before .before .enum-told .given .1))
 
 returns-2 : tie.Need-returns-2
-returns-2 c = let a = c .before .before .args in sym (ap (granted (a .chunk-size) (a .a) (a .address) (a .n)) (c .enum-told2 .given .1))
+returns-2 c = let a = c .before .before .args in sym (ap (granted (a .chunk-size) (headed (a .h)) (a .address) (a .n)) (c .enum-told2 .given .1))
 
 pub is-granted-spec : {M : Type 1} → statement M
 is-granted-spec =

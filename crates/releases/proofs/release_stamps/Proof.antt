@@ -10,6 +10,7 @@ use Rattle.runs.proofs.SearchLaws.{and-both}
 use Rattle.arena.specs.Releasing.{stampRun}
 use Rattle.layer.specs.Releasing.{releases}
 use Rattle.releases.specs.Core.{stampsAfter}
+use Rattle.judge.specs.Heads.{headed}
 use Rattle.releases.proofs.ReleaseLaws.{inside}
 use Rattle.releases.proofs.release_stamps.Statement.{statement}
 use Rattle.releases.proofs.release_stamps.Tie as tie
@@ -32,11 +33,11 @@ stamp-if-requires c κs on =
     let k = o .before in
     let a = k .before .before .before .before .args in
     let known = k .before .before .before .before .pre .1 (k .before .f .given .0 .0) (k .before .f .given .1) in
-    let e : releases (a .chunk-size) (a .a) (a .address - a .a .base) (a .n) && a .pending ≡ true =
-    ap (λ (x : ℕ). releases (a .chunk-size) (a .a) x (a .n) && a .pending) (sym (o .offset-of .ensures)) ∙ sym (c .before .is-pending .ensures) ∙ on in
-    let h : (a .address - a .a .base) / a .chunk-size + a .n ≤ a .a .chunks =
-    inside (a .chunk-size) (a .a) (a .address - a .a .base) (a .n) (and-both (releases (a .chunk-size) (a .a) (a .address - a .a .base) (a .n)) (a .pending) e .0) in
-    let q : o .offset-of .result / a .chunk-size ≡ (a .address - a .a .base) / a .chunk-size = ap (λ (x : ℕ). x / a .chunk-size) (o .offset-of .ensures) in
+    let e : releases (a .chunk-size) (headed (a .h)) (a .address - a .h .base) (a .n) && a .pending ≡ true =
+    ap (λ (x : ℕ). releases (a .chunk-size) (headed (a .h)) x (a .n) && a .pending) (sym (o .offset-of .ensures)) ∙ sym (c .before .is-pending .ensures) ∙ on in
+    let h : (a .address - a .h .base) / a .chunk-size + a .n ≤ a .h .chunks =
+    inside (a .chunk-size) (headed (a .h)) (a .address - a .h .base) (a .n) (and-both (releases (a .chunk-size) (headed (a .h)) (a .address - a .h .base) (a .n)) (a .pending) e .0) in
+    let q : o .offset-of .result / a .chunk-size ≡ (a .address - a .h .base) / a .chunk-size = ap (λ (x : ℕ). x / a .chunk-size) (o .offset-of .ensures) in
     (known .1, omega (arith, known .0), known .2)
 
 enum-told : tie.Need-enum-told
@@ -54,13 +55,13 @@ returns c =
     let o = s .before .before .before in
     s .stamp-if .ensures
     ∙ ap₂ (λ (b : Bool) (x : ℕ). cond b (stampRun (a .stamps .now) (1024 * i + x / a .chunk-size) (a .n) (a .ms)) (a .stamps .now))
-    (s .before .before .is-pending .ensures ∙ ap (λ (x : ℕ). releases (a .chunk-size) (a .a) x (a .n) && a .pending) (o .offset-of .ensures)) (o .offset-of .ensures)
-    ∙ sym (ap (λ f. stampsAfter (a .chunk-size) (a .stamps .now) (a .address) (a .n) (a .pending) (a .ms) f (a .a)) (k .before .f .given .1))
+    (s .before .before .is-pending .ensures ∙ ap (λ (x : ℕ). releases (a .chunk-size) (headed (a .h)) x (a .n) && a .pending) (o .offset-of .ensures)) (o .offset-of .ensures)
+    ∙ sym (ap (λ f. stampsAfter (a .chunk-size) (a .stamps .now) (a .address) (a .n) (a .pending) (a .ms) f (headed (a .h))) (k .before .f .given .1))
 
 returns-2 : tie.Need-returns-2
 returns-2 c =
     let a = c .before .before .before .args in
-    sym (ap (λ f. stampsAfter (a .chunk-size) (a .stamps .now) (a .address) (a .n) (a .pending) (a .ms) f (a .a)) (c .enum-told .given .1))
+    sym (ap (λ f. stampsAfter (a .chunk-size) (a .stamps .now) (a .address) (a .n) (a .pending) (a .ms) f (headed (a .h))) (c .enum-told .given .1))
 
 pub release-stamps-spec : {M : Type 1} → statement M
 release-stamps-spec =

@@ -5,6 +5,7 @@ use borrow.Author.Needs.{needs}
 use Rattle.layer.specs.World.{turnDown}
 use Rattle.layer.specs.Releasing.{releaseReply}
 use Rattle.releases.specs.Core.{foundReply}
+use Rattle.judge.specs.Heads.{headed}
 use Rattle.releases.proofs.reply_found.Statement.{statement}
 use Rattle.releases.proofs.reply_found.Tie as tie
 use Rattle.refusals.specs.declared.Refusal.the-variants.{NotInside}
@@ -30,14 +31,14 @@ turn-down-requires c κs = search needs
 returns : tie.Need-returns
 returns c =
     let a = c .before .before .before .before .args in
-    c .reply-in .ensures ∙ ap (λ (x : ℕ). releaseReply (a .chunk-size) (a .state .count) (a .state .mark) (a .a) x (a .n)) (c .before .offset-of .ensures)
-    ∙ sym (ap (foundReply (a .chunk-size) (a .state) (a .a) (a .address) (a .n)) (c .before .before .enum-told .given .1))
+    c .reply-in .ensures ∙ ap (λ (x : ℕ). releaseReply (a .chunk-size) (a .state .count) (a .state .mark) (headed (a .h)) x (a .n)) (c .before .offset-of .ensures)
+    ∙ sym (ap (foundReply (a .chunk-size) (a .state) (headed (a .h)) (a .address) (a .n)) (c .before .before .enum-told .given .1))
 
 returns-2 : tie.Need-returns-2
 returns-2 c =
     let a = c .before .before .before .before .args in
     c .turn-down .ensures ∙ ap (turnDown NotInside) (c .before .calm .ensures)
-    ∙ sym (ap (foundReply (a .chunk-size) (a .state) (a .a) (a .address) (a .n)) (c .before .before .enum-told2 .given .1))
+    ∙ sym (ap (foundReply (a .chunk-size) (a .state) (headed (a .h)) (a .address) (a .n)) (c .before .before .enum-told2 .given .1))
 
 pub reply-found-spec : {M : Type 1} → statement M
 reply-found-spec =

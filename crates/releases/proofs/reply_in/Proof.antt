@@ -9,6 +9,7 @@ use Rattle.layer.specs.declared.Answer.the-variants.{Released}
 use Rattle.layer.specs.World.{reply, turnDown}
 use Rattle.layer.specs.Releasing.{releaseReply}
 use Rattle.words.proofs.Tests.{when, unless}
+use Rattle.judge.specs.Heads.{headed}
 use Rattle.releases.proofs.ReleaseLaws.{whole}
 use Rattle.releases.proofs.reply_in.Statement.{statement}
 use Rattle.releases.proofs.reply_in.Tie as tie
@@ -35,7 +36,7 @@ unfolding releaseReply
 returns-2 c =
     let a = c .before .before .before .before .args in
     ap (reply Released) (c .before .before .before .calm .ensures)
-    ∙ sym (when _ _ _ (eq-eqb _ 0 (c .before .before .if1 .left)) ∙ when _ _ _ (sym (whole (a .chunk-size) (a .a) (a .offset) (a .n) (c .before .before .if1 .left)) ∙ sym (c .before .fits2 .ensures) ∙ c .if2 .taken))
+    ∙ sym (when _ _ _ (eq-eqb _ 0 (c .before .before .if1 .left)) ∙ when _ _ _ (sym (whole (a .chunk-size) (headed (a .h)) (a .offset) (a .n) (c .before .before .if1 .left)) ∙ sym (c .before .fits2 .ensures) ∙ c .if2 .taken))
 
 turn-down-requires-2 : tie.Need-turn-down-requires-2
 turn-down-requires-2 c κs = search needs
@@ -45,7 +46,7 @@ unfolding releaseReply
 returns-3 c =
     let a = c .before .before .before .before .before .args in
     c .turn-down2 .ensures ∙ ap (turnDown PastEnd) (c .before .before .before .before .calm .ensures)
-    ∙ sym (when _ _ _ (eq-eqb _ 0 (c .before .before .before .if1 .left)) ∙ unless _ _ _ (sym (whole (a .chunk-size) (a .a) (a .offset) (a .n) (c .before .before .before .if1 .left)) ∙ sym (c .before .before .fits2 .ensures) ∙ c .before .if2 .left))
+    ∙ sym (when _ _ _ (eq-eqb _ 0 (c .before .before .before .if1 .left)) ∙ unless _ _ _ (sym (whole (a .chunk-size) (headed (a .h)) (a .offset) (a .n) (c .before .before .before .if1 .left)) ∙ sym (c .before .before .fits2 .ensures) ∙ c .before .if2 .left))
 
 pub reply-in-spec : {M : Type 1} → statement M
 reply-in-spec =

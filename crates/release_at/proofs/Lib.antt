@@ -1,0 +1,3 @@
+mod Cuts
+mod Laws
+pub mod Steps

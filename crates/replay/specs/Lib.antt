@@ -1,6 +1,3 @@
 pub mod Answers
-pub mod Counting
-pub mod Hash
-pub mod Hex
-pub mod Lines
+pub mod Known
 pub mod Signed

@@ -5,8 +5,8 @@ ghost use Prim.Native.Nat.{_%_};
 ghost use Rattle.clock.specs.Clock.{delayMs};
 ghost use Rattle.replay.specs.Signed.{signedOf};
 ghost use Rattle.replay.specs.Answers.{addressOf, doneOf, ofNumbers, ofPool, leftPool, agreesOn, leaves};
-use crate::line::Line;
 use crate::pool;
+use sample_lines::line::Line;
 use slice_pool::Allocated;
 use slice_pool::Freed;
 

@@ -1,0 +1,4 @@
+pub mod Counting
+pub mod Hash
+pub mod Hex
+pub mod Lines

@@ -1,0 +1,3 @@
+mod CallLaws
+mod Shares
+pub mod Steps

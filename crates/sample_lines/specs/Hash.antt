@@ -9,7 +9,7 @@ abbrev pub timesPrime : ℕ → ℕ
 timesPrime x = x * 16777619 % 4294967296
 
 -- one word more is put into what stands so far without carry, then the product is taken
-abbrev pub withWord : ℕ → ℕ → ℕ
+unfoldable pub withWord : ℕ → ℕ → ℕ
 withWord h word = timesPrime (bitXor h word)
 
 -- k words more, those from `at` on

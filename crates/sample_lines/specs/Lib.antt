@@ -2,3 +2,4 @@ pub mod Counting
 pub mod Hash
 pub mod Hex
 pub mod Lines
+pub mod Signed

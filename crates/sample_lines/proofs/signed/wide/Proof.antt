@@ -1,4 +1,4 @@
--- `replay::answers::signed` meets its contract. Assumes nothing.
+-- `sample_lines::signed::wide` meets its contract. Assumes nothing.
 use mathlib.Core.Path.{_≡_, ap, _∙_}
 use Prim.Native.Nat.{suc, _-_}
 use native.Mathlib.Omega.{arith}
@@ -6,10 +6,10 @@ use borrow.Author.Tests.{lt-ltb, le-ltb}
 use lib.IntN.{negsuc}
 use mir.Syntax.{w64}
 use mir.Val.{toZ}
-use Rattle.replay.specs.Signed.{signedOf}
+use Rattle.sample_lines.specs.Signed.{signedOf}
 use borrow.Author.Needs.{needs}
-use Rattle.replay.proofs.answers.signed.Statement.{statement}
-use Rattle.replay.proofs.answers.signed.Tie as tie
+use Rattle.sample_lines.proofs.signed.wide.Statement.{statement}
+use Rattle.sample_lines.proofs.signed.wide.Tie as tie
 
 cast-result : tie.Need-cast-result
 cast-result c = search needs
@@ -32,5 +32,5 @@ returns-2 c =
     let same : 18446744073709551616 - suc x ≡ 18446744073709551615 - x = omega arith in
     ap (toZ w64) back ∙ simp (le-ltb x 9223372036854775808 (c .if1 .left)) (ap negsuc same)
 
-pub signed-spec : {M : Type 1} → statement M
-signed-spec = tie.close (tie.spec cast-result returns sub-result cast-result-2 returns-2)
+pub wide-spec : {M : Type 1} → statement M
+wide-spec = tie.close (tie.spec cast-result returns sub-result cast-result-2 returns-2)

@@ -1,3 +1,3 @@
 mod CallLaws
-mod Shares
+pub mod Shares
 pub mod Steps

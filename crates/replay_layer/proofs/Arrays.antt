@@ -103,8 +103,10 @@ module _ {M : Type 1} {𝓤 : URA M} {H : Heap 𝓤} {A : Atoms 𝓤} {K : Type 
 module _ {M : Type 1} {𝓤 : URA M} {H : Heap 𝓤} {A : Atoms 𝓤} {K : Type 0} {W : Given 𝓤 H A} {G : Goal 𝓤 H} where
   -- the entry at p is taken to the front, and another is put there
   takes : (p : ℕ) (Γ : List (Item 𝓤)) (j : Item 𝓤) → nth 𝓤 H A p Γ ≡ j → Seq K W (j ∷ del 𝓤 H A p Γ) G → Seq K W Γ G
-  takes p Γ j e s = record { prf = via 𝓤 (sep 𝓤 (mean 𝓤 H A j) (⋆ 𝓤 H A (del 𝓤 H A p Γ))) (subst (λ (k : Item 𝓤). ent 𝓤 (⋆ 𝓤 H A Γ) (sep 𝓤 (mean 𝓤 H A k) (⋆ 𝓤 H A (del 𝓤 H A p Γ)))) e (pull 𝓤 H A p Γ))
-      (via 𝓤 (⋆ 𝓤 H A (j ∷ del 𝓤 H A p Γ)) (unpull 𝓤 H A zero (j ∷ del 𝓤 H A p Γ)) (s .prf)) }
+  takes p Γ j e s = record {
+    prf = via 𝓤 (sep 𝓤 (mean 𝓤 H A j) (⋆ 𝓤 H A (del 𝓤 H A p Γ))) (subst (λ (k : Item 𝓤). ent 𝓤 (⋆ 𝓤 H A Γ) (sep 𝓤 (mean 𝓤 H A k) (⋆ 𝓤 H A (del 𝓤 H A p Γ)))) e (pull 𝓤 H A p Γ))
+        (via 𝓤 (⋆ 𝓤 H A (j ∷ del 𝓤 H A p Γ)) (unpull 𝓤 H A zero (j ∷ del 𝓤 H A p Γ)) (s .prf));
+  }
 
   refills : (p : ℕ) (Γ : List (Item 𝓤)) (j : Item 𝓤) → Seq K W (put 𝓤 H A p j Γ) G → Seq K W (j ∷ del 𝓤 H A p Γ) G
   refills p Γ j s = record { prf = via 𝓤 (sep 𝓤 (mean 𝓤 H A j) (⋆ 𝓤 H A (del 𝓤 H A p Γ))) (pull 𝓤 H A zero (j ∷ del 𝓤 H A p Γ)) (via 𝓤 (⋆ 𝓤 H A (put 𝓤 H A p j Γ)) (fill 𝓤 H A p j Γ) (s .prf)) }

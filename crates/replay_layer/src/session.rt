@@ -1,6 +1,10 @@
 // What a replay keeps between two lines, and what a line makes of it.
 ghost use mathlib.Core.Path.{_≡_};
-ghost use Prim.Native.Nat.{_<_};
+ghost use Prim.Native.Nat.{_<_, _%_};
+ghost use Rattle.words.specs.Bits.{bit};
+ghost use Rattle.sample_lines.specs.Signed.{narrowOf};
+ghost use Rattle.surface.specs.Numbers.{toldOf, kindOf};
+ghost use Rattle.replay_layer.specs.Session.{noLine, lineOf, isCall, isHash, none, flagsOf, idOf, madeFrom, madeOf, callOf, counted, skipped, wordOf, saidOf, numbersIn, calledOf, hashedOf, withClock, withSettings, withMore, carriedOf, stateAfter, carrying, saysSo, notedOf};
 use arena::Commitment;
 use layer::Kind;
 use layer::Question;
@@ -54,7 +58,9 @@ const BAD: u64 = 16;
 
 const END: u64 = 17;
 
-fn no_line(kind: u64) -> Line {
+fn no_line(kind: u64) -> Line
+    ensures { λ r. ⌜ r ≡ noLine kind ⌝ }
+{
     Line {
         kind,
         a: 0,
@@ -63,26 +69,36 @@ fn no_line(kind: u64) -> Line {
     }
 }
 
-pub fn bad() -> Line {
+pub fn bad() -> Line
+    ensures { λ r. ⌜ r ≡ noLine 16 ⌝ }
+{
     no_line(BAD)
 }
 
-pub fn end() -> Line {
+pub fn end() -> Line
+    ensures { λ r. ⌜ r ≡ noLine 17 ⌝ }
+{
     no_line(END)
 }
 
-pub fn line_of(p: Parsed) -> Line {
+pub fn line_of(p: Parsed) -> Line
+    ensures { λ r. ⌜ r ≡ lineOf p ⌝ }
+{
     match p {
         Parsed::Whole(l) => l,
         Parsed::Malformed => bad(),
     }
 }
 
-pub fn is_call(l: Line) -> bool {
+pub fn is_call(l: Line) -> bool
+    ensures { λ r. ⌜ r ≡ isCall l ⌝ }
+{
     (4 <= l.kind) & (l.kind <= 13)
 }
 
-pub fn is_hash(l: Line) -> bool {
+pub fn is_hash(l: Line) -> bool
+    ensures { λ r. ⌜ r ≡ isHash l ⌝ }
+{
     l.kind == 15
 }
 
@@ -100,7 +116,9 @@ pub fn fewer(left: u64, l: Line) -> u64
 // ---- a session
 
 // The state of the empty layer.
-fn empty() -> State {
+fn empty() -> State
+    ensures { λ r. ⌜ r ≡ none .state ⌝ }
+{
     State {
         count: 0,
         mark: false,
@@ -108,7 +126,9 @@ fn empty() -> State {
     }
 }
 
-fn nothing_carried() -> Carried {
+fn nothing_carried() -> Carried
+    ensures { λ r. ⌜ r ≡ none .carried ⌝ }
+{
     let settings = Settings {
         delay: 0,
         decommits: false,
@@ -124,7 +144,9 @@ fn nothing_carried() -> Carried {
     }
 }
 
-fn nothing_said() -> Said {
+fn nothing_said() -> Said
+    ensures { λ r. ⌜ r ≡ none .said ⌝ }
+{
     Said {
         address: 0,
         bytes: 0,
@@ -132,7 +154,9 @@ fn nothing_said() -> Said {
     }
 }
 
-pub fn start() -> Session {
+pub fn start() -> Session
+    ensures { λ r. ⌜ r ≡ none ⌝ }
+{
     let state = empty();
     let carried = nothing_carried();
     let said = nothing_said();
@@ -145,11 +169,15 @@ pub fn start() -> Session {
     }
 }
 
-pub fn state_of(s: Session) -> State {
+pub fn state_of(s: Session) -> State
+    ensures { λ r. ⌜ r ≡ s .state ⌝ }
+{
     s.state
 }
 
-pub fn tally_of(s: Session) -> Tally {
+pub fn tally_of(s: Session) -> Tally
+    ensures { λ r. ⌜ r ≡ s .tally ⌝ }
+{
     s.tally
 }
 
@@ -157,12 +185,15 @@ pub fn tally_of(s: Session) -> Tally {
 
 fn bit(x: u64, i: u32) -> bool
     requires { ⌜ i < 64 ⌝ }
+    ensures { λ r. ⌜ r ≡ bit x i ⌝ }
 {
     (x >> i) % 2 == 1
 }
 
 // The number that a call's flags are added up to.
-fn flags_of(kind: u64, a: u64, b: u64, y: u64) -> u64 {
+fn flags_of(kind: u64, a: u64, b: u64, y: u64) -> u64
+    ensures { λ r. ⌜ r ≡ flagsOf kind a b y ⌝ }
+{
     match kind {
         4 => b,
         5 => y,
@@ -173,7 +204,9 @@ fn flags_of(kind: u64, a: u64, b: u64, y: u64) -> u64 {
 }
 
 // The arena's id, or the node.
-fn id_of(kind: u64, a: u64, b: u64, x: u64) -> u64 {
+fn id_of(kind: u64, a: u64, b: u64, x: u64) -> u64
+    ensures { λ r. ⌜ r ≡ idOf kind a b x ⌝ }
+{
     match kind {
         5 => x,
         13 => b,
@@ -181,7 +214,9 @@ fn id_of(kind: u64, a: u64, b: u64, x: u64) -> u64 {
     }
 }
 
-fn made_from(l: Line, id: i32, f: u64) -> Made {
+fn made_from(l: Line, id: i32, f: u64) -> Made
+    ensures { λ r. ⌜ r ≡ madeFrom l id f ⌝ }
+{
     let one = bit(f, 0);
     let two = bit(f, 1);
     let three = bit(f, 2);
@@ -203,24 +238,32 @@ fn made_from(l: Line, id: i32, f: u64) -> Made {
     }
 }
 
-fn made_of(s: Session, l: Line) -> Made {
+fn made_of(s: Session, l: Line) -> Made
+    ensures { λ r. ⌜ r ≡ madeOf s l ⌝ }
+{
     let f = flags_of(l.kind, l.a, l.b, s.carried.y);
     let id = signed::narrow(id_of(l.kind, l.a, l.b, s.carried.x));
     made_from(l, id, f)
 }
 
 // What a release tells.
-fn told_of(s: Session) -> Commitment {
+fn told_of(s: Session) -> Commitment
+    ensures { λ r. ⌜ r ≡ toldOf (narrowOf (s .carried .x)) ⌝ }
+{
     surface::told_of(signed::narrow(s.carried.x))
 }
 
 // The kind of question that is answered.
-fn question_of(l: Line) -> Kind {
+fn question_of(l: Line) -> Kind
+    ensures { λ r. ⌜ r ≡ kindOf (l .a % 256) ⌝ }
+{
     surface::kind_of((l.a % 256) as u32)
 }
 
 // The call that a line is of.
-pub fn call_of(s: Session, l: Line) -> Call {
+pub fn call_of(s: Session, l: Line) -> Call
+    ensures { λ r. ⌜ r ≡ callOf s l ⌝ }
+{
     let made = made_of(s, l);
     let told = told_of(s);
     let question = question_of(l);
@@ -237,34 +280,48 @@ pub fn call_of(s: Session, l: Line) -> Call {
 }
 
 // What a call takes.
-pub fn state_in(c: Call) -> State {
+pub fn state_in(c: Call) -> State
+    ensures { λ r. ⌜ r ≡ c .state ⌝ }
+{
     c.state
 }
 
-pub fn ns_in(c: Call) -> u64 {
+pub fn ns_in(c: Call) -> u64
+    ensures { λ r. ⌜ r ≡ c .ns ⌝ }
+{
     c.ns
 }
 
-pub fn settings_in(c: Call) -> Settings {
+pub fn settings_in(c: Call) -> Settings
+    ensures { λ r. ⌜ r ≡ c .settings ⌝ }
+{
     c.settings
 }
 
-pub fn told_in(c: Call) -> Commitment {
+pub fn told_in(c: Call) -> Commitment
+    ensures { λ r. ⌜ r ≡ c .told ⌝ }
+{
     c.told
 }
 
-pub fn question_in(c: Call) -> Kind {
+pub fn question_in(c: Call) -> Kind
+    ensures { λ r. ⌜ r ≡ c .question ⌝ }
+{
     c.question
 }
 
-pub fn made_in(c: Call) -> Made {
+pub fn made_in(c: Call) -> Made
+    ensures { λ r. ⌜ r ≡ c .made ⌝ }
+{
     c.made
 }
 
 // ---- what is counted
 
 // The session with one line more that was replayed.
-fn counted(s: Session, same: bool) -> Session {
+fn counted(s: Session, same: bool) -> Session
+    ensures { λ r. ⌜ r ≡ counted s same ⌝ }
+{
     let mut t = s;
     let u = tally::answered(s.tally, same);
     t.tally = u;
@@ -272,7 +329,9 @@ fn counted(s: Session, same: bool) -> Session {
 }
 
 // The session with one line more that was not.
-fn skipped(s: Session) -> Session {
+fn skipped(s: Session) -> Session
+    ensures { λ r. ⌜ r ≡ skipped s ⌝ }
+{
     let mut t = s;
     let u = tally::malformed(s.tally);
     t.tally = u;
@@ -291,14 +350,18 @@ fn word_of(
     large: bool,
     id: usize,
     count: usize,
-) -> u64 {
+) -> u64
+    ensures { λ r. ⌜ r ≡ wordOf kind fresh committed owns decommit commit large id count ⌝ }
+{
     let granted = (fresh as u64) << 8 | (committed as u64) << 9 | (owns as u64) << 10;
     let asked = (decommit as u64) << 11 | (commit as u64) << 12 | (large as u64) << 13;
     let numbers = (id as u64) << 16 | (count as u64) << 32;
     kind as u64 | granted | asked | numbers
 }
 
-fn said_of(x: ReplyNumbers) -> Said {
+fn said_of(x: ReplyNumbers) -> Said
+    ensures { λ r. ⌜ r ≡ saidOf x ⌝ }
+{
     let word = word_of(
         x.kind,
         x.fresh,
@@ -318,14 +381,18 @@ fn said_of(x: ReplyNumbers) -> Said {
 }
 
 // A reply in numbers.
-fn in_numbers(r: Reply) -> ReplyNumbers {
+fn in_numbers(r: Reply) -> ReplyNumbers
+    ensures { λ x. ⌜ x ≡ numbersIn r ⌝ }
+{
     let state = r.state;
     let f = surface::numbers_of(state);
     surface::reply_of(true, f, r)
 }
 
 // After a call, whose number is held against the recorded one.
-pub fn called(s: Session, l: Line, r: Reply) -> Session {
+pub fn called(s: Session, l: Line, r: Reply) -> Session
+    ensures { λ t. ⌜ t ≡ calledOf s l r ⌝ }
+{
     let x = in_numbers(r);
     let said = said_of(x);
     let state = r.state;
@@ -340,13 +407,17 @@ pub fn called(s: Session, l: Line, r: Reply) -> Session {
 }
 
 // After the hash of the state, which is held against the recorded one.
-pub fn hashed(s: Session, l: Line, h: u32) -> Session {
+pub fn hashed(s: Session, l: Line, h: u32) -> Session
+    ensures { λ r. ⌜ r ≡ hashedOf s l h ⌝ }
+{
     counted(s, (h as u64 == l.a) & (l.r == 1))
 }
 
 // ---- other lines
 
-fn with_clock(c: Carried, ns: u64, delay: i64) -> Carried {
+fn with_clock(c: Carried, ns: u64, delay: i64) -> Carried
+    ensures { λ r. ⌜ r ≡ withClock c ns delay ⌝ }
+{
     let e = c.settings;
     let settings = Settings {
         delay,
@@ -363,7 +434,9 @@ fn with_clock(c: Carried, ns: u64, delay: i64) -> Carried {
     }
 }
 
-fn with_settings(c: Carried, a: u64, reserve: u64) -> Carried {
+fn with_settings(c: Carried, a: u64, reserve: u64) -> Carried
+    ensures { λ r. ⌜ r ≡ withSettings c a reserve ⌝ }
+{
     let e = c.settings;
     let decommits = bit(a, 0);
     let off = bit(a, 1);
@@ -382,14 +455,18 @@ fn with_settings(c: Carried, a: u64, reserve: u64) -> Carried {
     }
 }
 
-fn with_more(c: Carried, x: u64, y: u64) -> Carried {
+fn with_more(c: Carried, x: u64, y: u64) -> Carried
+    ensures { λ r. ⌜ r ≡ withMore c x y ⌝ }
+{
     let mut d = c;
     d.x = x;
     d.y = y;
     d
 }
 
-fn carried_after(c: Carried, l: Line) -> Carried {
+fn carried_after(c: Carried, l: Line) -> Carried
+    ensures { λ r. ⌜ r ≡ carriedOf c l ⌝ }
+{
     let kind = l.kind;
     if kind == 1 {
         return with_clock(c, l.a, signed::wide(l.b));
@@ -403,7 +480,9 @@ fn carried_after(c: Carried, l: Line) -> Carried {
     c
 }
 
-fn state_after(z: State, l: Line) -> State {
+fn state_after(z: State, l: Line) -> State
+    ensures { λ r. ⌜ r ≡ stateAfter z l ⌝ }
+{
     if l.kind == 0 {
         return empty();
     }
@@ -411,7 +490,9 @@ fn state_after(z: State, l: Line) -> State {
 }
 
 // A line that the next calls carry.
-fn carrying(s: Session, l: Line) -> Session {
+fn carrying(s: Session, l: Line) -> Session
+    ensures { λ r. ⌜ r ≡ carrying s l ⌝ }
+{
     let state = state_after(s.state, l);
     let carried = carried_after(s.carried, l);
     let said = s.said;
@@ -425,12 +506,16 @@ fn carrying(s: Session, l: Line) -> Session {
 }
 
 // Whether a line is what the last call said.
-fn says_so(said: Said, l: Line) -> bool {
+fn says_so(said: Said, l: Line) -> bool
+    ensures { λ r. ⌜ r ≡ saysSo said l ⌝ }
+{
     (said.address == l.a) & (said.bytes == l.b) & (said.word == l.r)
 }
 
 // After a line that is no call and no hash.
-pub fn noted(s: Session, l: Line) -> Session {
+pub fn noted(s: Session, l: Line) -> Session
+    ensures { λ r. ⌜ r ≡ notedOf s l ⌝ }
+{
     let kind = l.kind;
     if kind == 14 {
         return counted(s, says_so(s.said, l));

@@ -28,7 +28,7 @@ use mir.Syntax.{w32, w64, tyInt}
 use mir.Val.{Val, vint}
 use base.Fml.{GName, ftrue, fat}
 use prog.Wp.{Heap, Env, Wp, WpFn, Tables, atReturn, afterSeq, afterBlock, afterTurn}
-use types.Kit.{Given, Item, Sq, prop, runs, atRet, anyQ, put, ‵, _⊛_, _$_, !}
+use types.Kit.{Given, Item, Sq, prop, runs, atRet, anyQ, put, ‵, _⊛_, _$_, ! }
 use types.Part.{agg, rep}
 use types.Run.{look, init, store, forget, again, exec, Below, stop, from, load, lit, addr, of-opd, bin, and-then, no-more, assigns, land, land-last, returns, params1, pass1, pass0, free0}
 use denote.Plain.{uint-vals, uint-tells, uint-makes, uint-lawful}
@@ -149,8 +149,15 @@ module _ {M : Type 1} (𝓤 : URA M) (H : Heap 𝓤) (A : Atoms 𝓤) (W : Given
       lends-local ! tt u32 tt (uint-makes 𝓤 H A W w32) 6 32768 (replicate 32768 0) refl is′ (length-replicate {A = ℕ} 32768 0) (lit< tt, lit< tt) (λ ν′ γ′.
       lends-local ! tt T.the-row tt (LL.makes T.the-type T′.the-plain 𝓤 H A) 4 32 (replicate 32 blank) refl is (length-replicate 32 blank) (lit< tt, lit< tt) (λ ν γ.
       whiles ! 𝓣 (I most bs ν ν′ γ γ′) (λ (s : St). s .left) (turn most bs ν ν′ γ γ′) (record {
-        zs = replicate 32 blank; ts = replicate 32768 0; s = r; mv = v; left = most;
-        long = length-replicate 32 blank; long′ = length-replicate {A = ℕ} 32768 0; is = g; fits = fm;
+        zs = replicate 32 blank;
+        ts = replicate 32768 0;
+        s = r;
+        mv = v;
+        left = most;
+        long = length-replicate 32 blank;
+        long′ = length-replicate {A = ℕ} 32768 0;
+        is = g;
+        fits = fm;
       }))))))
 
   all-meets : Meets 𝓤 H A all′.signature (WpFn 𝓤 H (𝓣 .C) (𝓣 .Λ) code.function) (all′.spec 𝓤 H A mem run)

@@ -1,5 +1,3 @@
 pub mod AnswerLaws
 pub mod ClearLaws
-pub mod CountingLaws
-pub mod HexLaws
-pub mod LineLaws
+pub mod KnownLaws

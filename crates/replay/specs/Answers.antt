@@ -11,9 +11,9 @@ use Rattle.slice_pool.specs.declared.Allocated.the-variants.{Run, NotRun}
 use Rattle.slice_pool.specs.declared.Freed.{Freed}
 use Rattle.slice_pool.specs.declared.Freed.the-variants.{Done, NotDone}
 use Rattle.slice_pool.specs.Pool.{allocRun, freeRange}
-use Rattle.replay.specs.declared.line.Line.{Line}
-use Rattle.replay.specs.Hash.{hashFirst}
-use Rattle.replay.specs.Signed.{signedOf}
+use Rattle.sample_lines.specs.declared.line.Line.{Line}
+use Rattle.sample_lines.specs.Hash.{withWords}
+use Rattle.sample_lines.specs.Signed.{signedOf}
 
 -- kinds 1 to 6, on numbers alone
 unfoldable pub ofNumbers : ℕ → ℕ → ℕ → ℕ
@@ -39,7 +39,7 @@ unfoldable pub ofPool : ℕ → ℕ → ℕ → List ℕ → ℕ
 ofPool kind a b words =
     cond (eqb kind 7) (addressOf (allocRun words a .answer))
     (cond (eqb kind 8) (doneOf (freeRange words a b .answer))
-    (cond (eqb kind 9) (cond (eqb (hashFirst words (length words)) a) 1 0) 1))
+    (cond (eqb kind 9) (cond (eqb (withWords 2166136261 words 0 (length words)) a) 1 0) 1))
 
 unfoldable pub leftPool : ℕ → ℕ → ℕ → List ℕ → List ℕ
 leftPool kind a b words =

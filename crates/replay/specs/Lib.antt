@@ -1,6 +1,2 @@
 pub mod Answers
-pub mod Counting
-pub mod Hash
-pub mod Hex
-pub mod Lines
-pub mod Signed
+pub mod Known

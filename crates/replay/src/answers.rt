@@ -3,10 +3,11 @@ ghost use mathlib.Core.Path.{_≡_};
 ghost use mathlib.Core.Bool.{cond};
 ghost use Prim.Native.Nat.{_%_};
 ghost use Rattle.clock.specs.Clock.{delayMs};
-ghost use Rattle.replay.specs.Signed.{signedOf};
+ghost use Rattle.sample_lines.specs.Signed.{signedOf};
 ghost use Rattle.replay.specs.Answers.{addressOf, doneOf, ofNumbers, ofPool, leftPool, agreesOn, leaves};
-use crate::line::Line;
 use crate::pool;
+use sample_lines::line::Line;
+use sample_lines::signed;
 use slice_pool::Allocated;
 use slice_pool::Freed;
 
@@ -23,21 +24,11 @@ fn low(x: u64) -> u32
     (x % 4294967296) as u32
 }
 
-// The number whose two's complement x is.
-fn signed(x: u64) -> i64
-    ensures { λ r. ⌜ r ≡ signedOf x ⌝ }
-{
-    if x < 9223372036854775808 {
-        return x as i64;
-    }
-    !((u64::MAX - x) as i64)
-}
-
 // The delay of a number in two's complement.
 fn delay_of(x: u64) -> u64
     ensures { λ r. ⌜ r ≡ delayMs (signedOf x) ⌝ }
 {
-    clock::delay_ms(signed(x)) as u64
+    clock::delay_ms(signed::wide(x)) as u64
 }
 
 // Kinds 1 to 6, on numbers alone.

@@ -1,17 +1,18 @@
 // Replays recorded answers of the original Rust on our functions: standard input has a line of 53 bytes
-// for each (line.rt), and what comes out is how many were replayed and how many differ.
+// for each (sample_lines), and what comes out is how many were replayed and how many differ.
 // No contract can say what is read or printed, so all that does either stands here, and nothing here is
 // public. What a line says, our answer to it and the count are fixed by the modules' contracts.
 mod answers;
-mod hex;
-mod line;
+mod known;
 mod pool;
-mod tally;
 
 use libc::STDIN_FILENO;
-use libc::STDOUT_FILENO;
-use line::Parsed;
-use tally::Tally;
+use sample_lines::line;
+use sample_lines::line::Line;
+use sample_lines::line::Parsed;
+use sample_lines::report;
+use sample_lines::tally;
+use sample_lines::tally::Tally;
 ghost use Prim.Native.Nat.{_+_, _≤_};
 ghost use lib.ListN.{length};
 
@@ -20,16 +21,22 @@ const BLOCK: usize = 54272;
 
 const LINE: usize = 53;
 
+// A line that says four numbers, replayed if there is such a call, and counted.
+fn replay_numbers(line: Line, words: &mut [u32], t: Tally) -> Tally {
+    if known::is_known(line.kind, line.a, line.b) {
+        let same = answers::agrees(line, words);
+        return tally::answered(t, same);
+    }
+    tally::malformed(t)
+}
+
 // The line at `at`, replayed and counted.
 fn replay_line(text: &[u8], at: usize, words: &mut [u32], t: Tally) -> Tally
     requires { ⌜ at + 53 ≤ length (now text) ⌝ }
 {
     let parsed = line::parse(text, at);
     match parsed {
-        Parsed::Whole(line) => {
-            let same = answers::agrees(line, words);
-            tally::answered(t, same)
-        }
+        Parsed::Whole(line) => replay_numbers(line, words, t),
         Parsed::Malformed => tally::malformed(t),
     }
 }
@@ -69,25 +76,7 @@ fn replay_all(words: &mut [u32]) -> Tally {
     t
 }
 
-fn say(text: &[u8]) {
-    io::write_all(STDOUT_FILENO, text);
-}
-
-fn print(t: Tally) {
-    io::print_decimal(STDOUT_FILENO, t.answers);
-    say(b" answers replayed, ");
-    io::print_decimal(STDOUT_FILENO, t.differences);
-    say(b" differences, ");
-    io::print_decimal(STDOUT_FILENO, t.malformed);
-    say(b" malformed lines\n");
-    if t.first > 0 {
-        say(b"first difference at line ");
-        io::print_decimal(STDOUT_FILENO, t.first);
-        say(b"\n");
-    }
-}
-
 fn main() {
     let mut words = [0u32; 2048];
-    print(replay_all(&mut words));
+    report::print(replay_all(&mut words));
 }

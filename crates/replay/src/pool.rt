@@ -1,25 +1,13 @@
 // The replayed slice pool as a whole: the hash of its words, and all of them cleared.
 ghost use mathlib.Core.Path.{_≡_};
 ghost use lib.ListN.{length, replicate};
-ghost use Rattle.replay.specs.Hash.{timesPrime, hashFirst};
-
-// A step's product, modulo 2^32.
-fn times_prime(x: u32) -> u32
-    ensures { λ r. ⌜ r ≡ timesPrime x ⌝ }
-{
-    (x as u64 * 16777619 % 4294967296) as u32
-}
+ghost use Rattle.sample_lines.specs.Hash.{withWords};
+use sample_lines::hash;
 
 pub fn hash(words: &[u32]) -> u32
-    ensures { λ r. ⌜ r ≡ hashFirst (now (words .entry)) (length (now (words .entry))) ⌝ }
+    ensures { λ r. ⌜ r ≡ withWords 2166136261 (now (words .entry)) 0 (length (now (words .entry))) ⌝ }
 {
-    let mut h: u32 = 2166136261;
-    let mut i: usize = 0;
-    while i < words.len() {
-        h = times_prime(h ^ words[i]);
-        i += 1;
-    }
-    h
+    hash::with_words(hash::START, words, 0, words.len())
 }
 
 pub fn clear(words: &mut [u32])

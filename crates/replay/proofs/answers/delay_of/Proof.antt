@@ -7,8 +7,8 @@ use Rattle.clock.specs.Clock.{delayMs}
 use Rattle.replay.proofs.answers.delay_of.Statement.{statement}
 use Rattle.replay.proofs.answers.delay_of.Tie as tie
 
-signed-requires : tie.Need-signed-requires
-signed-requires c κs = search needs
+wide-requires : tie.Need-wide-requires
+wide-requires c κs = search needs
 
 delay-ms-requires : tie.Need-delay-ms-requires
 delay-ms-requires c κs = search needs
@@ -17,7 +17,7 @@ cast-result : tie.Need-cast-result
 cast-result c = search needs
 
 returns : tie.Need-returns
-returns c = c .delay-ms .ensures ∙ ap delayMs (toZ-ofZ {w = w64} {z = c .before .signed .result} (record { sfits = c .before .signed .ok }) ∙ c .before .signed .ensures)
+returns c = c .delay-ms .ensures ∙ ap delayMs (toZ-ofZ {w = w64} {z = c .before .wide .result} (record { sfits = c .before .wide .ok }) ∙ c .before .wide .ensures)
 
 pub delay-of-spec : {M : Type 1} → statement M
-delay-of-spec = tie.close (tie.spec signed-requires delay-ms-requires cast-result returns)
+delay-of-spec = tie.close (tie.spec wide-requires delay-ms-requires cast-result returns)

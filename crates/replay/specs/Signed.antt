@@ -1,9 +1,0 @@
--- Two's complement in 64 bits. Assumes nothing.
-use mathlib.Core.Bool.{cond}
-use Prim.Native.Nat.{ℕ, _-_}
-use lib.Dec.{ltb}
-use lib.IntN.{ℤ, pos, negsuc}
-
--- from 2^63 on, x stands for x - 2^64: `negsuc n` is -(n + 1)
-unfoldable pub signedOf : ℕ → ℤ
-signedOf x = cond (ltb x 9223372036854775808) (pos x) (negsuc (18446744073709551615 - x))

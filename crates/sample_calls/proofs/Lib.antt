@@ -1,0 +1,3 @@
+mod CallLaws
+pub mod Shares
+pub mod Steps

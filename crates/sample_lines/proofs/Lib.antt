@@ -1,0 +1,3 @@
+pub mod CountingLaws
+pub mod HexLaws
+pub mod LineLaws

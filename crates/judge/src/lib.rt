@@ -3,14 +3,15 @@
 ghost use mathlib.Core.Path.{_≡_};
 ghost use mathlib.Core.Bool.{_&&_};
 ghost use Prim.Native.Nat.{_+_, _*_, _^_, _<_, _≤_};
-ghost use lib.Dec.{leb, ltb};
+ghost use lib.Dec.{eqb, leb, ltb};
 ghost use Rattle.runs.specs.Lowest.{all};
 ghost use Rattle.arena.specs.Claiming.{findRun};
 ghost use Rattle.lookup.specs.Soundness.{soundRange};
 ghost use Rattle.layer.specs.Table.{isAt};
 ghost use Rattle.layer.specs.Claiming.{eligible};
 ghost use Rattle.judge.specs.Scan.{hit};
-ghost use Rattle.judge.specs.Heads.{headed, asksMaps, headHit, outside};
+ghost use Rattle.judge.specs.declared.Query.the-variants.{Serves};
+ghost use Rattle.judge.specs.Heads.{headed, mayServe, runAsked, asksTails, headHit, outside};
 use arena::Arena;
 use layer::Question;
 use runs::Found;
@@ -135,9 +136,16 @@ fn has_tail(base: u64, chunks: usize, chunk_size: u64) -> bool
     chunks < MOST_CHUNKS
 }
 
-// Whether the map of used chunks is to be looked at.
+// The chunks of the record with that head.
+pub fn chunks_of(h: Head) -> usize
+    ensures { λ r. ⌜ r ≡ h .chunks ⌝ }
+{
+    h.chunks
+}
+
+// Whether a claim at the id may use arena i, of that head.
 fn may_serve(id: i32, i: usize, h: Head) -> bool
-    ensures { λ r. ⌜ r ≡ (eligible id i (headed h) && leb (h .chunks) 1024) ⌝ }
+    ensures { λ r. ⌜ r ≡ mayServe id i h ⌝ }
 {
     if !is_eligible(id, i, headed(h)) {
         return false;
@@ -145,18 +153,55 @@ fn may_serve(id: i32, i: usize, h: Head) -> bool
     h.chunks <= MOST_CHUNKS
 }
 
-// Whether the query asks the maps of the record at id i, of that head.
-pub fn asks_maps(q: Query, i: usize, h: Head, chunk_size: u64) -> bool
+// The run of n, where the arena has chunks and may serve it.
+fn served_run(id: i32, n: usize, i: usize, h: Head) -> usize
+    ensures { λ r. ⌜ r ≡ runAsked (Serves id n) i h ⌝ }
+{
+    if !may_serve(id, i, h) {
+        return 0;
+    }
+    if h.chunks < 1 {
+        return 0;
+    }
+    n
+}
+
+// The run that the query asks the map of used chunks for, of the record at id i with that head; 0 where it
+// does not ask it.
+pub fn run_asked(q: Query, i: usize, h: Head) -> usize
+    ensures { λ r. ⌜ r ≡ runAsked q i h ⌝ }
+{
+    match q {
+        Query::Unsound => 0,
+        Query::Meets { .. } => 0,
+        Query::Holds { .. } => 0,
+        Query::Serves { id, n } => served_run(id, n, i, h),
+        Query::Grows { .. } => 0,
+    }
+}
+
+// Whether the query asks the maps past the last chunk of a record with that head.
+pub fn asks_tails(q: Query, h: Head, chunk_size: u64) -> bool
     requires { ⌜ (0 < «chunk_size») × («chunk_size» ≤ 4294967296) ⌝ }
-    ensures { λ r. ⌜ r ≡ asksMaps «chunk_size» q i h ⌝ }
+    ensures { λ r. ⌜ r ≡ asksTails «chunk_size» q h ⌝ }
 {
     match q {
         Query::Unsound => has_tail(h.base, h.chunks, chunk_size),
         Query::Meets { .. } => false,
         Query::Holds { .. } => false,
-        Query::Serves { id, .. } => may_serve(id, i, h),
+        Query::Serves { .. } => false,
         Query::Grows { .. } => false,
     }
+}
+
+// Whether the claim is of no chunks, and the arena may serve it.
+fn serves_none(id: i32, n: usize, i: usize, h: Head) -> bool
+    ensures { λ r. ⌜ r ≡ (mayServe id i h && eqb n 0) ⌝ }
+{
+    if !may_serve(id, i, h) {
+        return false;
+    }
+    n == 0
 }
 
 // Whether the query, which asks no map, hits the record at id i.
@@ -168,7 +213,7 @@ pub fn hit_head(q: Query, i: usize, h: Head, chunk_size: u64) -> bool
         Query::Unsound => !soundness::range_is_sound(h.base, h.chunks, chunk_size),
         Query::Meets { base, bytes } => ranges::meets_range(headed(h), chunk_size, base, bytes),
         Query::Holds { address } => ranges::holds(headed(h), chunk_size, address),
-        Query::Serves { .. } => false,
+        Query::Serves { id, n } => serves_none(id, n, i, h),
         Query::Grows { address, n } => ranges::grows_at(headed(h), chunk_size, address, n),
     }
 }

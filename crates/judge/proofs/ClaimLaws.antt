@@ -14,22 +14,12 @@ use Rattle.runs.proofs.LowestLaws.{lowest-is}
 use Rattle.arena.specs.declared.Arena.{Arena}
 use Rattle.arena.specs.Claiming.{free, findRun}
 use Rattle.layer.specs.Claiming.{eligible}
-use Rattle.open_question.proofs.QuestionLaws.{no-first}
 
--- ---- three tests, one after the other
-
-pub no-second : (x y z : Bool) → x ≡ true → y ≡ false → false ≡ x && (y && z)
-no-second true y z e f = no-first y z f
-no-second false y z e f = refl
+-- ---- two tests, one after the other
 
 pub only-second : (x y : Bool) → x ≡ true → y ≡ x && y
 only-second true y e = refl
 only-second false y e = absurd (true≢false (sym e))
-
-pub only-third : (x y z : Bool) → x ≡ true → y ≡ true → z ≡ x && (y && z)
-only-third true true z e f = refl
-only-third true false z e f = absurd (true≢false (sym f))
-only-third false y z e f = absurd (true≢false (sym e))
 
 pub and-off : (x : Bool) → x && false ≡ false
 and-off true = refl

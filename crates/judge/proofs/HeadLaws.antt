@@ -1,19 +1,20 @@
--- A query that asks no map hits a record as it hits the record's head; one that asks for a run hits it where there is one. Assumes nothing.
+-- A query that asks no map hits a record as it hits the record's head; one that asks for a run hits it where there is one; and one that asks the maps past the last chunk, where a bit is set there. Assumes nothing.
 use mathlib.Core.Path.{_≡_, refl, sym, ap, subst, _∙_}
-use mathlib.Core.Bool.{Bool, true, false, not, cond, _&&_}
+use mathlib.Core.Bool.{Bool, true, false, not, cond, _&&_, true≢false}
 use Prim.Native.Nat.{ℕ, _<_, _≤_}
 use native.Mathlib.Nat.{lt-irrefl}
 use native.Mathlib.Omega.{arith}
-use borrow.Author.Tests.{ltb-false, leb-true, leb-false, eqb-true, eqb-false}
+use borrow.Author.Tests.{ltb-true, ltb-false, leb-true, leb-false, eqb-true, eqb-false}
 use lib.Dec.{eqb, leb, ltb}
 use lib.IntN.{ℤ, pos, negsuc}
 use Rattle.arena.specs.declared.Arena.{Arena}
 use Rattle.runs.specs.declared.Found.the-variants.{Nothing}
 use Rattle.runs.proofs.LowestLaws.{lowest-is}
+use Rattle.runs.proofs.SearchLaws.{and-both}
 use Rattle.arena.specs.Claiming.{free, findRun}
 use Rattle.lookup.specs.Place.{isInside, endOf, bytesOf}
 use Rattle.lookup.specs.Soundness.{soundRange, soundArena, clearPastAll}
-use Rattle.lookup.proofs.SoundLaws.{range-facts, full-clear}
+use Rattle.lookup.proofs.SoundLaws.{range-facts, full-clear, sound-range}
 use Rattle.layer.specs.Table.{isAt, meets}
 use Rattle.layer.specs.Registering.{grows}
 use Rattle.layer.specs.Claiming.{eligible}
@@ -84,3 +85,19 @@ run-tells S (Serves id n) i a l =
     subst (λ (x : Bool). Ran a (cond ((e && leb (a .chunks) 1024) && leb 1 (a .chunks)) n 0) (x && (leb (a .chunks) 1024 && isAt (findRun a n)))) (same-eligible id i a)
     (served a n e (leb (a .chunks) 1024) (leb 1 (a .chunks)) refl refl l)
 run-tells S (Grows address n) i a l = absurd (lt-irrefl 0 l)
+
+-- a query that asks the maps past the last chunk: the record has chunks, fewer than 1,024, and a bit there is the answer
+pub record Tailed (a : Arena) (says : Bool) : Type 0 where
+  pub some : 1 ≤ a .chunks
+  pub few : a .chunks < 1024
+  pub told : not (clearPastAll a) ≡ says
+
+pub tails-tell : (S : ℕ) (q : Query) (i : ℕ) (a : Arena) → asksTails S q (headOf a) ≡ true → Tailed a (hit S q i a)
+unfolding asksTails hit
+tails-tell S Unsound i a e =
+    let p = and-both (soundRange S (a .base) (a .chunks)) _ e in
+    record { some = range-facts S (a .base) (a .chunks) (p .0) .some; few = ltb-true (a .chunks) 1024 (p .1); told = ap not (sound-range S a (p .0)) }
+tails-tell S (Meets base bytes) i a e = absurd (true≢false (sym e))
+tails-tell S (Holds address) i a e = absurd (true≢false (sym e))
+tails-tell S (Serves id n) i a e = absurd (true≢false (sym e))
+tails-tell S (Grows address n) i a e = absurd (true≢false (sym e))

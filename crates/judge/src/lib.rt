@@ -7,9 +7,7 @@ ghost use lib.Dec.{eqb, leb, ltb};
 ghost use Rattle.runs.specs.Lowest.{all};
 ghost use Rattle.arena.specs.Claiming.{findRun};
 ghost use Rattle.lookup.specs.Soundness.{soundRange};
-ghost use Rattle.layer.specs.Table.{isAt};
 ghost use Rattle.layer.specs.Claiming.{eligible};
-ghost use Rattle.judge.specs.Scan.{hit};
 ghost use Rattle.judge.specs.declared.Query.the-variants.{Serves};
 ghost use Rattle.judge.specs.Heads.{headed, mayServe, runAsked, asksTails, headHit, outside};
 use arena::Arena;
@@ -51,16 +49,6 @@ pub struct Span {
 
 // ---- claims
 
-// Whether a claim at the id may use arena i: a negative id means every arena that is not exclusive.
-fn is_eligible(id: i32, i: usize, a: Arena) -> bool
-    ensures { λ r. ⌜ r ≡ eligible id i a ⌝ }
-{
-    if id < 0 {
-        return !a.exclusive;
-    }
-    i == (id as usize)
-}
-
 // The lowest run of n free chunks; a run of none starts at the first chunk.
 pub fn run_of(a: Arena, n: usize) -> Found
     requires { ⌜ a .chunks ≤ 1024 ⌝ }
@@ -72,40 +60,7 @@ pub fn run_of(a: Arena, n: usize) -> Found
     lookup::find_run(a, n)
 }
 
-// Whether arena i may serve the claim, and has a run of n.
-fn serves_claim(id: i32, n: usize, i: usize, a: Arena) -> bool
-    ensures { λ r. ⌜ r ≡ (eligible id i a && (leb (a .chunks) 1024 && isAt (findRun a n))) ⌝ }
-{
-    if !is_eligible(id, i, a) {
-        return false;
-    }
-    if MOST_CHUNKS < a.chunks {
-        return false;
-    }
-    let found = run_of(a, n);
-    match found {
-        Found::At(_) => true,
-        Found::Nothing => false,
-    }
-}
-
-// ---- queries
-
-// Whether the query hits the record at id i.
-pub fn hit(q: Query, i: usize, a: Arena, chunk_size: u64) -> bool
-    requires { ⌜ (0 < «chunk_size») × («chunk_size» ≤ 4294967296) ⌝ }
-    ensures { λ r. ⌜ r ≡ hit «chunk_size» q i a ⌝ }
-{
-    match q {
-        Query::Unsound => !soundness::is_sound(a, chunk_size),
-        Query::Meets { base, bytes } => ranges::meets_range(a, chunk_size, base, bytes),
-        Query::Holds { address } => ranges::holds(a, chunk_size, address),
-        Query::Serves { id, n } => serves_claim(id, n, i, a),
-        Query::Grows { address, n } => ranges::grows_at(a, chunk_size, address, n),
-    }
-}
-
-// ---- heads
+// ---- heads: what is judged of a record by its head
 
 // A record with that head, and nothing else in it.
 fn headed(h: Head) -> Arena
@@ -143,11 +98,22 @@ pub fn chunks_of(h: Head) -> usize
     h.chunks
 }
 
+// Whether a claim at the id means arena i, of that head: a negative id means every arena that is not
+// exclusive.
+fn is_eligible(id: i32, i: usize, h: Head) -> bool
+    ensures { λ r. ⌜ r ≡ eligible id i (headed h) ⌝ }
+{
+    if id < 0 {
+        return !h.exclusive;
+    }
+    i == (id as usize)
+}
+
 // Whether a claim at the id may use arena i, of that head.
 fn may_serve(id: i32, i: usize, h: Head) -> bool
     ensures { λ r. ⌜ r ≡ mayServe id i h ⌝ }
 {
-    if !is_eligible(id, i, headed(h)) {
+    if !is_eligible(id, i, h) {
         return false;
     }
     h.chunks <= MOST_CHUNKS

@@ -1,5 +1,5 @@
 -- Functions that the crate above has no need of, each called in one step of a walk (`Calls.antt`):
---     found-step, nothing-step, hit-step, head-at-pass, no-head-step, run-asked-step, chunks-of-step, asks-step, hit-head-step, hits-at-pass, is-nothing-step, outside-step, meets-none-pass, no-span-step, span-step, is-at-step, range-step, unsound-step, lent-step, about-step, asked-step, question-step
+--     found-step, nothing-step, head-at-pass, no-head-step, run-asked-step, chunks-of-step, asks-step, hit-head-step, hits-at-pass, is-nothing-step, outside-step, meets-none-pass, no-span-step, span-step, is-at-step, range-step, unsound-step, lent-step, about-step, asked-step, question-step
 -- Assumes `Given`, the callee's theorem, and that the table of calls is monotone under a frame.
 use mathlib.Core.Path.{_≡_, refl, sym, _∙_, ap, subst}
 use mathlib.Core.Bool.{not, _&&_}
@@ -66,8 +66,6 @@ use Rattle.row_parts.proofs.unsound_query as unsound′
 use Rattle.row_parts.proofs.unsound_query.Symbol.{name as #row-parts·unsound-query}
 use Rattle.row_parts.proofs.lent_sound as lent′
 use Rattle.row_parts.proofs.lent_sound.Symbol.{name as #row-parts·lent-sound}
-use Rattle.judge.proofs.hit as hit′
-use Rattle.judge.proofs.hit.Symbol.{name as #judge·hit}
 use Rattle.open_question.proofs.is_about_none as about′
 use Rattle.open_question.proofs.is_about_none.Symbol.{name as #open-question·is-about-none}
 use Rattle.open_question.proofs.asked_id as asked′
@@ -108,9 +106,6 @@ module _ {M : Type 1} (𝓤 : URA M) (H : Heap 𝓤) (A : Atoms 𝓤) (mem : Mem
 
   abbrev pub Miss : Contract 𝓤
   Miss = tripleOf 𝓤 H A nothing′.signature (nothing′.spec 𝓤 H A mem run)
-
-  abbrev pub Hits : Contract 𝓤
-  Hits = tripleOf 𝓤 H A hit′.signature (hit′.spec 𝓤 H A mem run)
 
   abbrev pub HeadAt : Contract 𝓤
   HeadAt = tripleOf 𝓤 H A head-at′.signature (head-at′.spec 𝓤 H A mem run)
@@ -188,16 +183,6 @@ module _ {M : Type 1} {𝓤 : URA M} {H : Heap 𝓤} {A : Atoms 𝓤} {K : Type 
       plain-call t site F.the-row ([]) tt (nothing′.clauses 𝓤 H A mem run) known tt tt
       (id⊢ 𝓤 _) tt (id⊢ 𝓤 _)
       (λ r. r ≡ None) (λ r ws. id⊢ 𝓤 _) ops (λ v r is e. k v (subst (λ (o : Found). Is F.the-row o (v ∷ [])) e is))
-
-  pub hit-step : K → Site K W Γ C E #judge·hit xs G after → (mem : Memory → SProp 𝓤) (run : Routine → Fun 𝓤) → Triple 𝓤 (C #judge·hit) (Hits 𝓤 H A mem run)
-      → (q : Query) (vq : Val) → Is Q.the-row q (vq ∷ []) → (j : ℕ) → j < 2 ^ 64 → (a : Arena) (va : Val) → Is T.the-row a (va ∷ []) → (S : ℕ) → S < 2 ^ 64 → 0 < S → S ≤ 4294967296
-      → ((h : Item 𝓤) → Opds K W (h ∷ Γ) E xs (vq ∷ vint w64 j ∷ va ∷ vint w64 S ∷ []))
-      → Seq K W (i ∷ Γ) (after (vbool (hit S q j a)))
-      → Seq K W (i ∷ Γ) G
-  hit-step t site mem run known q vq gq j fj a va ga S fS pos most ops k =
-      plain-call t site bool (plain (λ _. Q.the-row) ∷ plain (λ _. usize) ∷ plain (λ _. T.the-row) ∷ plain (λ _. u64) ∷ []) (yes, (yes, (yes, (yes, tt)))) (hit′.clauses 𝓤 H A mem run) known (q, (j, (a, (S, tt)))) (vq ∷ [], (vint w64 j ∷ [], (va ∷ [], (vint w64 S ∷ [], tt))))
-      (owns-make 𝓤 H A (Q.the-row ∷ usize ∷ T.the-row ∷ u64 ∷ []) (Ises (Q.the-row ∷ usize ∷ T.the-row ∷ u64 ∷ [])) (EL.makes Q.the-type Q′.the-plain 𝓤 H A, (uint-makes 𝓤 H A W w64, (LL.makes T.the-type T′.the-plain 𝓤 H A, (uint-makes 𝓤 H A W w64, tt)))) (q, (j, (a, (S, tt)))) (vq ∷ [], (vint w64 j ∷ [], (va ∷ [], (vint w64 S ∷ [], tt)))) (gq, ((refl, fj), (ga, ((refl, fS), tt))))) tt (factI 𝓤 _ (emp 𝓤) (pos, most))
-      (λ r. r ≡ hit S q j a) (λ r ws. id⊢ 𝓤 _) ops (λ v r is e. subst (λ (u : Val). Seq K W (i ∷ Γ) (after u)) (sym (ap only (bool-tells r (v ∷ []) is) ∙ ap vbool e)) k)
 
   pub is-at-step : K → Site K W Γ C E #row-parts·is-at xs G after → (mem : Memory → SProp 𝓤) (run : Routine → Fun 𝓤) → Triple 𝓤 (C #row-parts·is-at) (IsAt 𝓤 H A mem run)
       → (f : Found) (vf : Val) → Is F.the-row f (vf ∷ [])

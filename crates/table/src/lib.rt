@@ -54,22 +54,20 @@ pub fn head_or(records: &[Arena], id: usize) -> Head
 
 // ---- the scan
 
-// Whether the query hits the record at id i. A run is looked for in the map where it lies; the record is
-// copied only where the maps past the last chunk are asked.
+// Whether the query hits the record at id i. The maps are looked at where they lie: nothing is copied.
 fn hits_at(records: &[Arena], i: usize, q: Query, chunk_size: u64) -> bool
     requires { ⌜ (0 < «chunk_size») × («chunk_size» ≤ 4294967296) ⌝ }
     ensures { λ r. ⌜ r ≡ hit «chunk_size» q i (at (now (records .entry)) i) ⌝ }
 {
     let h = head_or(records, i);
+    let chunks = judge::chunks_of(h);
     let n = judge::run_asked(q, i, h);
     if 0 < n {
-        let chunks = judge::chunks_of(h);
         let f = maps::run_at(records, i, chunks, n);
         return row_parts::is_at(f);
     }
     if judge::asks_tails(q, h, chunk_size) {
-        let a = records::load_or(records, i);
-        return judge::hit(q, i, a, chunk_size);
+        return !maps::tails_clear_at(records, i, chunks);
     }
     judge::hit_head(q, i, h, chunk_size)
 }

@@ -19,7 +19,7 @@ use prog.Wp.{Heap, WpFn, Tables}
 use ghost.Atoms.{Atoms}
 use sound.WpLaws.{fmOf}
 use types.Kit.{Given, Sq, prop, ‵, _⊛_, _$_, ! }
-use types.Run.{look, init, stop, from, load, lit, bin, assigns, and-then, no-more, land, returns, returns-within, params1, pass1, pass0, free0}
+use types.Run.{look, init, stop, from, load, lit, un, bin, assigns, and-then, no-more, land, returns, returns-within, params1, pass1, pass0, free0}
 use contract.Monad.{Fun, factI}
 use contract.Running.{givenOf, tables, tablesOf}
 use denote.Builtin.{bool, usize, u64}
@@ -38,13 +38,13 @@ use Rattle.runs.proofs.Found.Laws as F′
 use Rattle.arena.specs.declared.Arena.{Arena}
 use Rattle.arena.specs.Claiming.{findRun}
 use Rattle.arena.proofs.Arena as T
-use Rattle.arena.proofs.Arena.Laws as T′
+use Rattle.lookup.specs.Soundness.{clearPastAll}
 use Rattle.layer.specs.Table.{at, isAt}
 use Rattle.judge.specs.declared.Query.{Query}
 use Rattle.judge.specs.declared.Head.{Head}
 use Rattle.judge.specs.Scan.{hit}
 use Rattle.judge.specs.Heads.{headOf, runAsked, asksTails, headHit}
-use Rattle.judge.proofs.HeadLaws.{head-tells, Ran, run-tells}
+use Rattle.judge.proofs.HeadLaws.{head-tells, Ran, run-tells, Tailed, tails-tell}
 use Rattle.judge.proofs.Query as Q
 use Rattle.judge.proofs.Query.Laws as Q′
 use Rattle.judge.proofs.Head as D
@@ -53,11 +53,10 @@ use Rattle.records.proofs.Walk.{Loan, Known, shared, sliceOf}
 use Rattle.records.proofs.Locals.{enters, used, room, if-else}
 use Rattle.records.proofs.Calls.{in-seq}
 use Rattle.records.proofs.Frame.{DoneS, finishS, shr-meets}
-use Rattle.table.proofs.Leaf.{RunAsked, ChunksOf, IsAt, AsksTails, HitHead, Hits, run-asked-step, chunks-of-step, is-at-step, asks-step, hit-head-step, hit-step}
+use Rattle.table.proofs.Leaf.{RunAsked, ChunksOf, IsAt, AsksTails, HitHead, run-asked-step, chunks-of-step, is-at-step, asks-step, hit-head-step}
 use Rattle.table.proofs.Steps.{HeadOr, head-or-pass}
 use Rattle.table.proofs.TableLaws.{is-lent}
-use Rattle.records.proofs.Steps.{LoadOr, load-or-pass}
-use Rattle.maps.proofs.Passes.{RunAt, run-at-pass}
+use Rattle.maps.proofs.Passes.{RunAt, TailsClear, run-at-pass, tails-clear-pass}
 use Rattle.table.proofs.head_or.Symbol as head-def
 use Rattle.table.proofs.head_or.Symbol.{name as #table·head-or}
 use Rattle.table.proofs.head_or.Met as head-thm
@@ -76,12 +75,9 @@ use Rattle.row_parts.proofs.is_at.Met as is-at-thm
 use Rattle.judge.proofs.asks_tails.Symbol as asks-def
 use Rattle.judge.proofs.asks_tails.Symbol.{name as #judge·asks-tails}
 use Rattle.judge.proofs.asks_tails.Met as asks-thm
-use Rattle.records.proofs.load_or.Symbol as load-def
-use Rattle.records.proofs.load_or.Symbol.{name as #records·load-or}
-use Rattle.records.proofs.load_or.Met as load-thm
-use Rattle.judge.proofs.hit.Symbol as hit-def
-use Rattle.judge.proofs.hit.Symbol.{name as #judge·hit}
-use Rattle.judge.proofs.hit.Met as hit-thm
+use Rattle.maps.proofs.tails_clear_at.Symbol as tails-def
+use Rattle.maps.proofs.tails_clear_at.Symbol.{name as #maps·tails-clear-at}
+use Rattle.maps.proofs.tails_clear_at.Met as tails-thm
 use Rattle.judge.proofs.hit_head.Symbol as top-def
 use Rattle.judge.proofs.hit_head.Symbol.{name as #judge·hit-head}
 use Rattle.judge.proofs.hit_head.Met as top-thm
@@ -94,6 +90,10 @@ not-asked : (b : Bool) → Holds (not b) → b ≡ false
 not-asked true h = absurd h
 not-asked false h = refl
 
+asked : (b : Bool) → Holds b → b ≡ true
+asked true h = refl
+asked false h = absurd h
+
 asks-none : (n : ℕ) → Holds (not (ltb 0 n)) → n ≡ 0
 asks-none n h = let l = nltb→le 0 n h in omega (arith, l)
 
@@ -101,8 +101,7 @@ module _ {M : Type 1} (𝓤 : URA M) (H : Heap 𝓤) (A : Atoms 𝓤) (W : Given
     (known-head : Triple 𝓤 (𝓣 .C #table·head-or) (HeadOr 𝓤 H A mem run)) (known-asked : Triple 𝓤 (𝓣 .C #judge·run-asked) (RunAsked 𝓤 H A mem run))
     (known-chunks : Triple 𝓤 (𝓣 .C #judge·chunks-of) (ChunksOf 𝓤 H A mem run)) (known-run : Triple 𝓤 (𝓣 .C #maps·run-at) (RunAt 𝓤 H A mem run))
     (known-is-at : Triple 𝓤 (𝓣 .C #row-parts·is-at) (IsAt 𝓤 H A mem run)) (known-asks : Triple 𝓤 (𝓣 .C #judge·asks-tails) (AsksTails 𝓤 H A mem run))
-    (known-load : Triple 𝓤 (𝓣 .C #records·load-or) (LoadOr 𝓤 H A mem run)) (known-hit : Triple 𝓤 (𝓣 .C #judge·hit) (Hits 𝓤 H A mem run))
-    (known-top : Triple 𝓤 (𝓣 .C #judge·hit-head) (HitHead 𝓤 H A mem run)) where
+    (known-tails : Triple 𝓤 (𝓣 .C #maps·tails-clear-at) (TailsClear 𝓤 H A mem run)) (known-top : Triple 𝓤 (𝓣 .C #judge·hit-head) (HitHead 𝓤 H A mem run)) where
   module _ (κ : Lft) (q : Share) (γ : GName) (b o : ℕ) (ys : List Arena) (j : ℕ) (query : Query) (S : ℕ) where
     abbrev L : Loan
     L = record { κ = κ; q = q; γ = γ; b = b; o = o; n = length ys }
@@ -136,33 +135,33 @@ module _ {M : Type 1} (𝓤 : URA M) (H : Heap 𝓤) (A : Atoms 𝓤) (W : Given
         pass1 ! (init ! 3 refl (tt, (tt, (record { fits = kn .1 .0 }, tt)))) $ pass1 ! (init ! 5 refl (tt, record { fits = fj })) $ pass1 ! (init ! 7 refl (EL.lawful Q.the-type Q′.the-laws 𝓤 H A W tt .typed query (mach ∷ []) gq .0)) $ pass1 ! (init ! 9 refl (tt, record { fits = fS })) $ pass0 ! $
         head-or-pass ! (in-seq ! (fmOf 𝓤 H (W .laws) 𝓣)) mem run known-head L ys j fj (λ _. and-then ! (load ! (from ! (stop !)) (look ! 3 refl)) (and-then ! (load ! (from ! (stop !)) (look ! 5 refl)) (no-more !))) (λ vd gd.
         land ! (from ! (stop !)) (init ! 11 refl (LL.lawful D.the-type D′.the-laws 𝓤 H A W .typed d (vd ∷ []) gd .0)) $
+        chunks-of-step ! (in-seq ! (fmOf 𝓤 H (W .laws) 𝓣)) mem run known-chunks d vd gd (λ _. and-then ! (load ! (from ! (stop !)) (look ! 11 refl)) (no-more !)) (λ fc.
+        land ! (from ! (stop !)) (init ! 13 refl (tt, record { fits = fc })) $
         run-asked-step ! (in-seq ! (fmOf 𝓤 H (W .laws) 𝓣)) mem run known-asked query mach gq j fj d vd gd (λ _. and-then ! (load ! (from ! (stop !)) (look ! 7 refl)) (and-then ! (load ! (from ! (stop !)) (look ! 5 refl)) (and-then ! (load ! (from ! (stop !)) (look ! 11 refl)) (no-more !)))) (λ fn.
-        land ! (from ! (stop !)) (init ! 13 refl (tt, record { fits = fn })) $
-        assigns ! (bin ! (lit ! tt) (load ! (from ! (stop !)) (look ! 13 refl)) tt) (from ! (stop !)) (init ! 21 refl (tt, tt)) $
-        if-else ! (load ! (from ! (stop !)) (look ! 21 refl))
+        land ! (from ! (stop !)) (init ! 15 refl (tt, record { fits = fn })) $
+        assigns ! (bin ! (lit ! tt) (load ! (from ! (stop !)) (look ! 15 refl)) tt) (from ! (stop !)) (init ! 19 refl (tt, tt)) $
+        if-else ! (load ! (from ! (stop !)) (look ! 19 refl))
         (λ h. let some : 0 < n = ltb→lt 0 n h in
         let ran : Ran a n (hit S query j a) = run-tells S query j a some in
-        chunks-of-step ! (in-seq ! (fmOf 𝓤 H (W .laws) 𝓣)) mem run known-chunks d vd gd (λ _. and-then ! (load ! (from ! (stop !)) (look ! 11 refl)) (no-more !)) (λ fc.
-        land ! (from ! (stop !)) (init ! 15 refl (tt, record { fits = fc })) $
-        run-at-pass ! (in-seq ! (fmOf 𝓤 H (W .laws) 𝓣)) mem run known-run L ys j fj (d .chunks) fc n fn (is-lent ys j (ran .some)) refl (ran .few) some (λ _. and-then ! (load ! (from ! (stop !)) (look ! 3 refl)) (and-then ! (load ! (from ! (stop !)) (look ! 5 refl)) (and-then ! (load ! (from ! (stop !)) (look ! 15 refl)) (and-then ! (load ! (from ! (stop !)) (look ! 13 refl)) (no-more !))))) (λ vf gf.
+        run-at-pass ! (in-seq ! (fmOf 𝓤 H (W .laws) 𝓣)) mem run known-run L ys j fj (d .chunks) fc n fn (is-lent ys j (ran .some)) refl (ran .few) some (λ _. and-then ! (load ! (from ! (stop !)) (look ! 3 refl)) (and-then ! (load ! (from ! (stop !)) (look ! 5 refl)) (and-then ! (load ! (from ! (stop !)) (look ! 13 refl)) (and-then ! (load ! (from ! (stop !)) (look ! 15 refl)) (no-more !))))) (λ vf gf.
         land ! (from ! (stop !)) (init ! 17 refl (EL.lawful F.the-type F′.the-laws 𝓤 H A W tt .typed f (vf ∷ []) gf .0)) $
         is-at-step ! (in-seq ! (fmOf 𝓤 H (W .laws) 𝓣)) mem run known-is-at f vf gf (λ _. and-then ! (load ! (from ! (stop !)) (look ! 17 refl)) (no-more !)) (
         land ! (from ! (stop !)) (init ! 1 refl (tt, tt)) $
-        returns-within ! Post refl (look ! 1 refl) $ used ! $ used ! $ used ! $ used ! $ used ! $ used ! $ used ! $ used ! $ used ! $ room ! $ used ! $ room ! $ free0 ! $
-        finishS 𝓤 H A T.the-row L bool ys χ W (‵ ftrue) (vbool (isAt f)) (isAt f) refl (ran .told)))))
+        returns-within ! Post refl (look ! 1 refl) $ used ! $ used ! $ used ! $ used ! $ used ! $ used ! $ used ! $ used ! $ used ! $ used ! $ room ! $ room ! $ free0 ! $
+        finishS 𝓤 H A T.the-row L bool ys χ W (‵ ftrue) (vbool (isAt f)) (isAt f) refl (ran .told))))
         (λ h. asks-step ! (in-seq ! (fmOf 𝓤 H (W .laws) 𝓣)) mem run known-asks query mach gq d vd gd S fS lo hi (λ _. and-then ! (load ! (from ! (stop !)) (look ! 7 refl)) (and-then ! (load ! (from ! (stop !)) (look ! 11 refl)) (and-then ! (load ! (from ! (stop !)) (look ! 9 refl)) (no-more !)))) (
+        land ! (from ! (stop !)) (init ! 21 refl (tt, tt)) $
+        if-else ! (load ! (from ! (stop !)) (look ! 21 refl))
+        (λ t. let tailed : Tailed a (hit S query j a) = tails-tell S query j a (asked (asksTails S query d) t) in
+        tails-clear-pass ! (in-seq ! (fmOf 𝓤 H (W .laws) 𝓣)) mem run known-tails L ys j fj (d .chunks) fc (is-lent ys j (tailed .some)) refl (tailed .few) (λ _. and-then ! (load ! (from ! (stop !)) (look ! 3 refl)) (and-then ! (load ! (from ! (stop !)) (look ! 5 refl)) (and-then ! (load ! (from ! (stop !)) (look ! 13 refl)) (no-more !)))) (
         land ! (from ! (stop !)) (init ! 23 refl (tt, tt)) $
-        if-else ! (load ! (from ! (stop !)) (look ! 23 refl))
-        (λ t. load-or-pass ! (in-seq ! (fmOf 𝓤 H (W .laws) 𝓣)) mem run known-load L ys j fj (λ _. and-then ! (load ! (from ! (stop !)) (look ! 3 refl)) (and-then ! (load ! (from ! (stop !)) (look ! 5 refl)) (no-more !))) (λ va ga.
-        land ! (from ! (stop !)) (init ! 19 refl (LL.lawful T.the-type T′.the-laws 𝓤 H A W .typed a (va ∷ []) ga .0)) $
-        hit-step ! (in-seq ! (fmOf 𝓤 H (W .laws) 𝓣)) mem run known-hit query mach gq j fj a va ga S fS lo hi (λ _. and-then ! (load ! (from ! (stop !)) (look ! 7 refl)) (and-then ! (load ! (from ! (stop !)) (look ! 5 refl)) (and-then ! (load ! (from ! (stop !)) (look ! 19 refl)) (and-then ! (load ! (from ! (stop !)) (look ! 9 refl)) (no-more !))))) (
-        land ! (from ! (stop !)) (init ! 1 refl (tt, tt)) $
-        returns-within ! Post refl (look ! 1 refl) $ used ! $ used ! $ used ! $ used ! $ used ! $ used ! $ used ! $ room ! $ room ! $ used ! $ used ! $ used ! $ free0 ! $
-        finishS 𝓤 H A T.the-row L bool ys χ W (‵ ftrue) (vbool (hit S query j a)) (hit S query j a) refl refl)))
+        assigns ! (un ! (load ! (from ! (stop !)) (look ! 23 refl)) tt) (from ! (stop !)) (init ! 1 refl (tt, tt)) $
+        returns-within ! Post refl (look ! 1 refl) $ used ! $ used ! $ used ! $ used ! $ used ! $ used ! $ used ! $ used ! $ room ! $ used ! $ used ! $ used ! $ free0 ! $
+        finishS 𝓤 H A T.the-row L bool ys χ W (‵ ftrue) (vbool (not (clearPastAll a))) (not (clearPastAll a)) refl (tailed .told)))
         (λ t. hit-head-step ! (in-seq ! (fmOf 𝓤 H (W .laws) 𝓣)) mem run known-top query mach gq j fj d vd gd S fS lo hi (λ _. and-then ! (load ! (from ! (stop !)) (look ! 7 refl)) (and-then ! (load ! (from ! (stop !)) (look ! 5 refl)) (and-then ! (load ! (from ! (stop !)) (look ! 11 refl)) (and-then ! (load ! (from ! (stop !)) (look ! 9 refl)) (no-more !))))) (
         land ! (from ! (stop !)) (init ! 1 refl (tt, tt)) $
-        returns ! (look ! 1 refl) $ used ! $ used ! $ used ! $ used ! $ used ! $ used ! $ used ! $ room ! $ room ! $ room ! $ used ! $ used ! $ free0 ! $
-        finishS 𝓤 H A T.the-row L bool ys χ W (‵ ftrue) (vbool (headHit S query j d)) (headHit S query j d) refl (head-tells S query j a (asks-none n h) (not-asked (asksTails S query d) t)))))))))
+        returns ! (look ! 1 refl) $ used ! $ used ! $ used ! $ used ! $ used ! $ used ! $ used ! $ used ! $ room ! $ used ! $ used ! $ room ! $ free0 ! $
+        finishS 𝓤 H A T.the-row L bool ys χ W (‵ ftrue) (vbool (headHit S query j d)) (headHit S query j d) refl (head-tells S query j a (asks-none n h) (not-asked (asksTails S query d) t))))))))))
 
   hits-meets : Meets 𝓤 H A hits′.signature (WpFn 𝓤 H (𝓣 .C) (𝓣 .Λ) code.function) (hits′.spec 𝓤 H A mem run)
   hits-meets = shr-meets 𝓤 H A W T.the-row bool (plain (λ _. usize) ∷ plain (λ _. Q.the-row) ∷ plain (λ _. u64) ∷ []) (yes, (yes, (yes, tt))) (hits′.clauses 𝓤 H A mem run)
@@ -184,6 +183,5 @@ hits-at-spec 𝓤 H 𝓜 𝓖 𝓡 =
     (cited 𝓤 H (RunAt 𝓤 H (𝓖 .A) (𝓜 .mem) (𝓡 .run)) 𝓜 𝓡 code.env #maps·run-at run-def.routine code.calls-maps·run-at (run-thm.met 𝓤 H 𝓜 𝓖 𝓡))
     (cited 𝓤 H (IsAt 𝓤 H (𝓖 .A) (𝓜 .mem) (𝓡 .run)) 𝓜 𝓡 code.env #row-parts·is-at is-at-def.routine code.calls-row-parts·is-at (is-at-thm.met 𝓤 H 𝓜 𝓖 𝓡))
     (cited 𝓤 H (AsksTails 𝓤 H (𝓖 .A) (𝓜 .mem) (𝓡 .run)) 𝓜 𝓡 code.env #judge·asks-tails asks-def.routine code.calls-judge·asks-tails (asks-thm.met 𝓤 H 𝓜 𝓖 𝓡))
-    (cited 𝓤 H (LoadOr 𝓤 H (𝓖 .A) (𝓜 .mem) (𝓡 .run)) 𝓜 𝓡 code.env #records·load-or load-def.routine code.calls-records·load-or (load-thm.met 𝓤 H 𝓜 𝓖 𝓡))
-    (cited 𝓤 H (Hits 𝓤 H (𝓖 .A) (𝓜 .mem) (𝓡 .run)) 𝓜 𝓡 code.env #judge·hit hit-def.routine code.calls-judge·hit (hit-thm.met 𝓤 H 𝓜 𝓖 𝓡))
+    (cited 𝓤 H (TailsClear 𝓤 H (𝓖 .A) (𝓜 .mem) (𝓡 .run)) 𝓜 𝓡 code.env #maps·tails-clear-at tails-def.routine code.calls-maps·tails-clear-at (tails-thm.met 𝓤 H 𝓜 𝓖 𝓡))
     (cited 𝓤 H (HitHead 𝓤 H (𝓖 .A) (𝓜 .mem) (𝓡 .run)) 𝓜 𝓡 code.env #judge·hit-head top-def.routine code.calls-judge·hit-head (top-thm.met 𝓤 H 𝓜 𝓖 𝓡)))

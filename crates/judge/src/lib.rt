@@ -3,15 +3,13 @@
 ghost use mathlib.Core.Path.{_≡_};
 ghost use mathlib.Core.Bool.{_&&_};
 ghost use Prim.Native.Nat.{_+_, _*_, _^_, _<_, _≤_};
-ghost use lib.Dec.{eqb, leb, ltb};
-ghost use Rattle.runs.specs.Lowest.{all};
+ghost use lib.Dec.{eqb, ltb};
 ghost use Rattle.arena.specs.Claiming.{findRun};
 ghost use Rattle.lookup.specs.Soundness.{soundRange};
 ghost use Rattle.layer.specs.Claiming.{eligible};
 ghost use Rattle.judge.specs.declared.Query.the-variants.{Serves};
 ghost use Rattle.judge.specs.Heads.{headed, mayServe, runAsked, asksTails, headHit, outside};
 use arena::Arena;
-use layer::Question;
 use runs::Found;
 
 const MOST_CHUNKS: usize = 1024;

@@ -1,21 +1,16 @@
 -- What a sound record is, by facts and not by tests; and no bit of a map past the last chunk. Assumes nothing.
-use mathlib.Core.Path.{_≡_, refl, sym, ap, ap₂, _∙_}
+use mathlib.Core.Path.{_≡_, refl, sym, ap, ap₂}
 use mathlib.Core.Bool.{Bool, true, false, not, _&&_}
 use mathlib.Core.List.{List}
-use mathlib.Core.Logic.{⊎-elim, _↔_}
-use Prim.Native.Nat.{ℕ, _+_, _-_, _*_, _/_, _%_, _^_, _≤_, _<_}
-use native.Mathlib.Nat.{zero-lt-suc, div-le-self, lt-of-le-of-lt}
+use mathlib.Core.Logic.{_↔_}
+use Prim.Native.Nat.{ℕ, _+_, _-_, _*_, _%_, _^_, _≤_, _<_}
 use native.Mathlib.Omega.{arith}
 use borrow.Author.Tests.{lt-ltb, ltb-true, le-leb, leb-true, eqb-true, eq-eqb, ne-eqb, eqb-false, not-true}
-use lib.Bits.{bitAnd, bitOr, or-add-and, and-le-l, and-le-r, or-shr}
 use lib.Dec.{eqb, leb, ltb}
-use lib.ListN.{getD}
-use Rattle.words.specs.Bits.{bit, bitAt}
-use Rattle.words.proofs.BitLaws.{bit-ext, bit-high, shr-bit}
-use Rattle.words.proofs.RowLaws.{lt-or-le}
+use Rattle.words.specs.Bits.{bitAt}
 use Rattle.runs.specs.Lowest.{all}
 use Rattle.runs.proofs.LowestLaws.{all-free-of, free-all}
-use Rattle.runs.proofs.SearchLaws.{same, and-both}
+use Rattle.runs.proofs.SearchLaws.{and-both}
 use Rattle.arena.specs.declared.Arena.{Arena}
 use Rattle.lookup.specs.Soundness.{soundRange, clearPast, clearPastAll, soundArena}
 

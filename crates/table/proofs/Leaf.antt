@@ -1,5 +1,5 @@
 -- Functions that the crate above has no need of, each called in one step of a walk (`Calls.antt`):
---     found-step, nothing-step, head-at-pass, no-head-step, run-asked-step, chunks-of-step, asks-step, hit-head-step, hits-at-pass, is-nothing-step, outside-step, meets-none-pass, no-span-step, span-step, is-at-step, range-step, unsound-step, lent-step, about-step, asked-step, question-step
+--     found-step, nothing-step, head-at-pass, no-head-step, run-asked-step, chunks-of-step, asks-step, hit-head-step, hits-at-pass, is-nothing-step, outside-step, meets-none-pass, no-span-step, span-step, is-at-step, range-step, unsound-step, lent-step, count-of-step, question-of-step, about-step, asked-step, question-step
 -- Assumes `Given`, the callee's theorem, and that the table of calls is monotone under a frame.
 use mathlib.Core.Path.{_≡_, refl, sym, _∙_, ap, subst}
 use mathlib.Core.Bool.{not, _&&_}
@@ -39,6 +39,9 @@ use Rattle.arena.proofs.Arena.Laws as T′
 use Rattle.layer.specs.World.{blank}
 use Rattle.layer.specs.declared.Question.{Question}
 use Rattle.layer.specs.Table.{at, isAt, overlaps, askedId, soundQuestion}
+use Rattle.layer.specs.declared.State.{State}
+use Rattle.layer.proofs.State as Z
+use Rattle.layer.proofs.State.Laws as Z′
 use Rattle.layer.proofs.Question as N
 use Rattle.layer.proofs.Question.Laws as N′
 use Rattle.judge.specs.declared.Query.{Query}
@@ -78,6 +81,10 @@ use Rattle.table.proofs.no_head as no-head′
 use Rattle.table.proofs.no_head.Symbol.{name as #table·no-head}
 use Rattle.table.proofs.hits_at as hits-at′
 use Rattle.table.proofs.hits_at.Symbol.{name as #table·hits-at}
+use Rattle.row_parts.proofs.count_of as count-of′
+use Rattle.row_parts.proofs.count_of.Symbol.{name as #row-parts·count-of}
+use Rattle.row_parts.proofs.question_of as question-of′
+use Rattle.row_parts.proofs.question_of.Symbol.{name as #row-parts·question-of}
 use Rattle.judge.proofs.asks_tails as asks′
 use Rattle.judge.proofs.asks_tails.Symbol.{name as #judge·asks-tails}
 use Rattle.judge.proofs.run_asked as run-asked′
@@ -155,6 +162,12 @@ module _ {M : Type 1} (𝓤 : URA M) (H : Heap 𝓤) (A : Atoms 𝓤) (mem : Mem
   abbrev pub Lent : Contract 𝓤
   Lent = tripleOf 𝓤 H A lent′.signature (lent′.spec 𝓤 H A mem run)
 
+  abbrev pub CountOf : Contract 𝓤
+  CountOf = tripleOf 𝓤 H A count-of′.signature (count-of′.spec 𝓤 H A mem run)
+
+  abbrev pub QuestionOf : Contract 𝓤
+  QuestionOf = tripleOf 𝓤 H A question-of′.signature (question-of′.spec 𝓤 H A mem run)
+
   abbrev pub About : Contract 𝓤
   About = tripleOf 𝓤 H A about′.signature (about′.spec 𝓤 H A mem run)
 
@@ -222,6 +235,26 @@ module _ {M : Type 1} {𝓤 : URA M} {H : Heap 𝓤} {A : Atoms 𝓤} {K : Type 
       plain-call t site bool (plain (λ _. usize) ∷ plain (λ _. usize) ∷ plain (λ _. u64) ∷ plain (λ _. usize) ∷ []) (yes, (yes, (yes, (yes, tt)))) (lent′.clauses 𝓤 H A mem run) known (len, (stamps, (page, (n, tt)))) (vint w64 len ∷ [], (vint w64 stamps ∷ [], (vint w64 page ∷ [], (vint w64 n ∷ [], tt))))
       (owns-make 𝓤 H A (usize ∷ usize ∷ u64 ∷ usize ∷ []) (Ises (usize ∷ usize ∷ u64 ∷ usize ∷ [])) (uint-makes 𝓤 H A W w64, (uint-makes 𝓤 H A W w64, (uint-makes 𝓤 H A W w64, (uint-makes 𝓤 H A W w64, tt)))) (len, (stamps, (page, (n, tt)))) (vint w64 len ∷ [], (vint w64 stamps ∷ [], (vint w64 page ∷ [], (vint w64 n ∷ [], tt)))) ((refl, flen), ((refl, fstamps), ((refl, fpage), ((refl, fn), tt))))) tt (id⊢ 𝓤 _)
       (λ r. r ≡ eqb len 32 && (eqb stamps 32768 && (pageSizeSound page && leb n 32))) (λ r ws. id⊢ 𝓤 _) ops (λ v r is e. subst (λ (u : Val). Seq K W (i ∷ Γ) (after u)) (sym (ap only (bool-tells r (v ∷ []) is) ∙ ap vbool e)) k)
+
+  pub count-of-step : K → Site K W Γ C E #row-parts·count-of xs G after → (mem : Memory → SProp 𝓤) (run : Routine → Fun 𝓤) → Triple 𝓤 (C #row-parts·count-of) (CountOf 𝓤 H A mem run)
+      → (s : State) (vs : Val) → Is Z.the-row s (vs ∷ [])
+      → ((h : Item 𝓤) → Opds K W (h ∷ Γ) E xs (vs ∷ []))
+      → (s .count < 2 ^ 64 → Seq K W (i ∷ Γ) (after (vint w64 (s .count))))
+      → Seq K W (i ∷ Γ) G
+  count-of-step t site mem run known s vs gs ops k =
+      plain-call t site usize (plain (λ _. Z.the-row) ∷ []) (yes, tt) (count-of′.clauses 𝓤 H A mem run) known (s, tt) (vs ∷ [], tt)
+      (owns-make 𝓤 H A (Z.the-row ∷ []) (Ises (Z.the-row ∷ [])) (LL.makes Z.the-type Z′.the-plain 𝓤 H A, tt) (s, tt) (vs ∷ [], tt) (gs, tt)) tt (id⊢ 𝓤 _)
+      (λ r. r ≡ s .count) (λ r ws. id⊢ 𝓤 _) ops (λ v r is e. subst (λ (u : Val). Seq K W (i ∷ Γ) (after u)) (sym (ap only (is .0) ∙ ap (vint w64) e)) (k (subst (λ (m : ℕ). m < 2 ^ 64) e (is .1))))
+
+  pub question-of-step : K → Site K W Γ C E #row-parts·question-of xs G after → (mem : Memory → SProp 𝓤) (run : Routine → Fun 𝓤) → Triple 𝓤 (C #row-parts·question-of) (QuestionOf 𝓤 H A mem run)
+      → (s : State) (vs : Val) → Is Z.the-row s (vs ∷ [])
+      → ((h : Item 𝓤) → Opds K W (h ∷ Γ) E xs (vs ∷ []))
+      → ((v : Val) → Is N.the-row (s .question) (v ∷ []) → Seq K W (i ∷ Γ) (after v))
+      → Seq K W (i ∷ Γ) G
+  question-of-step t site mem run known s vs gs ops k =
+      plain-call t site N.the-row (plain (λ _. Z.the-row) ∷ []) (yes, tt) (question-of′.clauses 𝓤 H A mem run) known (s, tt) (vs ∷ [], tt)
+      (owns-make 𝓤 H A (Z.the-row ∷ []) (Ises (Z.the-row ∷ [])) (LL.makes Z.the-type Z′.the-plain 𝓤 H A, tt) (s, tt) (vs ∷ [], tt) (gs, tt)) tt (id⊢ 𝓤 _)
+      (λ r. r ≡ s .question) (λ r ws. id⊢ 𝓤 _) ops (λ v r is e. k v (subst (λ (o : Question). Is N.the-row o (v ∷ [])) e is))
 
   pub asked-step : K → Site K W Γ C E #open-question·asked-id xs G after → (mem : Memory → SProp 𝓤) (run : Routine → Fun 𝓤) → Triple 𝓤 (C #open-question·asked-id) (Asked 𝓤 H A mem run)
       → (q : Question) (vq : Val) → Is N.the-row q (vq ∷ [])

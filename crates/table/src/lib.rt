@@ -127,21 +127,23 @@ pub fn row_one(records: &[Arena], stamps: usize, state: State, page: u64, chunk_
     requires { ⌜ (0 < «chunk_size») × («chunk_size» ≤ 4294967296) ⌝ }
     ensures { λ r. ⌜ r ≡ soundLent «chunk_size» (now (records .entry)) stamps state page ⌝ }
 {
-    if !row_parts::lent_sound(records.len(), stamps, page, state.count) {
+    let count = row_parts::count_of(state);
+    if !row_parts::lent_sound(records.len(), stamps, page, count) {
         return false;
     }
     let q = row_parts::unsound_query();
-    let f = scan(records, state.count, chunk_size, q);
+    let f = scan(records, count, chunk_size, q);
     if row_parts::is_at(f) {
         return false;
     }
-    if !apart_table(records, state.count, chunk_size) {
+    if !apart_table(records, count, chunk_size) {
         return false;
     }
-    if open_question::is_about_none(state.question) {
+    let question = row_parts::question_of(state);
+    if open_question::is_about_none(question) {
         return true;
     }
-    let id = open_question::asked_id(state.question);
+    let id = open_question::asked_id(question);
     let a = records::load_or(records, id);
-    open_question::question_sound(a, state.count, state.question)
+    open_question::question_sound(a, count, question)
 }

@@ -1,6 +1,6 @@
 -- Which arenas a claim may use, by the sign of its id; and the run of no chunks. Assumes nothing.
 use mathlib.Core.Path.{_≡_, refl, sym}
-use mathlib.Core.Bool.{Bool, true, false, not, _&&_, true≢false}
+use mathlib.Core.Bool.{Bool, true, false, not, cond, _&&_, true≢false}
 use Prim.Native.Nat.{ℕ}
 use native.Mathlib.Omega.{arith}
 use borrow.Author.Tests.{ltb-true}
@@ -14,22 +14,26 @@ use Rattle.runs.proofs.LowestLaws.{lowest-is}
 use Rattle.arena.specs.declared.Arena.{Arena}
 use Rattle.arena.specs.Claiming.{free, findRun}
 use Rattle.layer.specs.Claiming.{eligible}
-use Rattle.open_question.proofs.QuestionLaws.{no-first}
 
--- ---- three tests, one after the other
-
-pub no-second : (x y z : Bool) → x ≡ true → y ≡ false → false ≡ x && (y && z)
-no-second true y z e f = no-first y z f
-no-second false y z e f = refl
+-- ---- two tests, one after the other
 
 pub only-second : (x y : Bool) → x ≡ true → y ≡ x && y
 only-second true y e = refl
 only-second false y e = absurd (true≢false (sym e))
 
-pub only-third : (x y z : Bool) → x ≡ true → y ≡ true → z ≡ x && (y && z)
-only-third true true z e f = refl
-only-third true false z e f = absurd (true≢false (sym f))
-only-third false y z e f = absurd (true≢false (sym e))
+pub and-off : (x : Bool) → x && false ≡ false
+and-off true = refl
+and-off false = refl
+
+-- ---- a run under a test
+
+pub cond-off : (b : Bool) (n : ℕ) → b ≡ false → 0 ≡ cond b n 0
+cond-off true n e = absurd (true≢false e)
+cond-off false n e = refl
+
+pub cond-on : (b : Bool) (n : ℕ) → b ≡ true → n ≡ cond b n 0
+cond-on true n e = refl
+cond-on false n e = absurd (true≢false (sym e))
 
 -- ---- the id
 

@@ -3,16 +3,13 @@
 ghost use mathlib.Core.Path.{_≡_};
 ghost use mathlib.Core.Bool.{_&&_};
 ghost use Prim.Native.Nat.{_+_, _*_, _^_, _<_, _≤_};
-ghost use lib.Dec.{leb, ltb};
-ghost use Rattle.runs.specs.Lowest.{all};
+ghost use lib.Dec.{eqb, ltb};
 ghost use Rattle.arena.specs.Claiming.{findRun};
 ghost use Rattle.lookup.specs.Soundness.{soundRange};
-ghost use Rattle.layer.specs.Table.{isAt};
 ghost use Rattle.layer.specs.Claiming.{eligible};
-ghost use Rattle.judge.specs.Scan.{hit};
-ghost use Rattle.judge.specs.Heads.{headed, asksMaps, headHit, outside};
+ghost use Rattle.judge.specs.declared.Query.the-variants.{Serves};
+ghost use Rattle.judge.specs.Heads.{headed, mayServe, runAsked, asksTails, headHit, outside};
 use arena::Arena;
-use layer::Question;
 use runs::Found;
 
 const MOST_CHUNKS: usize = 1024;
@@ -50,16 +47,6 @@ pub struct Span {
 
 // ---- claims
 
-// Whether a claim at the id may use arena i: a negative id means every arena that is not exclusive.
-fn is_eligible(id: i32, i: usize, a: Arena) -> bool
-    ensures { λ r. ⌜ r ≡ eligible id i a ⌝ }
-{
-    if id < 0 {
-        return !a.exclusive;
-    }
-    i == (id as usize)
-}
-
 // The lowest run of n free chunks; a run of none starts at the first chunk.
 pub fn run_of(a: Arena, n: usize) -> Found
     requires { ⌜ a .chunks ≤ 1024 ⌝ }
@@ -71,40 +58,7 @@ pub fn run_of(a: Arena, n: usize) -> Found
     lookup::find_run(a, n)
 }
 
-// Whether arena i may serve the claim, and has a run of n.
-fn serves_claim(id: i32, n: usize, i: usize, a: Arena) -> bool
-    ensures { λ r. ⌜ r ≡ (eligible id i a && (leb (a .chunks) 1024 && isAt (findRun a n))) ⌝ }
-{
-    if !is_eligible(id, i, a) {
-        return false;
-    }
-    if MOST_CHUNKS < a.chunks {
-        return false;
-    }
-    let found = run_of(a, n);
-    match found {
-        Found::At(_) => true,
-        Found::Nothing => false,
-    }
-}
-
-// ---- queries
-
-// Whether the query hits the record at id i.
-pub fn hit(q: Query, i: usize, a: Arena, chunk_size: u64) -> bool
-    requires { ⌜ (0 < «chunk_size») × («chunk_size» ≤ 4294967296) ⌝ }
-    ensures { λ r. ⌜ r ≡ hit «chunk_size» q i a ⌝ }
-{
-    match q {
-        Query::Unsound => !soundness::is_sound(a, chunk_size),
-        Query::Meets { base, bytes } => ranges::meets_range(a, chunk_size, base, bytes),
-        Query::Holds { address } => ranges::holds(a, chunk_size, address),
-        Query::Serves { id, n } => serves_claim(id, n, i, a),
-        Query::Grows { address, n } => ranges::grows_at(a, chunk_size, address, n),
-    }
-}
-
-// ---- heads
+// ---- heads: what is judged of a record by its head
 
 // A record with that head, and nothing else in it.
 fn headed(h: Head) -> Arena
@@ -135,28 +89,83 @@ fn has_tail(base: u64, chunks: usize, chunk_size: u64) -> bool
     chunks < MOST_CHUNKS
 }
 
-// Whether the map of used chunks is to be looked at.
-fn may_serve(id: i32, i: usize, h: Head) -> bool
-    ensures { λ r. ⌜ r ≡ (eligible id i (headed h) && leb (h .chunks) 1024) ⌝ }
+// The chunks of the record with that head.
+pub fn chunks_of(h: Head) -> usize
+    ensures { λ r. ⌜ r ≡ h .chunks ⌝ }
 {
-    if !is_eligible(id, i, headed(h)) {
+    h.chunks
+}
+
+// Whether a claim at the id means arena i, of that head: a negative id means every arena that is not
+// exclusive.
+fn is_eligible(id: i32, i: usize, h: Head) -> bool
+    ensures { λ r. ⌜ r ≡ eligible id i (headed h) ⌝ }
+{
+    if id < 0 {
+        return !h.exclusive;
+    }
+    i == (id as usize)
+}
+
+// Whether a claim at the id may use arena i, of that head.
+fn may_serve(id: i32, i: usize, h: Head) -> bool
+    ensures { λ r. ⌜ r ≡ mayServe id i h ⌝ }
+{
+    if !is_eligible(id, i, h) {
         return false;
     }
     h.chunks <= MOST_CHUNKS
 }
 
-// Whether the query asks the maps of the record at id i, of that head.
-pub fn asks_maps(q: Query, i: usize, h: Head, chunk_size: u64) -> bool
+// The run of n, where the arena has chunks and may serve it.
+fn served_run(id: i32, n: usize, i: usize, h: Head) -> usize
+    ensures { λ r. ⌜ r ≡ runAsked (Serves id n) i h ⌝ }
+{
+    if !may_serve(id, i, h) {
+        return 0;
+    }
+    if h.chunks < 1 {
+        return 0;
+    }
+    n
+}
+
+// The run that the query asks the map of used chunks for, of the record at id i with that head; 0 where it
+// does not ask it.
+pub fn run_asked(q: Query, i: usize, h: Head) -> usize
+    ensures { λ r. ⌜ r ≡ runAsked q i h ⌝ }
+{
+    match q {
+        Query::Unsound => 0,
+        Query::Meets { .. } => 0,
+        Query::Holds { .. } => 0,
+        Query::Serves { id, n } => served_run(id, n, i, h),
+        Query::Grows { .. } => 0,
+    }
+}
+
+// Whether the query asks the maps past the last chunk of a record with that head.
+pub fn asks_tails(q: Query, h: Head, chunk_size: u64) -> bool
     requires { ⌜ (0 < «chunk_size») × («chunk_size» ≤ 4294967296) ⌝ }
-    ensures { λ r. ⌜ r ≡ asksMaps «chunk_size» q i h ⌝ }
+    ensures { λ r. ⌜ r ≡ asksTails «chunk_size» q h ⌝ }
 {
     match q {
         Query::Unsound => has_tail(h.base, h.chunks, chunk_size),
         Query::Meets { .. } => false,
         Query::Holds { .. } => false,
-        Query::Serves { id, .. } => may_serve(id, i, h),
+        Query::Serves { .. } => false,
         Query::Grows { .. } => false,
     }
+}
+
+// Whether the claim is of no chunks, and the arena may serve it.
+fn serves_none(id: i32, n: usize, i: usize, h: Head) -> bool
+    ensures { λ r. ⌜ r ≡ (mayServe id i h && eqb n 0) ⌝ }
+{
+    if !may_serve(id, i, h) {
+        return false;
+    }
+    n == 0
 }
 
 // Whether the query, which asks no map, hits the record at id i.
@@ -168,7 +177,7 @@ pub fn hit_head(q: Query, i: usize, h: Head, chunk_size: u64) -> bool
         Query::Unsound => !soundness::range_is_sound(h.base, h.chunks, chunk_size),
         Query::Meets { base, bytes } => ranges::meets_range(headed(h), chunk_size, base, bytes),
         Query::Holds { address } => ranges::holds(headed(h), chunk_size, address),
-        Query::Serves { .. } => false,
+        Query::Serves { id, n } => serves_none(id, n, i, h),
         Query::Grows { address, n } => ranges::grows_at(headed(h), chunk_size, address, n),
     }
 }

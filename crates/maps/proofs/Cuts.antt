@@ -73,3 +73,6 @@ module _ {M : Type 1} (𝓤 : URA M) (H : Heap 𝓤) (A : Atoms 𝓤) (W : Given
 
   pub committed-look : Look 𝓤 H A T.the-row Row 284 (λ a. a .committed)
   committed-look = field-look 𝓤 H A W T.the-type T′.the-laws 8 284 refl refl (T.struct .as-values) (λ x. refl) (λ v. refl) Row (λ a. a .committed) (λ q x b o. look-same q (x .committed) b o)
+
+  pub pending-look : Look 𝓤 H A T.the-row Row 412 (λ a. a .pending)
+  pending-look = field-look 𝓤 H A W T.the-type T′.the-laws 9 412 refl refl (T.struct .as-values) (λ x. refl) (λ v. refl) Row (λ a. a .pending) (λ q x b o. look-same q (x .pending) b o)

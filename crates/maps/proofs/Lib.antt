@@ -1,2 +1,3 @@
 pub mod Cuts
 mod Steps
+pub mod Passes

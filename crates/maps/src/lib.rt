@@ -3,6 +3,7 @@ ghost use mathlib.Core.Path.{_≡_};
 ghost use Prim.Native.Nat.{_+_, _<_, _≤_};
 ghost use lib.ListN.{length, getD};
 ghost use Rattle.layer.specs.World.{blank};
+ghost use Rattle.lookup.specs.Soundness.{clearPastAll};
 ghost use Rattle.arena.specs.Claiming.{findRun, runCommitted, runFresh};
 use arena::Arena;
 use runs::Found;
@@ -29,4 +30,21 @@ pub fn fresh_at(records: &[Arena], i: usize, s: usize, n: usize) -> bool
     ensures { λ r. ⌜ r ≡ runFresh (getD (now (records .entry)) i blank) s n ⌝ }
 {
     row_scans::row_is_free(&records[i].dirty, true, s, n)
+}
+
+// Whether no bit of the four maps is set at or past the last chunk.
+pub fn tails_clear_at(records: &[Arena], i: usize, chunks: usize) -> bool
+    requires { ⌜ (i < length (now records)) × (chunks ≡ getD (now records) i blank .chunks) × (chunks < 1024) ⌝ }
+    ensures { λ r. ⌜ r ≡ clearPastAll (getD (now (records .entry)) i blank) ⌝ }
+{
+    if !soundness::tail_is_clear(&records[i].used, chunks) {
+        return false;
+    }
+    if !soundness::tail_is_clear(&records[i].dirty, chunks) {
+        return false;
+    }
+    if !soundness::tail_is_clear(&records[i].committed, chunks) {
+        return false;
+    }
+    soundness::tail_is_clear(&records[i].pending, chunks)
 }

@@ -9,6 +9,7 @@ ghost use Rattle.layer.specs.Table.{isAt};
 ghost use Rattle.judge.specs.declared.Query.the-variants.{Unsound, Meets};
 use judge::Head;
 use judge::Query;
+use layer::Question;
 use layer::State;
 use runs::Found;
 
@@ -77,4 +78,18 @@ pub fn lent_sound(len: usize, stamps: usize, page: u64, count: usize) -> bool
         return false;
     }
     count <= 32
+}
+
+// How many arenas the table has.
+pub fn count_of(state: State) -> usize
+    ensures { λ r. ⌜ r ≡ state .count ⌝ }
+{
+    state.count
+}
+
+// The question that is open.
+pub fn question_of(state: State) -> Question
+    ensures { λ r. ⌜ r ≡ state .question ⌝ }
+{
+    state.question
 }

@@ -1,9 +1,9 @@
-// Whether one record, any at all, is that of a sound arena: its range, its chunks, and no bit past them.
+// Whether one record, any at all, is that of a sound arena: its range and its chunks; and no bit of a map past
+// them.
 ghost use mathlib.Core.Path.{_≡_};
-ghost use Prim.Native.Nat.{_+_, _<_, _≤_};
-ghost use Rattle.lookup.specs.Soundness.{soundRange, soundArena};
-use arena::Arena;
-use runs::Found;
+ghost use Prim.Native.Nat.{_+_, _/_, _^_, _<_, _≤_};
+ghost use lib.Bits.{bitOr};
+ghost use Rattle.lookup.specs.Soundness.{soundRange, clearPast};
 
 // The last address of all.
 const LAST: u64 = 18446744073709551615;
@@ -33,25 +33,32 @@ pub fn range_is_sound(base: u64, chunks: usize, chunk_size: u64) -> bool
     (chunks as u64) * chunk_size - 1 < LAST - base
 }
 
-// Whether the record is sound by itself: its range, and no bit of a map at or past the last chunk. The
-// words from the last chunk's on are ored together, with no branch in the loop.
-pub fn is_sound(a: Arena, chunk_size: u64) -> bool
-    requires { ⌜ (0 < «chunk_size») × («chunk_size» ≤ 4294967296) ⌝ }
-    ensures { λ r. ⌜ r ≡ soundArena «chunk_size» a ⌝ }
+// A word from bit lo on.
+fn from_bit(w: u32, lo: usize) -> u32
+    requires { ⌜ lo < 32 ⌝ }
+    ensures { λ r. ⌜ (r ≡ w / 2 ^ lo) × (w < 2 ^ 32) ⌝ }
 {
-    let chunks = a.chunks;
-    if !range_is_sound(a.base, chunks, chunk_size) {
-        return false;
-    }
+    w >> (lo as u32)
+}
+
+// A word is ored to what was.
+fn with_word(acc: u32, w: u32) -> u32
+    ensures { λ r. ⌜ (r ≡ bitOr acc w) × (w < 2 ^ 32) ⌝ }
+{
+    acc | w
+}
+
+// Whether no bit of a map is set at or past the last chunk. The words from the last chunk's on are ored
+// together, with no branch in the loop.
+pub fn tail_is_clear(row: &[u32; 32], chunks: usize) -> bool
+    requires { ⌜ chunks < 1024 ⌝ }
+    ensures { λ r. ⌜ r ≡ clearPast chunks (now (row .entry)) ⌝ }
+{
     let k = chunks / 32;
-    if k == WORDS {
-        return true;
-    }
-    let lo = (chunks % 32) as u32;
-    let mut acc = (a.used[k] | a.dirty[k] | a.committed[k] | a.pending[k]) >> lo;
+    let mut acc = from_bit(row[k], chunks % 32);
     let mut i = k + 1;
     while i < WORDS {
-        acc = acc | a.used[i] | a.dirty[i] | a.committed[i] | a.pending[i];
+        acc = with_word(acc, row[i]);
         i = i + 1;
     }
     acc == 0

@@ -1,5 +1,5 @@
 -- Functions that the crate above has no need of, each called in one step of a walk (`Calls.antt`):
---     found-step, nothing-step, hit-step, head-at-pass, no-head-step, asks-step, hit-head-step, hits-at-pass, is-nothing-step, outside-step, meets-none-pass, no-span-step, span-step, is-at-step, range-step, unsound-step, lent-step, about-step, asked-step, question-step
+--     found-step, nothing-step, head-at-pass, no-head-step, run-asked-step, chunks-of-step, asks-step, hit-head-step, hits-at-pass, is-nothing-step, outside-step, meets-none-pass, no-span-step, span-step, is-at-step, range-step, unsound-step, lent-step, count-of-step, question-of-step, about-step, asked-step, question-step
 -- Assumes `Given`, the callee's theorem, and that the table of calls is monotone under a frame.
 use mathlib.Core.Path.{_≡_, refl, sym, _∙_, ap, subst}
 use mathlib.Core.Bool.{not, _&&_}
@@ -39,6 +39,9 @@ use Rattle.arena.proofs.Arena.Laws as T′
 use Rattle.layer.specs.World.{blank}
 use Rattle.layer.specs.declared.Question.{Question}
 use Rattle.layer.specs.Table.{at, isAt, overlaps, askedId, soundQuestion}
+use Rattle.layer.specs.declared.State.{State}
+use Rattle.layer.proofs.State as Z
+use Rattle.layer.proofs.State.Laws as Z′
 use Rattle.layer.proofs.Question as N
 use Rattle.layer.proofs.Question.Laws as N′
 use Rattle.judge.specs.declared.Query.{Query}
@@ -46,7 +49,7 @@ use Rattle.judge.specs.declared.Query.the-variants.{Unsound, Meets}
 use Rattle.judge.specs.declared.Head.{Head}
 use Rattle.judge.specs.Scan.{hit}
 use Rattle.open_question.specs.Questions.{aboutNone}
-use Rattle.judge.specs.Heads.{headOf, asksMaps, headHit, outside, Covers}
+use Rattle.judge.specs.Heads.{headOf, runAsked, asksTails, headHit, outside, Covers}
 use Rattle.judge.specs.declared.Span.{Span}
 use Rattle.judge.proofs.Span as P
 use Rattle.judge.proofs.Span.Laws as P′
@@ -66,8 +69,6 @@ use Rattle.row_parts.proofs.unsound_query as unsound′
 use Rattle.row_parts.proofs.unsound_query.Symbol.{name as #row-parts·unsound-query}
 use Rattle.row_parts.proofs.lent_sound as lent′
 use Rattle.row_parts.proofs.lent_sound.Symbol.{name as #row-parts·lent-sound}
-use Rattle.judge.proofs.hit as hit′
-use Rattle.judge.proofs.hit.Symbol.{name as #judge·hit}
 use Rattle.open_question.proofs.is_about_none as about′
 use Rattle.open_question.proofs.is_about_none.Symbol.{name as #open-question·is-about-none}
 use Rattle.open_question.proofs.asked_id as asked′
@@ -80,8 +81,16 @@ use Rattle.table.proofs.no_head as no-head′
 use Rattle.table.proofs.no_head.Symbol.{name as #table·no-head}
 use Rattle.table.proofs.hits_at as hits-at′
 use Rattle.table.proofs.hits_at.Symbol.{name as #table·hits-at}
-use Rattle.judge.proofs.asks_maps as asks′
-use Rattle.judge.proofs.asks_maps.Symbol.{name as #judge·asks-maps}
+use Rattle.row_parts.proofs.count_of as count-of′
+use Rattle.row_parts.proofs.count_of.Symbol.{name as #row-parts·count-of}
+use Rattle.row_parts.proofs.question_of as question-of′
+use Rattle.row_parts.proofs.question_of.Symbol.{name as #row-parts·question-of}
+use Rattle.judge.proofs.asks_tails as asks′
+use Rattle.judge.proofs.asks_tails.Symbol.{name as #judge·asks-tails}
+use Rattle.judge.proofs.run_asked as run-asked′
+use Rattle.judge.proofs.run_asked.Symbol.{name as #judge·run-asked}
+use Rattle.judge.proofs.chunks_of as chunks-of′
+use Rattle.judge.proofs.chunks_of.Symbol.{name as #judge·chunks-of}
 use Rattle.judge.proofs.hit_head as hit-head′
 use Rattle.judge.proofs.hit_head.Symbol.{name as #judge·hit-head}
 use Rattle.row_parts.proofs.is_nothing as is-nothing′
@@ -105,17 +114,20 @@ module _ {M : Type 1} (𝓤 : URA M) (H : Heap 𝓤) (A : Atoms 𝓤) (mem : Mem
   abbrev pub Miss : Contract 𝓤
   Miss = tripleOf 𝓤 H A nothing′.signature (nothing′.spec 𝓤 H A mem run)
 
-  abbrev pub Hits : Contract 𝓤
-  Hits = tripleOf 𝓤 H A hit′.signature (hit′.spec 𝓤 H A mem run)
-
   abbrev pub HeadAt : Contract 𝓤
   HeadAt = tripleOf 𝓤 H A head-at′.signature (head-at′.spec 𝓤 H A mem run)
 
   abbrev pub NoHead : Contract 𝓤
   NoHead = tripleOf 𝓤 H A no-head′.signature (no-head′.spec 𝓤 H A mem run)
 
-  abbrev pub AsksMaps : Contract 𝓤
-  AsksMaps = tripleOf 𝓤 H A asks′.signature (asks′.spec 𝓤 H A mem run)
+  abbrev pub RunAsked : Contract 𝓤
+  RunAsked = tripleOf 𝓤 H A run-asked′.signature (run-asked′.spec 𝓤 H A mem run)
+
+  abbrev pub ChunksOf : Contract 𝓤
+  ChunksOf = tripleOf 𝓤 H A chunks-of′.signature (chunks-of′.spec 𝓤 H A mem run)
+
+  abbrev pub AsksTails : Contract 𝓤
+  AsksTails = tripleOf 𝓤 H A asks′.signature (asks′.spec 𝓤 H A mem run)
 
   abbrev pub HitHead : Contract 𝓤
   HitHead = tripleOf 𝓤 H A hit-head′.signature (hit-head′.spec 𝓤 H A mem run)
@@ -150,6 +162,12 @@ module _ {M : Type 1} (𝓤 : URA M) (H : Heap 𝓤) (A : Atoms 𝓤) (mem : Mem
   abbrev pub Lent : Contract 𝓤
   Lent = tripleOf 𝓤 H A lent′.signature (lent′.spec 𝓤 H A mem run)
 
+  abbrev pub CountOf : Contract 𝓤
+  CountOf = tripleOf 𝓤 H A count-of′.signature (count-of′.spec 𝓤 H A mem run)
+
+  abbrev pub QuestionOf : Contract 𝓤
+  QuestionOf = tripleOf 𝓤 H A question-of′.signature (question-of′.spec 𝓤 H A mem run)
+
   abbrev pub About : Contract 𝓤
   About = tripleOf 𝓤 H A about′.signature (about′.spec 𝓤 H A mem run)
 
@@ -178,16 +196,6 @@ module _ {M : Type 1} {𝓤 : URA M} {H : Heap 𝓤} {A : Atoms 𝓤} {K : Type 
       plain-call t site F.the-row ([]) tt (nothing′.clauses 𝓤 H A mem run) known tt tt
       (id⊢ 𝓤 _) tt (id⊢ 𝓤 _)
       (λ r. r ≡ None) (λ r ws. id⊢ 𝓤 _) ops (λ v r is e. k v (subst (λ (o : Found). Is F.the-row o (v ∷ [])) e is))
-
-  pub hit-step : K → Site K W Γ C E #judge·hit xs G after → (mem : Memory → SProp 𝓤) (run : Routine → Fun 𝓤) → Triple 𝓤 (C #judge·hit) (Hits 𝓤 H A mem run)
-      → (q : Query) (vq : Val) → Is Q.the-row q (vq ∷ []) → (j : ℕ) → j < 2 ^ 64 → (a : Arena) (va : Val) → Is T.the-row a (va ∷ []) → (S : ℕ) → S < 2 ^ 64 → 0 < S → S ≤ 4294967296
-      → ((h : Item 𝓤) → Opds K W (h ∷ Γ) E xs (vq ∷ vint w64 j ∷ va ∷ vint w64 S ∷ []))
-      → Seq K W (i ∷ Γ) (after (vbool (hit S q j a)))
-      → Seq K W (i ∷ Γ) G
-  hit-step t site mem run known q vq gq j fj a va ga S fS pos most ops k =
-      plain-call t site bool (plain (λ _. Q.the-row) ∷ plain (λ _. usize) ∷ plain (λ _. T.the-row) ∷ plain (λ _. u64) ∷ []) (yes, (yes, (yes, (yes, tt)))) (hit′.clauses 𝓤 H A mem run) known (q, (j, (a, (S, tt)))) (vq ∷ [], (vint w64 j ∷ [], (va ∷ [], (vint w64 S ∷ [], tt))))
-      (owns-make 𝓤 H A (Q.the-row ∷ usize ∷ T.the-row ∷ u64 ∷ []) (Ises (Q.the-row ∷ usize ∷ T.the-row ∷ u64 ∷ [])) (EL.makes Q.the-type Q′.the-plain 𝓤 H A, (uint-makes 𝓤 H A W w64, (LL.makes T.the-type T′.the-plain 𝓤 H A, (uint-makes 𝓤 H A W w64, tt)))) (q, (j, (a, (S, tt)))) (vq ∷ [], (vint w64 j ∷ [], (va ∷ [], (vint w64 S ∷ [], tt)))) (gq, ((refl, fj), (ga, ((refl, fS), tt))))) tt (factI 𝓤 _ (emp 𝓤) (pos, most))
-      (λ r. r ≡ hit S q j a) (λ r ws. id⊢ 𝓤 _) ops (λ v r is e. subst (λ (u : Val). Seq K W (i ∷ Γ) (after u)) (sym (ap only (bool-tells r (v ∷ []) is) ∙ ap vbool e)) k)
 
   pub is-at-step : K → Site K W Γ C E #row-parts·is-at xs G after → (mem : Memory → SProp 𝓤) (run : Routine → Fun 𝓤) → Triple 𝓤 (C #row-parts·is-at) (IsAt 𝓤 H A mem run)
       → (f : Found) (vf : Val) → Is F.the-row f (vf ∷ [])
@@ -228,6 +236,26 @@ module _ {M : Type 1} {𝓤 : URA M} {H : Heap 𝓤} {A : Atoms 𝓤} {K : Type 
       (owns-make 𝓤 H A (usize ∷ usize ∷ u64 ∷ usize ∷ []) (Ises (usize ∷ usize ∷ u64 ∷ usize ∷ [])) (uint-makes 𝓤 H A W w64, (uint-makes 𝓤 H A W w64, (uint-makes 𝓤 H A W w64, (uint-makes 𝓤 H A W w64, tt)))) (len, (stamps, (page, (n, tt)))) (vint w64 len ∷ [], (vint w64 stamps ∷ [], (vint w64 page ∷ [], (vint w64 n ∷ [], tt)))) ((refl, flen), ((refl, fstamps), ((refl, fpage), ((refl, fn), tt))))) tt (id⊢ 𝓤 _)
       (λ r. r ≡ eqb len 32 && (eqb stamps 32768 && (pageSizeSound page && leb n 32))) (λ r ws. id⊢ 𝓤 _) ops (λ v r is e. subst (λ (u : Val). Seq K W (i ∷ Γ) (after u)) (sym (ap only (bool-tells r (v ∷ []) is) ∙ ap vbool e)) k)
 
+  pub count-of-step : K → Site K W Γ C E #row-parts·count-of xs G after → (mem : Memory → SProp 𝓤) (run : Routine → Fun 𝓤) → Triple 𝓤 (C #row-parts·count-of) (CountOf 𝓤 H A mem run)
+      → (s : State) (vs : Val) → Is Z.the-row s (vs ∷ [])
+      → ((h : Item 𝓤) → Opds K W (h ∷ Γ) E xs (vs ∷ []))
+      → (s .count < 2 ^ 64 → Seq K W (i ∷ Γ) (after (vint w64 (s .count))))
+      → Seq K W (i ∷ Γ) G
+  count-of-step t site mem run known s vs gs ops k =
+      plain-call t site usize (plain (λ _. Z.the-row) ∷ []) (yes, tt) (count-of′.clauses 𝓤 H A mem run) known (s, tt) (vs ∷ [], tt)
+      (owns-make 𝓤 H A (Z.the-row ∷ []) (Ises (Z.the-row ∷ [])) (LL.makes Z.the-type Z′.the-plain 𝓤 H A, tt) (s, tt) (vs ∷ [], tt) (gs, tt)) tt (id⊢ 𝓤 _)
+      (λ r. r ≡ s .count) (λ r ws. id⊢ 𝓤 _) ops (λ v r is e. subst (λ (u : Val). Seq K W (i ∷ Γ) (after u)) (sym (ap only (is .0) ∙ ap (vint w64) e)) (k (subst (λ (m : ℕ). m < 2 ^ 64) e (is .1))))
+
+  pub question-of-step : K → Site K W Γ C E #row-parts·question-of xs G after → (mem : Memory → SProp 𝓤) (run : Routine → Fun 𝓤) → Triple 𝓤 (C #row-parts·question-of) (QuestionOf 𝓤 H A mem run)
+      → (s : State) (vs : Val) → Is Z.the-row s (vs ∷ [])
+      → ((h : Item 𝓤) → Opds K W (h ∷ Γ) E xs (vs ∷ []))
+      → ((v : Val) → Is N.the-row (s .question) (v ∷ []) → Seq K W (i ∷ Γ) (after v))
+      → Seq K W (i ∷ Γ) G
+  question-of-step t site mem run known s vs gs ops k =
+      plain-call t site N.the-row (plain (λ _. Z.the-row) ∷ []) (yes, tt) (question-of′.clauses 𝓤 H A mem run) known (s, tt) (vs ∷ [], tt)
+      (owns-make 𝓤 H A (Z.the-row ∷ []) (Ises (Z.the-row ∷ [])) (LL.makes Z.the-type Z′.the-plain 𝓤 H A, tt) (s, tt) (vs ∷ [], tt) (gs, tt)) tt (id⊢ 𝓤 _)
+      (λ r. r ≡ s .question) (λ r ws. id⊢ 𝓤 _) ops (λ v r is e. k v (subst (λ (o : Question). Is N.the-row o (v ∷ [])) e is))
+
   pub asked-step : K → Site K W Γ C E #open-question·asked-id xs G after → (mem : Memory → SProp 𝓤) (run : Routine → Fun 𝓤) → Triple 𝓤 (C #open-question·asked-id) (Asked 𝓤 H A mem run)
       → (q : Question) (vq : Val) → Is N.the-row q (vq ∷ [])
       → ((h : Item 𝓤) → Opds K W (h ∷ Γ) E xs (vq ∷ []))
@@ -267,15 +295,35 @@ module _ {M : Type 1} {𝓤 : URA M} {H : Heap 𝓤} {A : Atoms 𝓤} {K : Type 
       (id⊢ 𝓤 _) tt (id⊢ 𝓤 _)
       (λ r. r ≡ headOf blank) (λ r ws. id⊢ 𝓤 _) ops (λ v r is e. k v (subst (λ (o : Head). Is D.the-row o (v ∷ [])) e is))
 
-  pub asks-step : K → Site K W Γ C E #judge·asks-maps xs G after → (mem : Memory → SProp 𝓤) (run : Routine → Fun 𝓤) → Triple 𝓤 (C #judge·asks-maps) (AsksMaps 𝓤 H A mem run)
-      → (q : Query) (vq : Val) → Is Q.the-row q (vq ∷ []) → (j : ℕ) → j < 2 ^ 64 → (d : Head) (vd : Val) → Is D.the-row d (vd ∷ []) → (S : ℕ) → S < 2 ^ 64 → 0 < S → S ≤ 4294967296
-      → ((h : Item 𝓤) → Opds K W (h ∷ Γ) E xs (vq ∷ vint w64 j ∷ vd ∷ vint w64 S ∷ []))
-      → Seq K W (i ∷ Γ) (after (vbool (asksMaps S q j d)))
+  pub run-asked-step : K → Site K W Γ C E #judge·run-asked xs G after → (mem : Memory → SProp 𝓤) (run : Routine → Fun 𝓤) → Triple 𝓤 (C #judge·run-asked) (RunAsked 𝓤 H A mem run)
+      → (q : Query) (vq : Val) → Is Q.the-row q (vq ∷ []) → (j : ℕ) → j < 2 ^ 64 → (d : Head) (vd : Val) → Is D.the-row d (vd ∷ [])
+      → ((h : Item 𝓤) → Opds K W (h ∷ Γ) E xs (vq ∷ vint w64 j ∷ vd ∷ []))
+      → (runAsked q j d < 2 ^ 64 → Seq K W (i ∷ Γ) (after (vint w64 (runAsked q j d))))
       → Seq K W (i ∷ Γ) G
-  asks-step t site mem run known q vq gq j fj d vd gd S fS pos most ops k =
-      plain-call t site bool (plain (λ _. Q.the-row) ∷ plain (λ _. usize) ∷ plain (λ _. D.the-row) ∷ plain (λ _. u64) ∷ []) (yes, (yes, (yes, (yes, tt)))) (asks′.clauses 𝓤 H A mem run) known (q, (j, (d, (S, tt)))) (vq ∷ [], (vint w64 j ∷ [], (vd ∷ [], (vint w64 S ∷ [], tt))))
-      (owns-make 𝓤 H A (Q.the-row ∷ usize ∷ D.the-row ∷ u64 ∷ []) (Ises (Q.the-row ∷ usize ∷ D.the-row ∷ u64 ∷ [])) (EL.makes Q.the-type Q′.the-plain 𝓤 H A, (uint-makes 𝓤 H A W w64, (LL.makes D.the-type D′.the-plain 𝓤 H A, (uint-makes 𝓤 H A W w64, tt)))) (q, (j, (d, (S, tt)))) (vq ∷ [], (vint w64 j ∷ [], (vd ∷ [], (vint w64 S ∷ [], tt)))) (gq, ((refl, fj), (gd, ((refl, fS), tt))))) tt (factI 𝓤 _ (emp 𝓤) (pos, most))
-      (λ r. r ≡ asksMaps S q j d) (λ r ws. id⊢ 𝓤 _) ops (λ v r is e. subst (λ (u : Val). Seq K W (i ∷ Γ) (after u)) (sym (ap only (bool-tells r (v ∷ []) is) ∙ ap vbool e)) k)
+  run-asked-step t site mem run known q vq gq j fj d vd gd ops k =
+      plain-call t site usize (plain (λ _. Q.the-row) ∷ plain (λ _. usize) ∷ plain (λ _. D.the-row) ∷ []) (yes, (yes, (yes, tt))) (run-asked′.clauses 𝓤 H A mem run) known (q, (j, (d, tt))) (vq ∷ [], (vint w64 j ∷ [], (vd ∷ [], tt)))
+      (owns-make 𝓤 H A (Q.the-row ∷ usize ∷ D.the-row ∷ []) (Ises (Q.the-row ∷ usize ∷ D.the-row ∷ [])) (EL.makes Q.the-type Q′.the-plain 𝓤 H A, (uint-makes 𝓤 H A W w64, (LL.makes D.the-type D′.the-plain 𝓤 H A, tt))) (q, (j, (d, tt))) (vq ∷ [], (vint w64 j ∷ [], (vd ∷ [], tt))) (gq, ((refl, fj), (gd, tt)))) tt (id⊢ 𝓤 _)
+      (λ r. r ≡ runAsked q j d) (λ r ws. id⊢ 𝓤 _) ops (λ v r is e. subst (λ (u : Val). Seq K W (i ∷ Γ) (after u)) (sym (ap only (is .0) ∙ ap (vint w64) e)) (k (subst (λ (m : ℕ). m < 2 ^ 64) e (is .1))))
+
+  pub chunks-of-step : K → Site K W Γ C E #judge·chunks-of xs G after → (mem : Memory → SProp 𝓤) (run : Routine → Fun 𝓤) → Triple 𝓤 (C #judge·chunks-of) (ChunksOf 𝓤 H A mem run)
+      → (d : Head) (vd : Val) → Is D.the-row d (vd ∷ [])
+      → ((h : Item 𝓤) → Opds K W (h ∷ Γ) E xs (vd ∷ []))
+      → (d .chunks < 2 ^ 64 → Seq K W (i ∷ Γ) (after (vint w64 (d .chunks))))
+      → Seq K W (i ∷ Γ) G
+  chunks-of-step t site mem run known d vd gd ops k =
+      plain-call t site usize (plain (λ _. D.the-row) ∷ []) (yes, tt) (chunks-of′.clauses 𝓤 H A mem run) known (d, tt) (vd ∷ [], tt)
+      (owns-make 𝓤 H A (D.the-row ∷ []) (Ises (D.the-row ∷ [])) (LL.makes D.the-type D′.the-plain 𝓤 H A, tt) (d, tt) (vd ∷ [], tt) (gd, tt)) tt (id⊢ 𝓤 _)
+      (λ r. r ≡ d .chunks) (λ r ws. id⊢ 𝓤 _) ops (λ v r is e. subst (λ (u : Val). Seq K W (i ∷ Γ) (after u)) (sym (ap only (is .0) ∙ ap (vint w64) e)) (k (subst (λ (m : ℕ). m < 2 ^ 64) e (is .1))))
+
+  pub asks-step : K → Site K W Γ C E #judge·asks-tails xs G after → (mem : Memory → SProp 𝓤) (run : Routine → Fun 𝓤) → Triple 𝓤 (C #judge·asks-tails) (AsksTails 𝓤 H A mem run)
+      → (q : Query) (vq : Val) → Is Q.the-row q (vq ∷ []) → (d : Head) (vd : Val) → Is D.the-row d (vd ∷ []) → (S : ℕ) → S < 2 ^ 64 → 0 < S → S ≤ 4294967296
+      → ((h : Item 𝓤) → Opds K W (h ∷ Γ) E xs (vq ∷ vd ∷ vint w64 S ∷ []))
+      → Seq K W (i ∷ Γ) (after (vbool (asksTails S q d)))
+      → Seq K W (i ∷ Γ) G
+  asks-step t site mem run known q vq gq d vd gd S fS pos most ops k =
+      plain-call t site bool (plain (λ _. Q.the-row) ∷ plain (λ _. D.the-row) ∷ plain (λ _. u64) ∷ []) (yes, (yes, (yes, tt))) (asks′.clauses 𝓤 H A mem run) known (q, (d, (S, tt))) (vq ∷ [], (vd ∷ [], (vint w64 S ∷ [], tt)))
+      (owns-make 𝓤 H A (Q.the-row ∷ D.the-row ∷ u64 ∷ []) (Ises (Q.the-row ∷ D.the-row ∷ u64 ∷ [])) (EL.makes Q.the-type Q′.the-plain 𝓤 H A, (LL.makes D.the-type D′.the-plain 𝓤 H A, (uint-makes 𝓤 H A W w64, tt))) (q, (d, (S, tt))) (vq ∷ [], (vd ∷ [], (vint w64 S ∷ [], tt))) (gq, (gd, ((refl, fS), tt)))) tt (factI 𝓤 _ (emp 𝓤) (pos, most))
+      (λ r. r ≡ asksTails S q d) (λ r ws. id⊢ 𝓤 _) ops (λ v r is e. subst (λ (u : Val). Seq K W (i ∷ Γ) (after u)) (sym (ap only (bool-tells r (v ∷ []) is) ∙ ap vbool e)) k)
 
   pub hit-head-step : K → Site K W Γ C E #judge·hit-head xs G after → (mem : Memory → SProp 𝓤) (run : Routine → Fun 𝓤) → Triple 𝓤 (C #judge·hit-head) (HitHead 𝓤 H A mem run)
       → (q : Query) (vq : Val) → Is Q.the-row q (vq ∷ []) → (j : ℕ) → j < 2 ^ 64 → (d : Head) (vd : Val) → Is D.the-row d (vd ∷ []) → (S : ℕ) → S < 2 ^ 64 → 0 < S → S ≤ 4294967296

@@ -2,12 +2,14 @@
 use mathlib.Core.Path.{_≡_, refl, sym, ap, subst, _∙_}
 use mathlib.Core.Bool.{Bool, true, false, not, cond, _&&_, _||_}
 use mathlib.Core.List.{List}
+use mathlib.Core.Logic.{⊎-elim}
 use Prim.Native.Nat.{ℕ, zero, suc, _+_, _*_, _^_, _<_, _≤_}
 use native.Mathlib.Omega.{arith}
 use native.Mathlib.Nat.{not-suc-le-zero}
 use borrow.Author.Tests.{ltb-true, ltb-false, leb-true}
 use lib.Dec.{eqb, leb, ltb}
 use lib.ListN.{length}
+use Rattle.words.proofs.RowLaws.{lt-or-le}
 use Rattle.runs.specs.declared.Found.{Found}
 use Rattle.runs.specs.declared.Found.the-variants.{At}
 use Rattle.runs.specs.Lowest.{all, least}
@@ -17,6 +19,7 @@ use Rattle.arena.specs.declared.Arena.{Arena}
 use Rattle.lookup.specs.Place.{bytesOf, endOf}
 use Rattle.lookup.specs.Soundness.{soundArena}
 use Rattle.lookup.proofs.SoundLaws.{arena-facts}
+use Rattle.layer.specs.World.{blank}
 use Rattle.layer.specs.declared.State.{State}
 use Rattle.layer.specs.Table.{at, isAt, meets, overlaps, apart, askedId, soundQuestion, soundTable, soundLent}
 use Rattle.judge.specs.declared.Head.{Head}
@@ -25,6 +28,13 @@ use Rattle.judge.specs.declared.Query.the-variants.{Unsound, Meets}
 use Rattle.judge.specs.Scan.{hit, scanOf}
 use Rattle.judge.specs.Heads.{outside, Covers}
 use Rattle.ranges.proofs.RangeLaws.{no-meeting}
+use Rattle.records.proofs.Ends.{past}
+
+-- a record that has a chunk is one of the lent
+pub is-lent : (l : List Arena) (i : ℕ) → 1 ≤ at l i .chunks → i < length l
+is-lent l i some =
+    ⊎-elim (λ (h : i < length l). h)
+    (λ (h : length l ≤ i). let none : 1 ≤ blank .chunks = subst (λ (a : Arena). 1 ≤ a .chunks) (sym (past l i blank h)) some in absurd (not-suc-le-zero none)) (lt-or-le i (length l))
 
 -- ---- sound records
 

@@ -54,15 +54,20 @@ pub fn head_or(records: &[Arena], id: usize) -> Head
 
 // ---- the scan
 
-// Whether the query hits the record at id i, which is copied only where the maps are asked.
+// Whether the query hits the record at id i. The maps are looked at where they lie: nothing is copied.
 fn hits_at(records: &[Arena], i: usize, q: Query, chunk_size: u64) -> bool
     requires { ⌜ (0 < «chunk_size») × («chunk_size» ≤ 4294967296) ⌝ }
     ensures { λ r. ⌜ r ≡ hit «chunk_size» q i (at (now (records .entry)) i) ⌝ }
 {
     let h = head_or(records, i);
-    if judge::asks_maps(q, i, h, chunk_size) {
-        let a = records::load_or(records, i);
-        return judge::hit(q, i, a, chunk_size);
+    let chunks = judge::chunks_of(h);
+    let n = judge::run_asked(q, i, h);
+    if 0 < n {
+        let f = maps::run_at(records, i, chunks, n);
+        return row_parts::is_at(f);
+    }
+    if judge::asks_tails(q, h, chunk_size) {
+        return !maps::tails_clear_at(records, i, chunks);
     }
     judge::hit_head(q, i, h, chunk_size)
 }
@@ -122,21 +127,23 @@ pub fn row_one(records: &[Arena], stamps: usize, state: State, page: u64, chunk_
     requires { ⌜ (0 < «chunk_size») × («chunk_size» ≤ 4294967296) ⌝ }
     ensures { λ r. ⌜ r ≡ soundLent «chunk_size» (now (records .entry)) stamps state page ⌝ }
 {
-    if !row_parts::lent_sound(records.len(), stamps, page, state.count) {
+    let count = row_parts::count_of(state);
+    if !row_parts::lent_sound(records.len(), stamps, page, count) {
         return false;
     }
     let q = row_parts::unsound_query();
-    let f = scan(records, state.count, chunk_size, q);
+    let f = scan(records, count, chunk_size, q);
     if row_parts::is_at(f) {
         return false;
     }
-    if !apart_table(records, state.count, chunk_size) {
+    if !apart_table(records, count, chunk_size) {
         return false;
     }
-    if open_question::is_about_none(state.question) {
+    let question = row_parts::question_of(state);
+    if open_question::is_about_none(question) {
         return true;
     }
-    let id = open_question::asked_id(state.question);
+    let id = open_question::asked_id(question);
     let a = records::load_or(records, id);
-    open_question::question_sound(a, state.count, state.question)
+    open_question::question_sound(a, count, question)
 }

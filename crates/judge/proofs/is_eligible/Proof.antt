@@ -7,6 +7,7 @@ use lib.Signed.{ltZ, nonNeg}
 use mir.Syntax.{w64}
 use mir.Val.{Fits}
 use mir.Facts.{toZ-ofZ}
+use Rattle.judge.specs.Heads.{headed}
 use Rattle.judge.proofs.ClaimLaws.{negative-id, named-id, named-fits}
 use Rattle.judge.proofs.is_eligible.Statement.{statement}
 use Rattle.judge.proofs.is_eligible.Tie as tie
@@ -18,7 +19,7 @@ named c = sym (ap (λ (z : ℤ). ltZ z (pos 0)) (toZ-ofZ (c .before .fits .id)))
 returns : tie.Need-returns
 returns c =
     let s = c .before .before in
-    negative-id (s .args .i) (s .args .a) (s .args .id) (sym (ap (λ (z : ℤ). ltZ z (pos 0)) (toZ-ofZ (s .fits .id))) ∙ c .before .if1 .taken)
+    negative-id (s .args .i) (headed (s .args .h)) (s .args .id) (sym (ap (λ (z : ℤ). ltZ z (pos 0)) (toZ-ofZ (s .fits .id))) ∙ c .before .if1 .taken)
 
 cast-result : tie.Need-cast-result
 cast-result c =
@@ -28,7 +29,7 @@ cast-result c =
 returns-2 : tie.Need-returns-2
 returns-2 c =
     let s = c .before in
-    ap (λ (z : ℤ). eqb (s .args .i) (natAbs z)) (toZ-ofZ (s .fits .id)) ∙ named-id (s .args .i) (s .args .a) (s .args .id) (named c)
+    ap (λ (z : ℤ). eqb (s .args .i) (natAbs z)) (toZ-ofZ (s .fits .id)) ∙ named-id (s .args .i) (headed (s .args .h)) (s .args .id) (named c)
 
 pub is-eligible-spec : {M : Type 1} → statement M
 is-eligible-spec = tie.close (tie.spec returns cast-result returns-2)

@@ -5,7 +5,6 @@ use borrow.Author.Tests.{not-true, not-false}
 use lib.Dec.{leb}
 use lib.IntN.{ℤ}
 use mir.Facts.{toZ-ofZ}
-use Rattle.arena.specs.declared.Arena.{Arena}
 use Rattle.layer.specs.Claiming.{eligible}
 use Rattle.judge.specs.Heads.{headed}
 use Rattle.open_question.proofs.QuestionLaws.{no-first}
@@ -13,29 +12,22 @@ use Rattle.judge.proofs.ClaimLaws.{only-second}
 use Rattle.judge.proofs.may_serve.Statement.{statement}
 use Rattle.judge.proofs.may_serve.Tie as tie
 
-said : (c : tie.After-is-eligible) → let a = c .before .before .args in c .is-eligible .result ≡ eligible (a .id) (a .i) (headed (a .h))
-said c =
-    let s = c .before .before in
-    c .is-eligible .ensures
-    ∙ ap (λ (z : ℤ). eligible z (s .args .i) (c .before .headed .result)) (toZ-ofZ (s .fits .id))
-    ∙ ap (λ (a : Arena). eligible (s .args .id) (s .args .i) a) (c .before .headed .ensures)
-
-headed-requires : tie.Need-headed-requires
-headed-requires c κs = search needs
+said : (c : tie.After-is-eligible) → let a = c .before .args in c .is-eligible .result ≡ eligible (a .id) (a .i) (headed (a .h))
+said c = let s = c .before in c .is-eligible .ensures ∙ ap (λ (z : ℤ). eligible z (s .args .i) (headed (s .args .h))) (toZ-ofZ (s .fits .id))
 
 is-eligible-requires : tie.Need-is-eligible-requires
 is-eligible-requires c κs = search needs
 
 returns : tie.Need-returns
 returns c =
-    let a = c .before .before .before .args in
+    let a = c .before .before .args in
     no-first (eligible (a .id) (a .i) (headed (a .h))) _ (sym (said (c .before)) ∙ not-true (c .before .is-eligible .result) (c .if1 .taken))
 
 returns-2 : tie.Need-returns-2
 returns-2 c =
     let e = c .before in
-    let a = e .before .before .before .args in
+    let a = e .before .before .args in
     only-second (eligible (a .id) (a .i) (headed (a .h))) (leb (a .h .chunks) 1024) (sym (said (e .before)) ∙ not-false (e .before .is-eligible .result) (e .if1 .left))
 
 pub may-serve-spec : {M : Type 1} → statement M
-may-serve-spec = tie.close (tie.spec headed-requires is-eligible-requires returns returns-2)
+may-serve-spec = tie.close (tie.spec is-eligible-requires returns returns-2)

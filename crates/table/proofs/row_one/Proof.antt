@@ -60,16 +60,24 @@ use Rattle.layer.specs.declared.State.{State}
 use Rattle.layer.specs.Table.{at, isAt, apart, askedId, soundQuestion, soundLent}
 use Rattle.layer.proofs.State as Z
 use Rattle.layer.proofs.State.Laws as Z′
+use Rattle.layer.proofs.Question as N
+use Rattle.layer.proofs.Question.Laws as N′
 use Rattle.judge.specs.declared.Query.the-variants.{Unsound}
 use Rattle.judge.specs.Scan.{scanOf}
 use Rattle.records.proofs.Locals.{enters, used, room, if-else}
 use Rattle.table.proofs.TableLaws.{sounds-scan, few-at, row-is}
-use Rattle.table.proofs.Leaf.{IsAt, Unsounds, Lent, About, Asked, Questions, is-at-step, unsound-step, lent-step, about-step, asked-step, question-step}
+use Rattle.table.proofs.Leaf.{IsAt, Unsounds, Lent, CountOf, QuestionOf, About, Asked, Questions, is-at-step, unsound-step, lent-step, count-of-step, question-of-step, about-step, asked-step, question-step}
 use Rattle.records.proofs.Steps.{LoadOr, load-or-pass}
 use Rattle.table.proofs.Steps.{Scan, Apart, scan-pass, apart-pass}
 use Rattle.row_parts.proofs.unsound_query.Symbol as unsound-def
 use Rattle.row_parts.proofs.unsound_query.Symbol.{name as #row-parts·unsound-query}
 use Rattle.row_parts.proofs.unsound_query.Met as unsound-thm
+use Rattle.row_parts.proofs.count_of.Symbol as count-of-def
+use Rattle.row_parts.proofs.count_of.Symbol.{name as #row-parts·count-of}
+use Rattle.row_parts.proofs.count_of.Met as count-of-thm
+use Rattle.row_parts.proofs.question_of.Symbol as question-of-def
+use Rattle.row_parts.proofs.question_of.Symbol.{name as #row-parts·question-of}
+use Rattle.row_parts.proofs.question_of.Met as question-of-thm
 use Rattle.row_parts.proofs.lent_sound.Symbol as lent-def
 use Rattle.row_parts.proofs.lent_sound.Symbol.{name as #row-parts·lent-sound}
 use Rattle.row_parts.proofs.lent_sound.Met as lent-thm
@@ -134,6 +142,7 @@ goes-4 true false false r h i j = absurd j
 goes-4 false b c r h i j = absurd h
 
 module _ {M : Type 1} (𝓤 : URA M) (H : Heap 𝓤) (A : Atoms 𝓤) (W : Given 𝓤 H A) (mem : Memory → SProp 𝓤) (run : Routine → Fun 𝓤) (𝓣 : Tables 𝓤 H)
+    (known-count : Triple 𝓤 (𝓣 .C #row-parts·count-of) (CountOf 𝓤 H A mem run)) (known-open : Triple 𝓤 (𝓣 .C #row-parts·question-of) (QuestionOf 𝓤 H A mem run))
     (known-lent : Triple 𝓤 (𝓣 .C #row-parts·lent-sound) (Lent 𝓤 H A mem run)) (known-unsound : Triple 𝓤 (𝓣 .C #row-parts·unsound-query) (Unsounds 𝓤 H A mem run))
     (known-scan : Triple 𝓤 (𝓣 .C #table·scan) (Scan 𝓤 H A mem run)) (known-is-at : Triple 𝓤 (𝓣 .C #row-parts·is-at) (IsAt 𝓤 H A mem run))
     (known-apart : Triple 𝓤 (𝓣 .C #table·apart-table) (Apart 𝓤 H A mem run)) (known-about : Triple 𝓤 (𝓣 .C #open-question·is-about-none) (About 𝓤 H A mem run)) (known-asked : Triple 𝓤 (𝓣 .C #open-question·asked-id) (Asked 𝓤 H A mem run))
@@ -173,53 +182,54 @@ module _ {M : Type 1} (𝓤 : URA M) (H : Heap 𝓤) (A : Atoms 𝓤) (W : Given
     walk : Known T.the-row L ys → stamps < 2 ^ 64 → Is Z.the-row state (mach ∷ []) → page < 2 ^ 64 → S < 2 ^ 64 → 0 < S → S ≤ 4294967296
         → Sq W ((‵ (shared T.the-row L ys) ⊛ ‵ ftrue) ∷ []) (prop (WpFn 𝓤 H (𝓣 .C) (𝓣 .Λ) code.function (sliceOf L ∷ vint w64 stamps ∷ mach ∷ vint w64 page ∷ vint w64 S ∷ []) Post))
     walk kn fs gs fp fS lo hi =
-        let owed = LL.owed Z.the-type Z′.the-laws state (mach ∷ []) gs in
-        let fn : n < 2 ^ 64 = owed .0 .1 in
         enters ! code.function (λ bs. params1 ! $
         pass1 ! (init ! 3 refl (tt, (tt, (record { fits = kn .1 .0 }, tt)))) $ pass1 ! (init ! 5 refl (tt, record { fits = fs })) $ pass1 ! (init ! 7 refl (LL.lawful Z.the-type Z′.the-laws 𝓤 H A W .typed state (mach ∷ []) gs .0)) $
         pass1 ! (init ! 9 refl (tt, record { fits = fp })) $ pass1 ! (init ! 11 refl (tt, record { fits = fS })) $ pass0 ! $
-        assigns ! (of-opd ! (load ! (from ! (fld ! refl (stop !))) (look-in ! 3 (sub ! 1 refl (whole !))))) (from ! (stop !)) (init ! 23 refl (tt, record { fits = kn .1 .0 })) $
-        lent-step ! (in-seq ! (fmOf 𝓤 H (W .laws) 𝓣)) mem run known-lent (length ys) (kn .1 .0) stamps fs page fp n fn (λ _. and-then ! (load ! (from ! (stop !)) (look ! 23 refl)) (and-then ! (load ! (from ! (stop !)) (look ! 5 refl)) (and-then ! (load ! (from ! (stop !)) (look ! 9 refl)) (and-then ! (load ! (from ! (fld ! refl (stop !))) (look-in ! 7 (sub ! 0 refl (whole !)))) (no-more !))))) (
-        land ! (from ! (stop !)) (init ! 21 refl (tt, tt)) $
-        assigns ! (un ! (load ! (from ! (stop !)) (look ! 21 refl)) tt) (from ! (stop !)) (init ! 25 refl (tt, tt)) $
-        if-else ! (load ! (from ! (stop !)) (look ! 25 refl))
+        count-of-step ! (in-seq ! (fmOf 𝓤 H (W .laws) 𝓣)) mem run known-count state mach gs (λ _. and-then ! (load ! (from ! (stop !)) (look ! 7 refl)) (no-more !)) (λ fn.
+        land ! (from ! (stop !)) (init ! 13 refl (tt, record { fits = fn })) $
+        assigns ! (of-opd ! (load ! (from ! (fld ! refl (stop !))) (look-in ! 3 (sub ! 1 refl (whole !))))) (from ! (stop !)) (init ! 27 refl (tt, record { fits = kn .1 .0 })) $
+        lent-step ! (in-seq ! (fmOf 𝓤 H (W .laws) 𝓣)) mem run known-lent (length ys) (kn .1 .0) stamps fs page fp n fn (λ _. and-then ! (load ! (from ! (stop !)) (look ! 27 refl)) (and-then ! (load ! (from ! (stop !)) (look ! 5 refl)) (and-then ! (load ! (from ! (stop !)) (look ! 9 refl)) (and-then ! (load ! (from ! (stop !)) (look ! 13 refl)) (no-more !))))) (
+        land ! (from ! (stop !)) (init ! 25 refl (tt, tt)) $
+        assigns ! (un ! (load ! (from ! (stop !)) (look ! 25 refl)) tt) (from ! (stop !)) (init ! 29 refl (tt, tt)) $
+        if-else ! (load ! (from ! (stop !)) (look ! 29 refl))
         (λ h. assigns ! (of-opd ! (false-lit !)) (from ! (stop !)) (init ! 1 refl (tt, tt)) $
-        returns-within ! Post refl (look ! 1 refl) $ used ! $ used ! $ used ! $ used ! $ used ! $ used ! $ room ! $ room ! $ room ! $ room ! $ used ! $ used ! $ used ! $ room ! $ room ! $ free0 ! $
+        returns-within ! Post refl (look ! 1 refl) $ used ! $ used ! $ used ! $ used ! $ used ! $ used ! $ used ! $ room ! $ room ! $ room ! $ room ! $ room ! $ used ! $ used ! $ used ! $ room ! $ room ! $ free0 ! $
         finishS 𝓤 H A T.the-row L bool ys χ W (‵ ftrue) (vbool false) false refl (row false (stop-1 lent _ h)))
         (λ h. unsound-step ! (in-seq ! (fmOf 𝓤 H (W .laws) 𝓣)) mem run known-unsound (λ _. no-more !) (λ vq gq.
-        land ! (from ! (stop !)) (init ! 13 refl (EL.lawful Q.the-type Q′.the-laws 𝓤 H A W tt .typed Unsound (vq ∷ []) gq .0)) $
-        scan-pass ! (in-seq ! (fmOf 𝓤 H (W .laws) 𝓣)) mem run known-scan L ys n fn S fS Unsound vq gq lo hi (λ _. and-then ! (load ! (from ! (stop !)) (look ! 3 refl)) (and-then ! (load ! (from ! (fld ! refl (stop !))) (look-in ! 7 (sub ! 0 refl (whole !)))) (and-then ! (load ! (from ! (stop !)) (look ! 11 refl)) (and-then ! (load ! (from ! (stop !)) (look ! 13 refl)) (no-more !))))) (λ vf gf.
-        land ! (from ! (stop !)) (init ! 15 refl (EL.lawful F.the-type F′.the-laws 𝓤 H A W tt .typed fo (vf ∷ []) gf .0)) $
-        is-at-step ! (in-seq ! (fmOf 𝓤 H (W .laws) 𝓣)) mem run known-is-at fo vf gf (λ _. and-then ! (load ! (from ! (stop !)) (look ! 15 refl)) (no-more !)) (
-        land ! (from ! (stop !)) (init ! 27 refl (tt, tt)) $
-        if-else ! (load ! (from ! (stop !)) (look ! 27 refl))
+        land ! (from ! (stop !)) (init ! 15 refl (EL.lawful Q.the-type Q′.the-laws 𝓤 H A W tt .typed Unsound (vq ∷ []) gq .0)) $
+        scan-pass ! (in-seq ! (fmOf 𝓤 H (W .laws) 𝓣)) mem run known-scan L ys n fn S fS Unsound vq gq lo hi (λ _. and-then ! (load ! (from ! (stop !)) (look ! 3 refl)) (and-then ! (load ! (from ! (stop !)) (look ! 13 refl)) (and-then ! (load ! (from ! (stop !)) (look ! 11 refl)) (and-then ! (load ! (from ! (stop !)) (look ! 15 refl)) (no-more !))))) (λ vf gf.
+        land ! (from ! (stop !)) (init ! 17 refl (EL.lawful F.the-type F′.the-laws 𝓤 H A W tt .typed fo (vf ∷ []) gf .0)) $
+        is-at-step ! (in-seq ! (fmOf 𝓤 H (W .laws) 𝓣)) mem run known-is-at fo vf gf (λ _. and-then ! (load ! (from ! (stop !)) (look ! 17 refl)) (no-more !)) (
+        land ! (from ! (stop !)) (init ! 31 refl (tt, tt)) $
+        if-else ! (load ! (from ! (stop !)) (look ! 31 refl))
         (λ u. assigns ! (of-opd ! (false-lit !)) (from ! (stop !)) (init ! 1 refl (tt, tt)) $
-        returns-within ! Post refl (look ! 1 refl) $ used ! $ used ! $ used ! $ used ! $ used ! $ used ! $ used ! $ used ! $ room ! $ room ! $ used ! $ used ! $ used ! $ used ! $ room ! $ free0 ! $
+        returns-within ! Post refl (look ! 1 refl) $ used ! $ used ! $ used ! $ used ! $ used ! $ used ! $ used ! $ used ! $ used ! $ room ! $ room ! $ room ! $ used ! $ used ! $ used ! $ used ! $ room ! $ free0 ! $
         finishS 𝓤 H A T.the-row L bool ys χ W (‵ ftrue) (vbool false) false refl (row false (stop-2 lent (isAt fo) _ u)))
         (λ u. let ok : all (λ m. soundArena S (at ys m)) 0 n ≡ true = sounds-scan S ys n ∙ not-holds (isAt fo) u in
-        apart-pass ! (in-seq ! (fmOf 𝓤 H (W .laws) 𝓣)) mem run known-apart L ys n fn S fS lo hi ok (λ _. and-then ! (load ! (from ! (stop !)) (look ! 3 refl)) (and-then ! (load ! (from ! (fld ! refl (stop !))) (look-in ! 7 (sub ! 0 refl (whole !)))) (and-then ! (load ! (from ! (stop !)) (look ! 11 refl)) (no-more !)))) (
-        land ! (from ! (stop !)) (store ! 21 refl (tt, tt)) $
-        assigns ! (un ! (load ! (from ! (stop !)) (look ! 21 refl)) tt) (from ! (stop !)) (store ! 25 refl (tt, tt)) $
-        if-else ! (load ! (from ! (stop !)) (look ! 25 refl))
-        (λ w. assigns ! (of-opd ! (false-lit !)) (from ! (stop !)) (init ! 1 refl (tt, tt)) $
-        returns-within ! Post refl (look ! 1 refl) $ used ! $ used ! $ used ! $ used ! $ used ! $ used ! $ used ! $ used ! $ room ! $ room ! $ used ! $ used ! $ used ! $ used ! $ room ! $ free0 ! $
-        finishS 𝓤 H A T.the-row L bool ys χ W (‵ ftrue) (vbool false) false refl (row false (stop-3 lent (isAt fo) (apart S ys n) _ w)))
-        (λ w. about-step ! (in-seq ! (fmOf 𝓤 H (W .laws) 𝓣)) mem run known-about (state .question) _ (owed .1 .1 .0) (λ _. and-then ! (load ! (from ! (fld ! refl (stop !))) (look-in ! 7 (sub ! 2 refl (whole !)))) (no-more !)) (
-        land ! (from ! (stop !)) (init ! 29 refl (tt, tt)) $
+        apart-pass ! (in-seq ! (fmOf 𝓤 H (W .laws) 𝓣)) mem run known-apart L ys n fn S fS lo hi ok (λ _. and-then ! (load ! (from ! (stop !)) (look ! 3 refl)) (and-then ! (load ! (from ! (stop !)) (look ! 13 refl)) (and-then ! (load ! (from ! (stop !)) (look ! 11 refl)) (no-more !)))) (
+        land ! (from ! (stop !)) (store ! 25 refl (tt, tt)) $
+        assigns ! (un ! (load ! (from ! (stop !)) (look ! 25 refl)) tt) (from ! (stop !)) (store ! 29 refl (tt, tt)) $
         if-else ! (load ! (from ! (stop !)) (look ! 29 refl))
+        (λ w. assigns ! (of-opd ! (false-lit !)) (from ! (stop !)) (init ! 1 refl (tt, tt)) $
+        returns-within ! Post refl (look ! 1 refl) $ used ! $ used ! $ used ! $ used ! $ used ! $ used ! $ used ! $ used ! $ used ! $ room ! $ room ! $ room ! $ used ! $ used ! $ used ! $ used ! $ room ! $ free0 ! $
+        finishS 𝓤 H A T.the-row L bool ys χ W (‵ ftrue) (vbool false) false refl (row false (stop-3 lent (isAt fo) (apart S ys n) _ w)))
+        (λ w. question-of-step ! (in-seq ! (fmOf 𝓤 H (W .laws) 𝓣)) mem run known-open state mach gs (λ _. and-then ! (load ! (from ! (stop !)) (look ! 7 refl)) (no-more !)) (λ vo go.
+        land ! (from ! (stop !)) (init ! 19 refl (EL.lawful N.the-type N′.the-laws 𝓤 H A W tt .typed (state .question) (vo ∷ []) go .0)) $
+        about-step ! (in-seq ! (fmOf 𝓤 H (W .laws) 𝓣)) mem run known-about (state .question) vo go (λ _. and-then ! (load ! (from ! (stop !)) (look ! 19 refl)) (no-more !)) (
+        land ! (from ! (stop !)) (init ! 33 refl (tt, tt)) $
+        if-else ! (load ! (from ! (stop !)) (look ! 33 refl))
         (λ z. assigns ! (of-opd ! (true-lit !)) (from ! (stop !)) (init ! 1 refl (tt, tt)) $
-        returns-within ! Post refl (look ! 1 refl) $ used ! $ used ! $ used ! $ used ! $ used ! $ used ! $ used ! $ used ! $ room ! $ room ! $ used ! $ used ! $ used ! $ used ! $ used ! $ free0 ! $
-        finishS 𝓤 H A T.the-row L bool ys χ W (‵ ftrue) (vbool true) true refl
-        (row true (none-sound (at ys id) n (state .question) (about (aboutNone (state .question)) z) ∙ goes-4 lent (isAt fo) (apart S ys n) asks h u w)))
-        (λ z. asked-step ! (in-seq ! (fmOf 𝓤 H (W .laws) 𝓣)) mem run known-asked (state .question) _ (owed .1 .1 .0) (λ _. and-then ! (load ! (from ! (fld ! refl (stop !))) (look-in ! 7 (sub ! 2 refl (whole !)))) (no-more !)) (λ fid.
-        land ! (from ! (stop !)) (init ! 17 refl (tt, record { fits = fid })) $
-        load-or-pass ! (in-seq ! (fmOf 𝓤 H (W .laws) 𝓣)) mem run known-load L ys id fid (λ _. and-then ! (load ! (from ! (stop !)) (look ! 3 refl)) (and-then ! (load ! (from ! (stop !)) (look ! 17 refl)) (no-more !))) (λ va ga.
-        land ! (from ! (stop !)) (init ! 19 refl (LL.lawful T.the-type T′.the-laws 𝓤 H A W .typed (at ys id) (va ∷ []) ga .0)) $
-        question-step ! (in-seq ! (fmOf 𝓤 H (W .laws) 𝓣)) mem run known-question (at ys id) va ga n fn (state .question) _ (owed .1 .1 .0) (few-at S ys n ok id)
-        (leb-true n 32 (fourth (eqb (length ys) 32) (eqb stamps 32768) (pageSizeSound page) (leb n 32) (holds-true lent h))) (λ _. and-then ! (load ! (from ! (stop !)) (look ! 19 refl)) (and-then ! (load ! (from ! (fld ! refl (stop !))) (look-in ! 7 (sub ! 0 refl (whole !)))) (and-then ! (load ! (from ! (fld ! refl (stop !))) (look-in ! 7 (sub ! 2 refl (whole !)))) (no-more !)))) (
+        returns-within ! Post refl (look ! 1 refl) $ used ! $ used ! $ used ! $ used ! $ used ! $ used ! $ used ! $ used ! $ used ! $ used ! $ room ! $ room ! $ used ! $ used ! $ used ! $ used ! $ used ! $ free0 ! $
+        finishS 𝓤 H A T.the-row L bool ys χ W (‵ ftrue) (vbool true) true refl (row true (none-sound (at ys id) n (state .question) (about (aboutNone (state .question)) z) ∙ goes-4 lent (isAt fo) (apart S ys n) asks h u w)))
+        (λ z. asked-step ! (in-seq ! (fmOf 𝓤 H (W .laws) 𝓣)) mem run known-asked (state .question) vo go (λ _. and-then ! (load ! (from ! (stop !)) (look ! 19 refl)) (no-more !)) (λ fid.
+        land ! (from ! (stop !)) (init ! 21 refl (tt, record { fits = fid })) $
+        load-or-pass ! (in-seq ! (fmOf 𝓤 H (W .laws) 𝓣)) mem run known-load L ys id fid (λ _. and-then ! (load ! (from ! (stop !)) (look ! 3 refl)) (and-then ! (load ! (from ! (stop !)) (look ! 21 refl)) (no-more !))) (λ va ga.
+        land ! (from ! (stop !)) (init ! 23 refl (LL.lawful T.the-type T′.the-laws 𝓤 H A W .typed (at ys id) (va ∷ []) ga .0)) $
+        question-step ! (in-seq ! (fmOf 𝓤 H (W .laws) 𝓣)) mem run known-question (at ys id) va ga n fn (state .question) vo go (few-at S ys n ok id)
+        (leb-true n 32 (fourth (eqb (length ys) 32) (eqb stamps 32768) (pageSizeSound page) (leb n 32) (holds-true lent h))) (λ _. and-then ! (load ! (from ! (stop !)) (look ! 23 refl)) (and-then ! (load ! (from ! (stop !)) (look ! 13 refl)) (and-then ! (load ! (from ! (stop !)) (look ! 19 refl)) (no-more !)))) (
         land ! (from ! (stop !)) (init ! 1 refl (tt, tt)) $
-        returns ! (look ! 1 refl) $ used ! $ used ! $ used ! $ used ! $ used ! $ used ! $ used ! $ used ! $ used ! $ used ! $ used ! $ used ! $ used ! $ used ! $ used ! $ free0 ! $
-        finishS 𝓤 H A T.the-row L bool ys χ W (‵ ftrue) (vbool asks) asks refl (row asks (goes-4 lent (isAt fo) (apart S ys n) asks h u w))))))))))))))))
+        returns ! (look ! 1 refl) $ used ! $ used ! $ used ! $ used ! $ used ! $ used ! $ used ! $ used ! $ used ! $ used ! $ used ! $ used ! $ used ! $ used ! $ used ! $ used ! $ used ! $ free0 ! $
+        finishS 𝓤 H A T.the-row L bool ys χ W (‵ ftrue) (vbool asks) asks refl (row asks (goes-4 lent (isAt fo) (apart S ys n) asks h u w))))))))))))))))))
 
   row-meets : Meets 𝓤 H A row′.signature (WpFn 𝓤 H (𝓣 .C) (𝓣 .Λ) code.function) (row′.spec 𝓤 H A mem run)
   row-meets = shr-meets 𝓤 H A W T.the-row bool (plain (λ _. usize) ∷ plain (λ _. Z.the-row) ∷ plain (λ _. u64) ∷ plain (λ _. u64) ∷ []) (yes, (yes, (yes, (yes, tt)))) (row′.clauses 𝓤 H A mem run)
@@ -235,6 +245,8 @@ row-one-spec 𝓤 H 𝓜 𝓖 𝓡 =
     entered 𝓤 H (tripleOf 𝓤 H (𝓖 .A) row′.signature (row′.spec 𝓤 H (𝓖 .A) (𝓜 .mem) (𝓡 .run)))
     (tables 𝓤 H 𝓜 𝓡 code.env .C) (tables 𝓤 H 𝓜 𝓡 code.env .Λ) #table·row-one code.function (code.unfolded 𝓤 H 𝓜 𝓡)
     (row-meets 𝓤 H (𝓖 .A) (givenOf 𝓤 H 𝓜 𝓖) (𝓜 .mem) (𝓡 .run) (tablesOf 𝓤 H 𝓜 (tables 𝓤 H 𝓜 𝓡 code.env))
+    (cited 𝓤 H (CountOf 𝓤 H (𝓖 .A) (𝓜 .mem) (𝓡 .run)) 𝓜 𝓡 code.env #row-parts·count-of count-of-def.routine code.calls-row-parts·count-of (count-of-thm.met 𝓤 H 𝓜 𝓖 𝓡))
+    (cited 𝓤 H (QuestionOf 𝓤 H (𝓖 .A) (𝓜 .mem) (𝓡 .run)) 𝓜 𝓡 code.env #row-parts·question-of question-of-def.routine code.calls-row-parts·question-of (question-of-thm.met 𝓤 H 𝓜 𝓖 𝓡))
     (cited 𝓤 H (Lent 𝓤 H (𝓖 .A) (𝓜 .mem) (𝓡 .run)) 𝓜 𝓡 code.env #row-parts·lent-sound lent-def.routine code.calls-row-parts·lent-sound (lent-thm.met 𝓤 H 𝓜 𝓖 𝓡))
     (cited 𝓤 H (Unsounds 𝓤 H (𝓖 .A) (𝓜 .mem) (𝓡 .run)) 𝓜 𝓡 code.env #row-parts·unsound-query unsound-def.routine code.calls-row-parts·unsound-query (unsound-thm.met 𝓤 H 𝓜 𝓖 𝓡))
     (cited 𝓤 H (Scan 𝓤 H (𝓖 .A) (𝓜 .mem) (𝓡 .run)) 𝓜 𝓡 code.env #table·scan scan-def.routine code.calls-table·scan (scan-thm.met 𝓤 H 𝓜 𝓖 𝓡))

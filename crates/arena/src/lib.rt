@@ -40,7 +40,7 @@ fn each_bit(chunks: usize, on: bool) -> [u32; 32]
 {
     let mut row = [0u32; 32];
     if on {
-        words::set_row(&mut row, 0, chunks);
+        rows::set_row(&mut row, 0, chunks);
         return row;
     }
     row
@@ -106,8 +106,8 @@ pub fn grow(a: Arena, n: usize) -> Arena
 {
     let chunks = a.chunks;
     let mut b = a;
-    words::set_row(&mut b.dirty, chunks, n);
-    words::set_row(&mut b.committed, chunks, n);
+    rows::set_row(&mut b.dirty, chunks, n);
+    rows::set_row(&mut b.committed, chunks, n);
     b.chunks = chunks + n;
     b
 }

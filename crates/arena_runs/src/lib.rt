@@ -13,7 +13,7 @@ pub fn take_run(a: Arena, s: usize, n: usize) -> Arena
     ensures { λ r. ⌜ r ≡ takeRun a s n ⌝ }
 {
     let mut b = a;
-    words::set_row(&mut b.used, s, n);
+    rows::set_row(&mut b.used, s, n);
     b
 }
 
@@ -23,7 +23,7 @@ pub fn give_back_run(a: Arena, s: usize, n: usize) -> Arena
     ensures { λ r. ⌜ r ≡ giveBackRun a s n ⌝ }
 {
     let mut b = a;
-    words::clear_row(&mut b.used, s, n);
+    rows::clear_row(&mut b.used, s, n);
     b
 }
 
@@ -33,7 +33,7 @@ pub fn commit_run(a: Arena, s: usize, n: usize) -> Arena
     ensures { λ r. ⌜ r ≡ commitRun a s n ⌝ }
 {
     let mut b = a;
-    words::set_row(&mut b.committed, s, n);
+    rows::set_row(&mut b.committed, s, n);
     b
 }
 
@@ -43,7 +43,7 @@ pub fn dirty_run(a: Arena, s: usize, n: usize) -> Arena
     ensures { λ r. ⌜ r ≡ dirtyRun a s n ⌝ }
 {
     let mut b = a;
-    words::set_row(&mut b.dirty, s, n);
+    rows::set_row(&mut b.dirty, s, n);
     b
 }
 
@@ -68,7 +68,7 @@ pub fn tell_run(a: Arena, s: usize, n: usize, told: Commitment) -> Arena
         Commitment::Committed => commit_run(a, s, n),
         Commitment::Uncommitted => {
             let mut b = a;
-            words::clear_row(&mut b.committed, s, n);
+            rows::clear_row(&mut b.committed, s, n);
             b
         }
     }

@@ -28,7 +28,7 @@ fn unpend_chunk(a: Arena, j: usize) -> Arena
     ensures { λ r. ⌜ r ≡ unpendChunk a j ⌝ }
 {
     let mut b = a;
-    words::clear_row(&mut b.pending, j, 1);
+    rows::clear_row(&mut b.pending, j, 1);
     b
 }
 

@@ -30,13 +30,14 @@ use Rattle.layer.specs.Step.{claim, step}
 use Rattle.judge.specs.declared.Query.the-variants.{Serves}
 use Rattle.judge.specs.Scan.{hit, scanOf}
 use Rattle.claims.specs.Core.{claimCount, runReply, runArena, searchReply, searchArena, claimReply}
-use Rattle.claims.proofs.CallLaws.{count-broken}
-use Rattle.claims.proofs.ClaimLaws.{hits, claim-step-set, found-sound}
+use Rattle.claims.proofs.CallLaws.{count-in, count-broken}
+use Rattle.claim_laws.proofs.ClaimLaws.{hits, claim-step-set, found-sound}
 use Rattle.registers.specs.Core.{isIdle, storedAt, gated}
 use Rattle.refusals.specs.declared.Refusal.the-variants.{Zero, ArenasOff}
 use Rattle.registers.proofs.WriteLaws.{sound-count}
-use Rattle.grants.specs.declared.Grant.{Grant}
-use Rattle.grants.specs.Grants.{startOf, grantOf, grantedReply, servedReply, claimAnswer, placeOf}
+use Rattle.grant_parts.specs.declared.Grant.{Grant}
+use Rattle.grants.specs.Grants.{grantedReply, servedReply, claimAnswer}
+use Rattle.grant_parts.specs.Reads.{startOf, grantOf, placeOf}
 
 -- of a record that has a run of n: what is answered by what was read of it
 run-granted : (S : ℕ) (state : State) (i : ℕ) (a : Arena) (n : ℕ) (commits : Bool) → isAt (findRun a n) ≡ true
@@ -94,14 +95,6 @@ module _ (S : ℕ) (l : List Arena) (stamps : List ℕ) (state : State) (setting
       go true false = refl
       go false i = refl
 
-  in-count : k ≤ state .count
-  unfolding claimCount
-  in-count = go (ok && (isIdle (state .question) && (not (eqb n 0) && arenaAllowed (settings .off) id)))
-    where
-      go : (b : Bool) → cond b (state .count) 0 ≤ state .count
-      go true = omega arith
-      go false = omega arith
-
   in-table : (x : ℕ) → f ≡ At x → x < length l
   in-table x e = go ok refl
     where
@@ -112,7 +105,7 @@ module _ (S : ℕ) (l : List Arena) (stamps : List ℕ) (state : State) (setting
       go true o =
           let c : state .count ≤ 32 = sound-count S l (length stamps) state (settings .page) o in
           let m : length l ≡ 32 = sound-length S l (length stamps) state (settings .page) o in
-          let h : x < 0 + k = below in let j : k ≤ state .count = in-count in omega (arith, c, m, h, j)
+          let h : x < 0 + k = below in let j : k ≤ state .count = count-in ok state settings id n in omega (arith, c, m, h, j)
       go false o = let z : 0 ≡ k = count-broken ok state settings id n o in let h : x < 0 + k = below in absurd (omega (arith, z, h))
 
   some : (x : ℕ) → f ≡ At x → 0 < n

@@ -52,18 +52,19 @@ use Rattle.arena.specs.Claiming.{findRun}
 use Rattle.layer.specs.World.{blank}
 use Rattle.layer.specs.Table.{isAt}
 use Rattle.layer.specs.Claiming.{grantArena}
-use Rattle.grants.specs.declared.Grant.{Grant}
-use Rattle.grants.specs.Grants.{startOf, grantOf, claimAnswer, placeOf}
-use Rattle.grants.proofs.Grant as N
-use Rattle.grants.proofs.Grant.Laws as N′
+use Rattle.grant_parts.specs.declared.Grant.{Grant}
+use Rattle.grants.specs.Grants.{claimAnswer}
+use Rattle.grant_parts.specs.Reads.{startOf, grantOf, placeOf}
+use Rattle.grant_parts.proofs.Grant as N
+use Rattle.grant_parts.proofs.Grant.Laws as N′
 use Rattle.claims.specs.Core.{claimCount}
 use Rattle.layer.specs.World.{Leaves}
 use Rattle.claims.proofs.claim_count as count′
 use Rattle.claims.proofs.claim_count.Symbol.{name as #claims·claim-count}
 use Rattle.chunk_alloc.proofs.serves_query as query′
 use Rattle.chunk_alloc.proofs.serves_query.Symbol.{name as #chunk-alloc·serves-query}
-use Rattle.grants.proofs.place_of as place′
-use Rattle.grants.proofs.place_of.Symbol.{name as #grants·place-of}
+use Rattle.grant_parts.proofs.place_of as place′
+use Rattle.grant_parts.proofs.place_of.Symbol.{name as #grant-parts·place-of}
 use Rattle.grant_at.proofs.grant_at as grant′
 use Rattle.grant_at.proofs.grant_at.Symbol.{name as #grant-at·grant-at}
 use Rattle.grants.proofs.claim_answer as answer′
@@ -114,7 +115,7 @@ module _ {M : Type 1} {𝓤 : URA M} {H : Heap 𝓤} {A : Atoms 𝓤} {K : Type 
       (owns-make 𝓤 H A (i32 ∷ usize ∷ []) (Ises (i32 ∷ usize ∷ [])) (sint-makes 𝓤 H A W w32, (uint-makes 𝓤 H A W w64, tt)) (id, (n, tt)) (vid ∷ [], (vint w64 n ∷ [], tt)) (gid, ((refl, fn), tt))) tt (id⊢ 𝓤 _)
       (λ r. r ≡ Serves id n) (λ r ws. id⊢ 𝓤 _) ops (λ v r is e. k v (subst (λ (o : Query). Is Q.the-row o (v ∷ [])) e is))
 
-  pub place-step : K → Site K W Γ C E #grants·place-of xs G after → (mem : Memory → SProp 𝓤) (run : Routine → Fun 𝓤) → Triple 𝓤 (C #grants·place-of) (Place 𝓤 H A mem run)
+  pub place-step : K → Site K W Γ C E #grant-parts·place-of xs G after → (mem : Memory → SProp 𝓤) (run : Routine → Fun 𝓤) → Triple 𝓤 (C #grant-parts·place-of) (Place 𝓤 H A mem run)
       → (f : Found) (vf : Val) → Is F.the-row f (vf ∷ [])
       → ((h : Item 𝓤) → Opds K W (h ∷ Γ) E xs (vf ∷ []))
       → (placeOf f < 2 ^ 64 → Seq K W (i ∷ Γ) (after (vint w64 (placeOf f))))

@@ -40,7 +40,7 @@ fn claim_at(
     let k = claims::claim_count(ok, state, settings, id, n);
     let q = serves_query(id, n);
     let f = table::scan(records, k, CHUNK, q);
-    let i = grants::place_of(f);
+    let i = grant_parts::place_of(f);
     let g = grant_at::grant_at(records, i, n, commits);
     grants::claim_answer(ok, state, settings, id, n, commits, f, g, CHUNK)
 }

@@ -1,7 +1,8 @@
 -- The definitions of a claim, case by case: which test decides. Assumes nothing.
 use mathlib.Core.Path.{_≡_, refl, sym, ap, ap₂, _∙_}
 use mathlib.Core.Bool.{Bool, true, false, cond, not, _&&_}
-use Prim.Native.Nat.{ℕ, _+_, _*_}
+use Prim.Native.Nat.{ℕ, _≤_}
+use native.Mathlib.Omega.{arith}
 use borrow.Author.Tests.{ne-eqb, eq-eqb}
 use lib.Dec.{eqb}
 use lib.IntN.{ℤ}
@@ -9,46 +10,12 @@ use Rattle.runs.specs.declared.Found.{Found}
 use Rattle.runs.specs.declared.Found.the-variants.{At}
 use Rattle.options.specs.Options.{arenaAllowed}
 use Rattle.arena.specs.declared.Arena.{Arena}
-use Rattle.arena.specs.Claiming.{findRun, runCommitted, runFresh, takeRun, dirtyRun}
-use Rattle.layer.specs.declared.Question.the-variants.{Committing}
-use Rattle.layer.specs.declared.Ask.the-variants.{AskCommit}
-use Rattle.layer.specs.declared.Answer.the-variants.{Asks, Claimed}
+use Rattle.arena.specs.Claiming.{findRun}
 use Rattle.layer.specs.declared.State.{State}
 use Rattle.layer.specs.declared.Reply.{Reply}
 use Rattle.layer.specs.declared.Settings.{Settings}
-use Rattle.layer.specs.World.{stateOf, reply, calm}
-use Rattle.layer.specs.Claiming.{asksCommit, grantArena, grantReply}
 use Rattle.registers.specs.Core.{isIdle}
-use Rattle.words.proofs.Tests.{when, unless}
 use Rattle.claims.specs.Core.{claimCount, runReply, runArena, searchReply, searchArena}
-
--- ---- a grant
-
-module _ (a : Arena) (s n : ℕ) (commits : Bool) where
-  pub asks : commits ≡ true → runCommitted a s n ≡ false → asksCommit a s n commits ≡ true
-  unfolding asksCommit
-  asks e f = ap₂ (λ (x y : Bool). x && not y) e f
-
-  pub asks-not-told : commits ≡ false → asksCommit a s n commits ≡ false
-  unfolding asksCommit
-  asks-not-told e = ap (λ (x : Bool). x && not (runCommitted a s n)) e
-
-  pub asks-not-needed : commits ≡ true → runCommitted a s n ≡ true → asksCommit a s n commits ≡ false
-  unfolding asksCommit
-  asks-not-needed e f = ap₂ (λ (x y : Bool). x && not y) e f
-
-  module _ (S k : ℕ) (mark : Bool) (i : ℕ) where
-    pub grant-asks : asksCommit a s n commits ≡ true
-        → (takeRun a s n ≡ grantArena a s n commits)
-        × (reply (Asks (AskCommit (a .base + s * S) (n * S))) (stateOf k mark (Committing i s n)) ≡ grantReply S k mark i a s n commits)
-    unfolding grantArena grantReply
-    grant-asks e = (sym (when _ _ _ e), sym (when _ _ _ e))
-
-    pub grant-done : asksCommit a s n commits ≡ false
-        → (dirtyRun (takeRun a s n) s n ≡ grantArena a s n commits)
-        × (reply (Claimed (a .base + s * S) (runFresh a s n) (runCommitted a s n)) (calm k mark) ≡ grantReply S k mark i a s n commits)
-    unfolding grantArena grantReply
-    grant-done e = (sym (unless _ _ _ e), sym (unless _ _ _ e))
 
 -- ---- the search's end
 
@@ -69,6 +36,14 @@ module _ (ok : Bool) (state : State) (settings : Settings) (id : ℤ) (n : ℕ) 
   unfolding claimCount
   counted x y z w p q r s =
       sym (ap₂ (λ (t u : Bool). cond (t && u) (state .count) 0) p (ap₂ _&&_ q (ap₂ _&&_ r s)))
+
+  pub count-in : claimCount ok state settings id n ≤ state .count
+  unfolding claimCount
+  count-in = go (ok && (isIdle (state .question) && (not (eqb n 0) && arenaAllowed (settings .off) id)))
+    where
+      go : (b : Bool) → cond b (state .count) 0 ≤ state .count
+      go true = omega arith
+      go false = omega arith
 
   pub count-broken : ok ≡ false → 0 ≡ claimCount ok state settings id n
   count-broken p = counted false _ _ _ p refl refl refl

@@ -2,71 +2,17 @@
 // table: the scan and the stores stand above.
 ghost use mathlib.Core.Path.{_≡_};
 ghost use mathlib.Core.Bool.{true};
-ghost use Prim.Native.Nat.{ℕ, _+_, _*_, _^_, _<_, _≤_};
+ghost use Prim.Native.Nat.{ℕ, _<_, _≤_};
 ghost use Rattle.runs.specs.declared.Found.the-variants.{At};
 ghost use Rattle.lookup.specs.Soundness.{soundArena};
-ghost use Rattle.layer.specs.Claiming.{grantArena, grantReply};
 ghost use Rattle.claims.specs.Core.{claimCount, searchArena, searchReply};
 use arena::Arena;
-use layer::Answer;
-use layer::Ask;
-use layer::Question;
+use granting::Served;
 use layer::Reply;
 use layer::Settings;
 use layer::State;
-use layer::Waiting;
 use refusals::Refusal;
 use runs::Found;
-
-// The record that a claim leaves, and its reply.
-pub struct Served {
-    pub arena: Arena,
-    pub reply: Reply,
-}
-
-// ---- a grant
-
-// The run of n from s on, taken in the arena. Where the commit has to be asked for, dirty waits for the
-// host's yes.
-pub fn grant(
-    a: Arena,
-    id: usize,
-    s: usize,
-    n: usize,
-    commits: bool,
-    k: usize,
-    mark: bool,
-    chunk_size: u64,
-) -> Served
-    requires { ⌜ (0 < «chunk_size») × («chunk_size» ≤ 4294967296) × (s + n ≤ a .chunks) × (a .chunks ≤ 1024) × (a .base + a .chunks * «chunk_size» < 2 ^ 64) ⌝ }
-    ensures { λ r. ⌜ (r .arena ≡ grantArena a s n commits) × (r .reply ≡ grantReply «chunk_size» k mark id a s n commits) ⌝ }
-{
-    let address = a.base + (s as u64) * chunk_size;
-    let committed = lookup::run_committed(a, s, n);
-    let fresh = lookup::run_fresh(a, s, n);
-    let taken = arena_runs::take_run(a, s, n);
-    if commits && !committed {
-        let bytes = (n as u64) * chunk_size;
-        let ask = Ask::AskCommit { address, bytes };
-        let question = Question::Committing { id, start: s, n };
-        let reply = claim_miss::answered(Answer::Asks(ask), k, mark, question);
-        return Served {
-            arena: taken,
-            reply,
-        };
-    }
-    let answer = Answer::Claimed {
-        address,
-        fresh,
-        committed,
-    };
-    Served {
-        arena: arena_runs::dirty_run(taken, s, n),
-        reply: claim_miss::answered(answer, k, mark, Question::Idle),
-    }
-}
-
-// ---- a claim
 
 // The search's end: the lowest run in the record that the scan found, or a miss.
 pub fn search_end(
@@ -91,7 +37,7 @@ pub fn search_end(
         Found::At(i) => {
             let run = judge::run_of(a, n);
             match run {
-                Found::At(s) => grant(a, i, s, n, commits, k, mark, chunk_size),
+                Found::At(s) => granting::grant(a, i, s, n, commits, k, mark, chunk_size),
                 Found::Nothing => Served {
                     arena: a,
                     reply: claim_miss::refuse(Refusal::NoRun, k, mark),

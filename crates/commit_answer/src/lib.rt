@@ -8,7 +8,7 @@ ghost use Rattle.layer.specs.Answering.{commitArena, commitReply};
 ghost use Rattle.open_commit.specs.Asked.{committingId, committingStart, committingLength};
 ghost use Rattle.commit_answer.specs.Run.{runId, runStart, runLength};
 use arena::Arena;
-use claims::Served;
+use granting::Served;
 use layer::Question;
 use layer::Reply;
 use layer::State;

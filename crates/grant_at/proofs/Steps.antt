@@ -38,9 +38,9 @@ use Rattle.layer.specs.Claiming.{grantArena}
 use Rattle.judge.specs.declared.Head.{Head}
 use Rattle.judge.proofs.Head as D
 use Rattle.judge.proofs.Head.Laws as D′
-use Rattle.grants.specs.declared.Grant.{Grant}
-use Rattle.grants.specs.Grants.{startOf, grantOf}
-use Rattle.grants.proofs.Grant as N
+use Rattle.grant_parts.specs.declared.Grant.{Grant}
+use Rattle.grant_parts.specs.Reads.{startOf, grantOf}
+use Rattle.grant_parts.proofs.Grant as N
 use Rattle.records.proofs.Walk.{Loan, sliceOf, lent}
 use Rattle.records.proofs.Calls.{Site, plain-call, shr-call, mut-call}
 use Rattle.map_changes.proofs.take_at as take′
@@ -49,20 +49,20 @@ use Rattle.map_changes.proofs.dirty_at as dirty′
 use Rattle.map_changes.proofs.dirty_at.Symbol.{name as #map-changes·dirty-at}
 use Rattle.maps.proofs.run_at as run′
 use Rattle.maps.proofs.run_at.Symbol.{name as #maps·run-at}
-use Rattle.maps.proofs.committed_at as committed′
-use Rattle.maps.proofs.committed_at.Symbol.{name as #maps·committed-at}
-use Rattle.maps.proofs.fresh_at as fresh′
-use Rattle.maps.proofs.fresh_at.Symbol.{name as #maps·fresh-at}
-use Rattle.grants.proofs.chunks_of as chunks′
-use Rattle.grants.proofs.chunks_of.Symbol.{name as #grants·chunks-of}
-use Rattle.grants.proofs.start_of as start′
-use Rattle.grants.proofs.start_of.Symbol.{name as #grants·start-of}
-use Rattle.grants.proofs.asks_commit as asks′
-use Rattle.grants.proofs.asks_commit.Symbol.{name as #grants·asks-commit}
-use Rattle.grants.proofs.grant_of as grant′
-use Rattle.grants.proofs.grant_of.Symbol.{name as #grants·grant-of}
-use Rattle.grants.proofs.no_grant as none′
-use Rattle.grants.proofs.no_grant.Symbol.{name as #grants·no-grant}
+use Rattle.run_maps.proofs.committed_at as committed′
+use Rattle.run_maps.proofs.committed_at.Symbol.{name as #run-maps·committed-at}
+use Rattle.run_maps.proofs.fresh_at as fresh′
+use Rattle.run_maps.proofs.fresh_at.Symbol.{name as #run-maps·fresh-at}
+use Rattle.judge.proofs.chunks_of as chunks′
+use Rattle.judge.proofs.chunks_of.Symbol.{name as #judge·chunks-of}
+use Rattle.grant_parts.proofs.start_of as start′
+use Rattle.grant_parts.proofs.start_of.Symbol.{name as #grant-parts·start-of}
+use Rattle.grant_parts.proofs.asks_commit as asks′
+use Rattle.grant_parts.proofs.asks_commit.Symbol.{name as #grant-parts·asks-commit}
+use Rattle.grant_parts.proofs.grant_of as grant′
+use Rattle.grant_parts.proofs.grant_of.Symbol.{name as #grant-parts·grant-of}
+use Rattle.grant_parts.proofs.no_grant as none′
+use Rattle.grant_parts.proofs.no_grant.Symbol.{name as #grant-parts·no-grant}
 use Rattle.grant_at.proofs.take_in as take-in′
 use Rattle.grant_at.proofs.take_in.Symbol.{name as #grant-at·take-in}
 use Rattle.grant_at.proofs.grant_in as grant-in′
@@ -141,7 +141,7 @@ module _ {M : Type 1} {𝓤 : URA M} {H : Heap 𝓤} {A : Atoms 𝓤} {K : Type 
       (λ _. owns-make 𝓤 H A (usize ∷ usize ∷ usize ∷ []) (Ises (usize ∷ usize ∷ usize ∷ [])) (uint-makes 𝓤 H A W w64, (uint-makes 𝓤 H A W w64, (uint-makes 𝓤 H A W w64, tt))) (j, (c, (n, tt))) (vint w64 j ∷ [], (vint w64 c ∷ [], (vint w64 n ∷ [], tt))) ((refl, fj), ((refl, fc), ((refl, fn), tt)))) (λ _ _. tt) (λ _ _. factI 𝓤 _ (emp 𝓤) (few))
       (λ r. r ≡ findRun (getD ys j blank) n) (λ _ _ r ws. id⊢ 𝓤 _) (λ h _. ops h) (λ v r is e. k v (subst (λ (o : Found). Is F.the-row o (v ∷ [])) e is))
 
-  pub committed-step : K → Site K W Γ C E #maps·committed-at xs G after → (mem : Memory → SProp 𝓤) (run : Routine → Fun 𝓤) → Triple 𝓤 (C #maps·committed-at) (CommittedAt 𝓤 H A mem run)
+  pub committed-step : K → Site K W Γ C E #run-maps·committed-at xs G after → (mem : Memory → SProp 𝓤) (run : Routine → Fun 𝓤) → Triple 𝓤 (C #run-maps·committed-at) (CommittedAt 𝓤 H A mem run)
       → (L : Loan) (ys : List Arena) → (j : ℕ) → j < 2 ^ 64 → (s : ℕ) → s < 2 ^ 64 → (n : ℕ) → n < 2 ^ 64 → (j < length ys) × (s + n ≤ 1024)
       → ((h : Item 𝓤) → Opds K W (h ∷ Γ) E xs (sliceOf L ∷ vint w64 j ∷ vint w64 s ∷ vint w64 n ∷ []))
       → Seq K W ((‵ (lent T.the-row L ys) ⊛ i) ∷ Γ) (after (vbool (runCommitted (getD ys j blank) s n)))
@@ -151,7 +151,7 @@ module _ {M : Type 1} {𝓤 : URA M} {H : Heap 𝓤} {A : Atoms 𝓤} {K : Type 
       (λ _. owns-make 𝓤 H A (usize ∷ usize ∷ usize ∷ []) (Ises (usize ∷ usize ∷ usize ∷ [])) (uint-makes 𝓤 H A W w64, (uint-makes 𝓤 H A W w64, (uint-makes 𝓤 H A W w64, tt))) (j, (s, (n, tt))) (vint w64 j ∷ [], (vint w64 s ∷ [], (vint w64 n ∷ [], tt))) ((refl, fj), ((refl, fs), ((refl, fn), tt)))) (λ _ _. tt) (λ _ _. factI 𝓤 _ (emp 𝓤) (few))
       (λ r. r ≡ runCommitted (getD ys j blank) s n) (λ _ _ r ws. id⊢ 𝓤 _) (λ h _. ops h) (λ v r is e. subst (λ (u : Val). Seq K W ((‵ (lent T.the-row L ys) ⊛ i) ∷ Γ) (after u)) (sym (ap only (bool-tells r (v ∷ []) is) ∙ ap vbool e)) k)
 
-  pub fresh-step : K → Site K W Γ C E #maps·fresh-at xs G after → (mem : Memory → SProp 𝓤) (run : Routine → Fun 𝓤) → Triple 𝓤 (C #maps·fresh-at) (FreshAt 𝓤 H A mem run)
+  pub fresh-step : K → Site K W Γ C E #run-maps·fresh-at xs G after → (mem : Memory → SProp 𝓤) (run : Routine → Fun 𝓤) → Triple 𝓤 (C #run-maps·fresh-at) (FreshAt 𝓤 H A mem run)
       → (L : Loan) (ys : List Arena) → (j : ℕ) → j < 2 ^ 64 → (s : ℕ) → s < 2 ^ 64 → (n : ℕ) → n < 2 ^ 64 → (j < length ys) × (s + n ≤ 1024)
       → ((h : Item 𝓤) → Opds K W (h ∷ Γ) E xs (sliceOf L ∷ vint w64 j ∷ vint w64 s ∷ vint w64 n ∷ []))
       → Seq K W ((‵ (lent T.the-row L ys) ⊛ i) ∷ Γ) (after (vbool (runFresh (getD ys j blank) s n)))
@@ -161,7 +161,7 @@ module _ {M : Type 1} {𝓤 : URA M} {H : Heap 𝓤} {A : Atoms 𝓤} {K : Type 
       (λ _. owns-make 𝓤 H A (usize ∷ usize ∷ usize ∷ []) (Ises (usize ∷ usize ∷ usize ∷ [])) (uint-makes 𝓤 H A W w64, (uint-makes 𝓤 H A W w64, (uint-makes 𝓤 H A W w64, tt))) (j, (s, (n, tt))) (vint w64 j ∷ [], (vint w64 s ∷ [], (vint w64 n ∷ [], tt))) ((refl, fj), ((refl, fs), ((refl, fn), tt)))) (λ _ _. tt) (λ _ _. factI 𝓤 _ (emp 𝓤) (few))
       (λ r. r ≡ runFresh (getD ys j blank) s n) (λ _ _ r ws. id⊢ 𝓤 _) (λ h _. ops h) (λ v r is e. subst (λ (u : Val). Seq K W ((‵ (lent T.the-row L ys) ⊛ i) ∷ Γ) (after u)) (sym (ap only (bool-tells r (v ∷ []) is) ∙ ap vbool e)) k)
 
-  pub chunks-step : K → Site K W Γ C E #grants·chunks-of xs G after → (mem : Memory → SProp 𝓤) (run : Routine → Fun 𝓤) → Triple 𝓤 (C #grants·chunks-of) (Chunks 𝓤 H A mem run)
+  pub chunks-step : K → Site K W Γ C E #judge·chunks-of xs G after → (mem : Memory → SProp 𝓤) (run : Routine → Fun 𝓤) → Triple 𝓤 (C #judge·chunks-of) (Chunks 𝓤 H A mem run)
       → (h : Head) (vh : Val) → Is D.the-row h (vh ∷ [])
       → ((h : Item 𝓤) → Opds K W (h ∷ Γ) E xs (vh ∷ []))
       → (h .chunks < 2 ^ 64 → Seq K W (i ∷ Γ) (after (vint w64 (h .chunks))))
@@ -171,7 +171,7 @@ module _ {M : Type 1} {𝓤 : URA M} {H : Heap 𝓤} {A : Atoms 𝓤} {K : Type 
       (owns-make 𝓤 H A (D.the-row ∷ []) (Ises (D.the-row ∷ [])) (LL.makes D.the-type D′.the-plain 𝓤 H A, tt) (h, tt) (vh ∷ [], tt) (gh, tt)) tt (id⊢ 𝓤 _)
       (λ r. r ≡ h .chunks) (λ r ws. id⊢ 𝓤 _) ops (λ v r is e. subst (λ (u : Val). Seq K W (i ∷ Γ) (after u)) (sym (ap only (is .0) ∙ ap (vint w64) e)) (k (subst (λ (m : ℕ). m < 2 ^ 64) e (is .1))))
 
-  pub start-step : K → Site K W Γ C E #grants·start-of xs G after → (mem : Memory → SProp 𝓤) (run : Routine → Fun 𝓤) → Triple 𝓤 (C #grants·start-of) (Start 𝓤 H A mem run)
+  pub start-step : K → Site K W Γ C E #grant-parts·start-of xs G after → (mem : Memory → SProp 𝓤) (run : Routine → Fun 𝓤) → Triple 𝓤 (C #grant-parts·start-of) (Start 𝓤 H A mem run)
       → (f : Found) (vf : Val) → Is F.the-row f (vf ∷ [])
       → ((h : Item 𝓤) → Opds K W (h ∷ Γ) E xs (vf ∷ []))
       → (startOf f < 2 ^ 64 → Seq K W (i ∷ Γ) (after (vint w64 (startOf f))))
@@ -181,7 +181,7 @@ module _ {M : Type 1} {𝓤 : URA M} {H : Heap 𝓤} {A : Atoms 𝓤} {K : Type 
       (owns-make 𝓤 H A (F.the-row ∷ []) (Ises (F.the-row ∷ [])) (EL.makes F.the-type F′.the-plain 𝓤 H A, tt) (f, tt) (vf ∷ [], tt) (gf, tt)) tt (id⊢ 𝓤 _)
       (λ r. r ≡ startOf f) (λ r ws. id⊢ 𝓤 _) ops (λ v r is e. subst (λ (u : Val). Seq K W (i ∷ Γ) (after u)) (sym (ap only (is .0) ∙ ap (vint w64) e)) (k (subst (λ (m : ℕ). m < 2 ^ 64) e (is .1))))
 
-  pub asks-step : K → Site K W Γ C E #grants·asks-commit xs G after → (mem : Memory → SProp 𝓤) (run : Routine → Fun 𝓤) → Triple 𝓤 (C #grants·asks-commit) (Asks 𝓤 H A mem run)
+  pub asks-step : K → Site K W Γ C E #grant-parts·asks-commit xs G after → (mem : Memory → SProp 𝓤) (run : Routine → Fun 𝓤) → Triple 𝓤 (C #grant-parts·asks-commit) (Asks 𝓤 H A mem run)
       → (commits : Bool) → (committed : Bool)
       → ((h : Item 𝓤) → Opds K W (h ∷ Γ) E xs (vbool commits ∷ vbool committed ∷ []))
       → Seq K W (i ∷ Γ) (after (vbool (commits && not committed)))
@@ -191,7 +191,7 @@ module _ {M : Type 1} {𝓤 : URA M} {H : Heap 𝓤} {A : Atoms 𝓤} {K : Type 
       (owns-make 𝓤 H A (bool ∷ bool ∷ []) (Ises (bool ∷ bool ∷ [])) (bool-makes 𝓤 H A W, (bool-makes 𝓤 H A W, tt)) (commits, (committed, tt)) (vbool commits ∷ [], (vbool committed ∷ [], tt)) (refl, (refl, tt))) tt (id⊢ 𝓤 _)
       (λ r. r ≡ commits && not committed) (λ r ws. id⊢ 𝓤 _) ops (λ v r is e. subst (λ (u : Val). Seq K W (i ∷ Γ) (after u)) (sym (ap only (bool-tells r (v ∷ []) is) ∙ ap vbool e)) k)
 
-  pub grant-step : K → Site K W Γ C E #grants·grant-of xs G after → (mem : Memory → SProp 𝓤) (run : Routine → Fun 𝓤) → Triple 𝓤 (C #grants·grant-of) (GrantOf 𝓤 H A mem run)
+  pub grant-step : K → Site K W Γ C E #grant-parts·grant-of xs G after → (mem : Memory → SProp 𝓤) (run : Routine → Fun 𝓤) → Triple 𝓤 (C #grant-parts·grant-of) (GrantOf 𝓤 H A mem run)
       → (h : Head) (vh : Val) → Is D.the-row h (vh ∷ []) → (s : ℕ) → s < 2 ^ 64 → (c : Bool) → (w : Bool)
       → ((h : Item 𝓤) → Opds K W (h ∷ Γ) E xs (vh ∷ vint w64 s ∷ vbool c ∷ vbool w ∷ []))
       → ((v : Val) → Is N.the-row (record { base = h .base; start = s; committed = c; fresh = w }) (v ∷ []) → Seq K W (i ∷ Γ) (after v))
@@ -221,7 +221,7 @@ module _ {M : Type 1} {𝓤 : URA M} {H : Heap 𝓤} {A : Atoms 𝓤} {K : Type 
       (λ _. owns-make 𝓤 H A (usize ∷ usize ∷ bool ∷ []) (Ises (usize ∷ usize ∷ bool ∷ [])) (uint-makes 𝓤 H A W w64, (uint-makes 𝓤 H A W w64, (bool-makes 𝓤 H A W, tt))) (j, (n, (commits, tt))) (vint w64 j ∷ [], (vint w64 n ∷ [], (vbool commits ∷ [], tt))) ((refl, fj), ((refl, fn), (refl, tt)))) (λ _ _. tt) (λ _ _. factI 𝓤 _ (emp 𝓤) (few))
       (λ r zs. (r ≡ grantOf (getD ys j blank) n) × (zs ≡ set ys j (grantArena (getD ys j blank) (startOf (findRun (getD ys j blank) n)) n commits))) (λ _ _ r ws. id⊢ 𝓤 _) (λ h _. ops h) (λ v r zs is (e, e′) _. subst (λ (us : List Arena). Seq K W ((‵ (lent T.the-row L us) ⊛ i) ∷ Γ) (after v)) (sym e′) (k v (subst (λ (o : Grant). Is N.the-row o (v ∷ [])) e is)))
 
-  pub none-step : K → Site K W Γ C E #grants·no-grant xs G after → (mem : Memory → SProp 𝓤) (run : Routine → Fun 𝓤) → Triple 𝓤 (C #grants·no-grant) (NoGrant 𝓤 H A mem run)
+  pub none-step : K → Site K W Γ C E #grant-parts·no-grant xs G after → (mem : Memory → SProp 𝓤) (run : Routine → Fun 𝓤) → Triple 𝓤 (C #grant-parts·no-grant) (NoGrant 𝓤 H A mem run)
       → ((h : Item 𝓤) → Opds K W (h ∷ Γ) E xs ([]))
       → ((v : Val) (r : Grant) → Is N.the-row r (v ∷ []) → Seq K W (i ∷ Γ) (after v))
       → Seq K W (i ∷ Γ) G

@@ -7,9 +7,9 @@ ghost use Rattle.arena.specs.Claiming.{findRun, takeRun, dirtyRun};
 ghost use Rattle.layer.specs.World.{blank};
 ghost use Rattle.layer.specs.Table.{isAt};
 ghost use Rattle.layer.specs.Claiming.{grantArena};
-ghost use Rattle.grants.specs.Grants.{startOf, grantOf};
+ghost use Rattle.grant_parts.specs.Reads.{startOf, grantOf};
 use arena::Arena;
-use grants::Grant;
+use grant_parts::Grant;
 
 // The run taken; dirty too, unless that waits for the host's yes.
 fn take_in(records: &mut [Arena], i: usize, s: usize, n: usize, waits: bool)
@@ -29,14 +29,14 @@ fn grant_in(records: &mut [Arena], i: usize, n: usize, commits: bool) -> Grant
     ensures { λ r. ⌜ (r ≡ grantOf (getD (now (records .entry)) i blank) n) × (now (records .exit) ≡ set (now (records .entry)) i (grantArena (getD (now (records .entry)) i blank) (startOf (findRun (getD (now (records .entry)) i blank) n)) n commits)) ⌝ }
 {
     let h = table::head_or(records, i);
-    let chunks = grants::chunks_of(h);
+    let chunks = judge::chunks_of(h);
     let run = maps::run_at(records, i, chunks, n);
-    let s = grants::start_of(run);
-    let committed = maps::committed_at(records, i, s, n);
-    let fresh = maps::fresh_at(records, i, s, n);
-    let waits = grants::asks_commit(commits, committed);
+    let s = grant_parts::start_of(run);
+    let committed = run_maps::committed_at(records, i, s, n);
+    let fresh = run_maps::fresh_at(records, i, s, n);
+    let waits = grant_parts::asks_commit(commits, committed);
     take_in(records, i, s, n, waits);
-    grants::grant_of(h, s, committed, fresh)
+    grant_parts::grant_of(h, s, committed, fresh)
 }
 
 // The same at any id: past the end nothing is taken.
@@ -47,5 +47,5 @@ pub fn grant_at(records: &mut [Arena], i: usize, n: usize, commits: bool) -> Gra
     if i < records.len() {
         return grant_in(records, i, n, commits);
     }
-    grants::no_grant()
+    grant_parts::no_grant()
 }

@@ -1,4 +1,4 @@
--- What a claim reads of the arena that serves it, and what it answers by that alone. Document 01, "Claiming". S is the size of a chunk. Assumes nothing.
+-- What a claim answers by what it read of the arena that serves it, and by that alone. Document 01, "Claiming". S is the size of a chunk. Assumes nothing.
 use mathlib.Core.Bool.{Bool, cond, not, _&&_}
 use Prim.Native.Nat.{ℕ, _+_, _*_}
 use lib.Dec.{eqb}
@@ -7,8 +7,6 @@ use Rattle.refusals.specs.declared.Refusal.the-variants.{Zero, ArenasOff}
 use Rattle.runs.specs.declared.Found.{Found}
 use Rattle.runs.specs.declared.Found.the-variants.{At, Nothing}
 use Rattle.options.specs.Options.{arenaAllowed}
-use Rattle.arena.specs.declared.Arena.{Arena}
-use Rattle.arena.specs.Claiming.{findRun, runCommitted, runFresh}
 use Rattle.layer.specs.declared.Settings.{Settings}
 use Rattle.layer.specs.declared.State.{State}
 use Rattle.layer.specs.declared.Reply.{Reply}
@@ -18,22 +16,7 @@ use Rattle.layer.specs.declared.Answer.the-variants.{Asks, Claimed}
 use Rattle.layer.specs.World.{stateOf, reply, turnDown, calm}
 use Rattle.layer.specs.Claiming.{missReply}
 use Rattle.registers.specs.Core.{gated}
-use Rattle.grants.specs.declared.Grant.{Grant}
-
--- where a run starts that was found
-abbrev pub startOf : Found → ℕ
-startOf (At s) = s
-startOf Nothing = 0
-
--- what stands in the arena for its lowest run of n
-abbrev pub grantOf : Arena → ℕ → Grant
-grantOf a n =
-    record {
-      base = a .base;
-      start = startOf (findRun a n);
-      committed = runCommitted a (startOf (findRun a n)) n;
-      fresh = runFresh a (startOf (findRun a n)) n;
-    }
+use Rattle.grant_parts.specs.declared.Grant.{Grant}
 
 -- "`chunk_alloc` and runs put a commit question unless all chunks are committed; `chunk_claim` puts no commit question and reports the bit."
 unfoldable pub grantedReply : ℕ → ℕ → Bool → ℕ → Grant → ℕ → Bool → Reply
@@ -53,8 +36,3 @@ claimAnswer S ok state settings id n commits f g =
     (cond (eqb n 0) (turnDown Zero (calm (state .count) (state .mark)))
     (cond (arenaAllowed (settings .off) id) (servedReply S state g n commits (missReply S (state .count) (state .mark) id n commits settings) f)
     (turnDown ArenasOff (calm (state .count) (state .mark)))))
-
--- the id of the record that serves; past every slice where none does
-abbrev pub placeOf : Found → ℕ
-placeOf (At i) = i
-placeOf Nothing = 18446744073709551615

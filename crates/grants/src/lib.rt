@@ -1,14 +1,14 @@
 // A claim by value, over what it reads of the arena that serves it: what it answers. It knows no table and
 // no record: the run is found and taken where the maps lie.
 ghost use mathlib.Core.Path.{_≡_};
-ghost use mathlib.Core.Bool.{false, cond, not, _&&_};
+ghost use mathlib.Core.Bool.{cond};
 ghost use Prim.Native.Nat.{ℕ, _+_, _*_, _^_, _<_, _≤_};
 ghost use lib.Dec.{eqb};
 ghost use Rattle.refusals.specs.declared.Refusal.the-variants.{Zero, ArenasOff};
 ghost use Rattle.runs.specs.declared.Found.the-variants.{At};
 ghost use Rattle.layer.specs.World.{turnDown, calm};
-ghost use Rattle.grants.specs.Grants.{startOf, placeOf, grantedReply, servedReply, claimAnswer};
-use judge::Head;
+ghost use Rattle.grants.specs.Grants.{grantedReply, servedReply, claimAnswer};
+use grant_parts::Grant;
 use layer::Answer;
 use layer::Ask;
 use layer::Question;
@@ -17,77 +17,6 @@ use layer::Settings;
 use layer::State;
 use refusals::Refusal;
 use runs::Found;
-
-// What a claim reads of the arena: its base, where its lowest run starts, and what its maps say of the run.
-pub struct Grant {
-    pub base: u64,
-    pub start: usize,
-    pub committed: bool,
-    pub fresh: bool,
-}
-
-// ---- what is read
-
-// Where the run starts.
-pub fn start_of(f: Found) -> usize
-    ensures { λ r. ⌜ r ≡ startOf f ⌝ }
-{
-    match f {
-        Found::At(s) => s,
-        Found::Nothing => 0,
-    }
-}
-
-// The id of the record that serves; past every slice where none does.
-pub fn place_of(f: Found) -> usize
-    ensures { λ r. ⌜ r ≡ placeOf f ⌝ }
-{
-    match f {
-        Found::At(i) => i,
-        Found::Nothing => 18446744073709551615,
-    }
-}
-
-pub fn chunks_of(h: Head) -> usize
-    ensures { λ r. ⌜ r ≡ h .chunks ⌝ }
-{
-    h.chunks
-}
-
-// Whether the commit has to be asked for.
-pub fn asks_commit(commits: bool, committed: bool) -> bool
-    ensures { λ r. ⌜ r ≡ commits && not committed ⌝ }
-{
-    if commits {
-        return !committed;
-    }
-    false
-}
-
-pub fn grant_of(h: Head, start: usize, committed: bool, fresh: bool) -> Grant
-    ensures { λ r. ⌜ r ≡ record { base = h .base; start = start; committed = committed; fresh = fresh } ⌝ }
-{
-    Grant {
-        base: h.base,
-        start,
-        committed,
-        fresh,
-    }
-}
-
-// Of no arena.
-pub fn no_grant() -> Grant
-    ensures { λ r. ⌜ r ≡ record { base = 0; start = 0; committed = false; fresh = false } ⌝ }
-{
-    Grant {
-        base: 0,
-        start: 0,
-        committed: false,
-        fresh: false,
-    }
-}
-
-// ---- what is answered
 
 // The commit is asked for, or the run is granted.
 fn granted_reply(
@@ -104,7 +33,7 @@ fn granted_reply(
 {
     let address = g.base + (g.start as u64) * chunk_size;
     let committed = g.committed;
-    if asks_commit(commits, committed) {
+    if grant_parts::asks_commit(commits, committed) {
         let bytes = (n as u64) * chunk_size;
         let ask = Ask::AskCommit { address, bytes };
         let question = Question::Committing {

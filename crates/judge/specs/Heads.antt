@@ -14,7 +14,6 @@ use Rattle.layer.specs.Claiming.{eligible}
 use Rattle.judge.specs.declared.Query.{Query}
 use Rattle.judge.specs.declared.Query.the-variants.{Unsound, Meets, Holds, Serves, Grows}
 use Rattle.judge.specs.declared.Head.{Head}
-use Rattle.judge.specs.declared.Span.{Span}
 
 abbrev pub headOf : Arena → Head
 headOf a = record { base = a .base; chunks = a .chunks; exclusive = a .exclusive; owned = a .owned }
@@ -62,11 +61,3 @@ headHit S (Meets base bytes) i h = meets S (headed h) base bytes
 headHit S (Holds address) i h = isInside S (headed h) address
 headHit S (Serves id n) i h = mayServe id i h && eqb n 0
 headHit S (Grows address n) i h = grows S (headed h) address n
-
--- the range of the head lies wholly at or above the span, or wholly below it
-unfoldable pub outside : ℕ → Span → Head → Bool
-outside S s h = leb (s .hi) (h .base) || leb (h .base + h .chunks * S) (s .lo)
-
--- the first k arenas lie in the span
-abbrev pub Covers : ℕ → Span → List Arena → ℕ → Type 0
-Covers S s l k = (i : ℕ) → i < k → (s .lo ≤ at l i .base) × (endOf S (at l i) ≤ s .hi)

@@ -1,4 +1,4 @@
--- Functions on one map, called in one step of a walk on a map of a lent record where it lies (`records::Fields`): set-row-at, clear-row-at.
+-- Functions on one map, called in one step of a walk on a map of a lent record where it lies (`record_fields::Fields`): set-row-at, clear-row-at.
 -- Assumes `Given`, the callee's theorem, and that the table of calls is monotone under a frame.
 use mathlib.Core.Path.{_≡_, refl, sym, subst}
 use Prim.Native.Nat.{ℕ, _+_, _*_, _<_, _≤_, _^_}
@@ -23,17 +23,17 @@ use denote.Signature.{plain}
 use denote.Triple.Spec.{tripleOf}
 use denote.Triple.Statement.{Contract, Triple}
 use Rattle.words.specs.Rows.{setRun, clearRun}
-use Rattle.words.proofs.set_row as set-row′
-use Rattle.words.proofs.set_row.Symbol.{name as #words·set-row}
-use Rattle.words.proofs.clear_row as clear-row′
-use Rattle.words.proofs.clear_row.Symbol.{name as #words·clear-row}
+use Rattle.rows.proofs.set_row as set-row′
+use Rattle.rows.proofs.set_row.Symbol.{name as #rows·set-row}
+use Rattle.rows.proofs.clear_row as clear-row′
+use Rattle.rows.proofs.clear_row.Symbol.{name as #rows·clear-row}
 use Rattle.arena.specs.declared.Arena.{Arena}
 use Rattle.arena.proofs.Arena as T
 use Rattle.layer.specs.World.{blank}
 use Rattle.records.proofs.Walk.{Loan, lent}
 use Rattle.records.proofs.Calls.{Site}
-use Rattle.records.proofs.Fields.{Cut, mut-part-call}
-use Rattle.maps.proofs.Cuts.{Row}
+use Rattle.record_fields.proofs.Fields.{Cut, mut-part-call}
+use Rattle.record_fields.proofs.Maps.{Row}
 
 -- the contracts that a walk cites
 module _ {M : Type 1} (𝓤 : URA M) (H : Heap 𝓤) (A : Atoms 𝓤) (mem : Memory → SProp 𝓤) (run : Routine → Fun 𝓤) where
@@ -44,7 +44,7 @@ module _ {M : Type 1} (𝓤 : URA M) (H : Heap 𝓤) (A : Atoms 𝓤) (mem : Mem
   ClearRow = tripleOf 𝓤 H A clear-row′.signature (clear-row′.spec 𝓤 H A mem run)
 
 module _ {M : Type 1} {𝓤 : URA M} {H : Heap 𝓤} {A : Atoms 𝓤} {K : Type 0} {W : Given 𝓤 H A} {Γ : List (Item 𝓤)} {C : Calls 𝓤 H} {E : Env 𝓤 H} {xs : List Operand} {G : Goal 𝓤 H} {after : Val → Goal 𝓤 H} {i : Item 𝓤} where
-  pub set-row-at : K → Site K W Γ C E #words·set-row xs G after → (mem : Memory → SProp 𝓤) (run : Routine → Fun 𝓤) → Triple 𝓤 (C #words·set-row) (SetRow 𝓤 H A mem run)
+  pub set-row-at : K → Site K W Γ C E #rows·set-row xs G after → (mem : Memory → SProp 𝓤) (run : Routine → Fun 𝓤) → Triple 𝓤 (C #rows·set-row) (SetRow 𝓤 H A mem run)
       → (d : ℕ) (get : Arena → List ℕ) (put : Arena → List ℕ → Arena) (cut : Cut 𝓤 H A T.the-row Row d get put) (L : Loan) (ys : List Arena) (j : ℕ) → j < length ys → (s n : ℕ) → s < 2 ^ 64 → n < 2 ^ 64 → s + n ≤ 1024
       → ((h : Item 𝓤) → Opds K W (h ∷ Γ) E xs (vptr (L .b) (j * 544 + L .o + d) ∷ vint w64 s ∷ vint w64 n ∷ []))
       → ((v : Val) → Is Nothing tt (v ∷ []) → Seq K W ((‵ (lent T.the-row L (set ys j (put (getD ys j blank) (setRun (get (getD ys j blank)) s n)))) ⊛ i) ∷ Γ) (after v))
@@ -55,7 +55,7 @@ module _ {M : Type 1} {𝓤 : URA M} {H : Heap 𝓤} {A : Atoms 𝓤} {K : Type 
       (λ r p. p ≡ setRun (get (getD ys j blank)) s n) (λ _ _ r ws. id⊢ 𝓤 _) (λ h _. ops h)
       (λ v r p is e. subst (λ (w : List ℕ). Seq K W ((‵ (lent T.the-row L (set ys j (put (getD ys j blank) w))) ⊛ i) ∷ Γ) (after v)) (sym e) (k v is))
 
-  pub clear-row-at : K → Site K W Γ C E #words·clear-row xs G after → (mem : Memory → SProp 𝓤) (run : Routine → Fun 𝓤) → Triple 𝓤 (C #words·clear-row) (ClearRow 𝓤 H A mem run)
+  pub clear-row-at : K → Site K W Γ C E #rows·clear-row xs G after → (mem : Memory → SProp 𝓤) (run : Routine → Fun 𝓤) → Triple 𝓤 (C #rows·clear-row) (ClearRow 𝓤 H A mem run)
       → (d : ℕ) (get : Arena → List ℕ) (put : Arena → List ℕ → Arena) (cut : Cut 𝓤 H A T.the-row Row d get put) (L : Loan) (ys : List Arena) (j : ℕ) → j < length ys → (s n : ℕ) → s < 2 ^ 64 → n < 2 ^ 64 → s + n ≤ 1024
       → ((h : Item 𝓤) → Opds K W (h ∷ Γ) E xs (vptr (L .b) (j * 544 + L .o + d) ∷ vint w64 s ∷ vint w64 n ∷ []))
       → ((v : Val) → Is Nothing tt (v ∷ []) → Seq K W ((‵ (lent T.the-row L (set ys j (put (getD ys j blank) (clearRun (get (getD ys j blank)) s n)))) ⊛ i) ∷ Γ) (after v))

@@ -14,7 +14,7 @@ pub fn take_at(records: &mut [Arena], i: usize, s: usize, n: usize)
     requires { ⌜ (i < length (now records)) × (s + n ≤ 1024) ⌝ }
     ensures { λ _. ⌜ now (records .exit) ≡ set (now (records .entry)) i (takeRun (getD (now (records .entry)) i blank) s n) ⌝ }
 {
-    words::set_row(&mut records[i].used, s, n);
+    rows::set_row(&mut records[i].used, s, n);
 }
 
 // The run's used bits cleared, held or not.
@@ -22,7 +22,7 @@ pub fn give_back_at(records: &mut [Arena], i: usize, s: usize, n: usize)
     requires { ⌜ (i < length (now records)) × (s + n ≤ 1024) ⌝ }
     ensures { λ _. ⌜ now (records .exit) ≡ set (now (records .entry)) i (giveBackRun (getD (now (records .entry)) i blank) s n) ⌝ }
 {
-    words::clear_row(&mut records[i].used, s, n);
+    rows::clear_row(&mut records[i].used, s, n);
 }
 
 // The run's dirty bits set.
@@ -30,7 +30,7 @@ pub fn dirty_at(records: &mut [Arena], i: usize, s: usize, n: usize)
     requires { ⌜ (i < length (now records)) × (s + n ≤ 1024) ⌝ }
     ensures { λ _. ⌜ now (records .exit) ≡ set (now (records .entry)) i (dirtyRun (getD (now (records .entry)) i blank) s n) ⌝ }
 {
-    words::set_row(&mut records[i].dirty, s, n);
+    rows::set_row(&mut records[i].dirty, s, n);
 }
 
 // The run's pending bits set.
@@ -38,5 +38,5 @@ pub fn pend_at(records: &mut [Arena], i: usize, s: usize, n: usize)
     requires { ⌜ (i < length (now records)) × (s + n ≤ 1024) ⌝ }
     ensures { λ _. ⌜ now (records .exit) ≡ set (now (records .entry)) i (withPending (getD (now (records .entry)) i blank) (setRun (getD (now (records .entry)) i blank .pending) s n)) ⌝ }
 {
-    words::set_row(&mut records[i].pending, s, n);
+    rows::set_row(&mut records[i].pending, s, n);
 }

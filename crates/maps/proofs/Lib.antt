@@ -1,3 +1,2 @@
-pub mod Cuts
 mod Steps
 pub mod Passes

@@ -1,7 +1,7 @@
--- Functions on one map, called in one step of a walk on a map of a lent record where it lies (`records::Fields`): lowest-run-at, row-free-at, tail-clear-at.
+-- Functions on one map, called in one step of a walk on a map of a lent record where it lies (`record_fields::Looks`): lowest-run-at, tail-clear-at.
 -- Assumes `Given`, the callee's theorem, and that the table of calls is monotone under a frame.
 use mathlib.Core.Path.{_≡_, refl, sym, ap, subst, _∙_}
-use mathlib.Core.Bool.{Bool, not}
+use mathlib.Core.Bool.{not}
 use Prim.Native.Nat.{ℕ, _+_, _*_, _<_, _≤_, _^_}
 use mathlib.Core.List.{List, [], _∷_}
 use lib.ListN.{length, getD}
@@ -19,20 +19,18 @@ use contract.Monad.{Fun, factI}
 use denote.Builtin.{bool, usize}
 use denote.Exit.{yes}
 use denote.Laws.{Is, Ises, owns-make}
-use denote.Plain.{uint-makes, bool-makes, bool-tells}
+use denote.Plain.{uint-makes, bool-tells}
 use denote.Signature.{plain}
 use denote.Steps.{only}
 use denote.Struct.Laws as LL
 use denote.Triple.Spec.{tripleOf}
 use denote.Triple.Statement.{Contract, Triple}
 use Rattle.words.specs.Bits.{bitAt}
-use Rattle.runs.specs.Lowest.{all, lowestRun, sense}
+use Rattle.runs.specs.Lowest.{lowestRun}
 use Rattle.runs.specs.declared.Found.{Found}
 use Rattle.runs.proofs.Found as F
 use Rattle.runs.proofs.lowest_clear_run as lowest′
 use Rattle.runs.proofs.lowest_clear_run.Symbol.{name as #runs·lowest-clear-run}
-use Rattle.row_scans.proofs.row_is_free as free′
-use Rattle.row_scans.proofs.row_is_free.Symbol.{name as #row-scans·row-is-free}
 use Rattle.lookup.specs.Soundness.{clearPast}
 use Rattle.soundness.proofs.tail_is_clear as tail′
 use Rattle.soundness.proofs.tail_is_clear.Symbol.{name as #soundness·tail-is-clear}
@@ -42,16 +40,13 @@ use Rattle.arena.proofs.Arena.Laws as T′
 use Rattle.layer.specs.World.{blank}
 use Rattle.records.proofs.Walk.{Loan, lent, shared}
 use Rattle.records.proofs.Calls.{Site}
-use Rattle.records.proofs.Looks.{Look, look-part-call}
-use Rattle.maps.proofs.Cuts.{Row}
+use Rattle.record_fields.proofs.Looks.{Look, look-part-call}
+use Rattle.record_fields.proofs.Maps.{Row}
 
 -- the contracts that a walk cites
 module _ {M : Type 1} (𝓤 : URA M) (H : Heap 𝓤) (A : Atoms 𝓤) (mem : Memory → SProp 𝓤) (run : Routine → Fun 𝓤) where
   abbrev pub LowestRun : Contract 𝓤
   LowestRun = tripleOf 𝓤 H A lowest′.signature (lowest′.spec 𝓤 H A mem run)
-
-  abbrev pub RowFree : Contract 𝓤
-  RowFree = tripleOf 𝓤 H A free′.signature (free′.spec 𝓤 H A mem run)
 
   abbrev pub TailClear : Contract 𝓤
   TailClear = tripleOf 𝓤 H A tail′.signature (tail′.spec 𝓤 H A mem run)
@@ -66,16 +61,6 @@ module _ {M : Type 1} {𝓤 : URA M} {H : Heap 𝓤} {A : Atoms 𝓤} {K : Type 
       look-part-call t site T.the-row Row d get look (LL.vals T.the-type T′.the-laws) (LL.tells T.the-type T′.the-laws) (LL.copy T.the-type T′.the-copy 𝓤 H A W) L F.the-row (plain (λ _. usize) ∷ plain (λ _. usize) ∷ []) (yes, (yes, tt)) (lowest′.clauses 𝓤 H A mem run) known ys j blank l (λ _. (places, (n, tt))) (λ _. (vint w64 places ∷ [], (vint w64 n ∷ [], tt)))
       (λ _. owns-make 𝓤 H A (usize ∷ usize ∷ []) (Ises (usize ∷ usize ∷ [])) (uint-makes 𝓤 H A W w64, (uint-makes 𝓤 H A W w64, tt)) (places, (n, tt)) (vint w64 places ∷ [], (vint w64 n ∷ [], tt)) ((refl, fp), ((refl, fn), tt))) (λ _ _. tt) (λ _ _. factI 𝓤 _ (emp 𝓤) few)
       (λ r. r ≡ lowestRun (λ c. not (bitAt (get (getD ys j blank)) c)) places n) (λ _ _ r ws. id⊢ 𝓤 _) (λ h _. ops h) (λ v r is e. k v (subst (λ (o : Found). Is F.the-row o (v ∷ [])) e is))
-
-  pub row-free-at : K → Site K W Γ C E #row-scans·row-is-free xs G after → (mem : Memory → SProp 𝓤) (run : Routine → Fun 𝓤) → Triple 𝓤 (C #row-scans·row-is-free) (RowFree 𝓤 H A mem run)
-      → (d : ℕ) (get : Arena → List ℕ) (look : Look 𝓤 H A T.the-row Row d get) (L : Loan) (ys : List Arena) (j : ℕ) → j < length ys → (on : Bool) (s n : ℕ) → s < 2 ^ 64 → n < 2 ^ 64 → s + n ≤ 1024
-      → ((h : Item 𝓤) → Opds K W (h ∷ Γ) E xs (vptr (L .b) (j * 544 + L .o + d) ∷ vbool on ∷ vint w64 s ∷ vint w64 n ∷ []))
-      → ((v : Val) → Is bool (all (λ c. sense on (bitAt (get (getD ys j blank)) c)) s n) (v ∷ []) → Seq K W ((‵ (shared T.the-row L ys) ⊛ i) ∷ Γ) (after v))
-      → Seq K W ((‵ (shared T.the-row L ys) ⊛ i) ∷ Γ) G
-  row-free-at t site mem run known d get look L ys j l on s n fs fn few ops k =
-      look-part-call t site T.the-row Row d get look (LL.vals T.the-type T′.the-laws) (LL.tells T.the-type T′.the-laws) (LL.copy T.the-type T′.the-copy 𝓤 H A W) L bool (plain (λ _. bool) ∷ plain (λ _. usize) ∷ plain (λ _. usize) ∷ []) (yes, (yes, (yes, tt))) (free′.clauses 𝓤 H A mem run) known ys j blank l (λ _. (on, (s, (n, tt)))) (λ _. (vbool on ∷ [], (vint w64 s ∷ [], (vint w64 n ∷ [], tt))))
-      (λ _. owns-make 𝓤 H A (bool ∷ usize ∷ usize ∷ []) (Ises (bool ∷ usize ∷ usize ∷ [])) (bool-makes 𝓤 H A W, (uint-makes 𝓤 H A W w64, (uint-makes 𝓤 H A W w64, tt))) (on, (s, (n, tt))) (vbool on ∷ [], (vint w64 s ∷ [], (vint w64 n ∷ [], tt))) (refl, ((refl, fs), ((refl, fn), tt)))) (λ _ _. tt) (λ _ _. factI 𝓤 _ (emp 𝓤) few)
-      (λ r. r ≡ all (λ c. sense on (bitAt (get (getD ys j blank)) c)) s n) (λ _ _ r ws. id⊢ 𝓤 _) (λ h _. ops h) (λ v r is e. k v (subst (λ (o : Bool). Is bool o (v ∷ [])) e is))
 
   pub tail-clear-at : K → Site K W Γ C E #soundness·tail-is-clear xs G after → (mem : Memory → SProp 𝓤) (run : Routine → Fun 𝓤) → Triple 𝓤 (C #soundness·tail-is-clear) (TailClear 𝓤 H A mem run)
       → (d : ℕ) (get : Arena → List ℕ) (look : Look 𝓤 H A T.the-row Row d get) (L : Loan) (ys : List Arena) (j : ℕ) → j < length ys → (chunks : ℕ) → chunks < 2 ^ 64 → chunks < 1024

@@ -24,7 +24,7 @@ use Rattle.judge.specs.Scan.{hit, scanOf}
 use Rattle.registers.specs.Core.{storedAt, recordsWith, stampsWith}
 use Rattle.registers.proofs.DecisionLaws.{either}
 use Rattle.claims.specs.Core.{searchReply, searchArena}
-use Rattle.claims.proofs.ClaimLaws.{set-same, scan-hits}
+use Rattle.claim_laws.proofs.ClaimLaws.{set-same, scan-hits}
 use Rattle.memory.specs.declared.Memory.{Memory}
 use Rattle.memory_given.specs.Given.{memoryRegisters}
 use Rattle.memory_replies.specs.Replies.{memoryReply}

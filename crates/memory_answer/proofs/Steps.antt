@@ -46,10 +46,10 @@ use Rattle.judge.specs.declared.Query.the-variants.{Meets, Serves}
 use Rattle.judge.proofs.Query as Q
 use Rattle.records.proofs.Walk.{Loan, sliceOf, lent}
 use Rattle.records.proofs.Calls.{Site, plain-call, shr-call, mut-call}
-use Rattle.claims.specs.declared.Served.{Served}
+use Rattle.granting.specs.declared.Served.{Served}
 use Rattle.claims.specs.Core.{searchArena, searchReply}
-use Rattle.claims.proofs.Served as D
-use Rattle.claims.proofs.Served.Laws as D′
+use Rattle.granting.proofs.Served as D
+use Rattle.granting.proofs.Served.Laws as D′
 use Rattle.memory.specs.declared.Memory.{Memory as Made}
 use Rattle.memory_given.specs.Given.{memoryBytes}
 use Rattle.memory.proofs.Memory as X

@@ -13,7 +13,7 @@ ghost use Rattle.claims.specs.Core.{searchArena, searchReply};
 ghost use Rattle.memory_given.specs.Given.{memoryBytes};
 ghost use Rattle.memory_answer.specs.Part.{noneReserved, reservingOf, scanCount, metOf, Decides, againReply, againRecords, Reservable, memoryLeft};
 use arena::Arena;
-use claims::Served;
+use granting::Served;
 use judge::Query;
 use layer::Question;
 use layer::Reply;

@@ -30,7 +30,7 @@ use Rattle.layer.specs.Claiming.{serves}
 use Rattle.registers.specs.Core.{rangeBad, recordsWith}
 use Rattle.registers.proofs.DecisionLaws.{either, neither, few}
 use Rattle.registers.proofs.WriteLaws.{records-set}
-use Rattle.claims.proofs.ClaimLaws.{hits, serving}
+use Rattle.claim_laws.proofs.ClaimLaws.{hits, serving}
 use Rattle.memory_given.specs.Given.{memoryRegisters}
 use Rattle.memory.specs.Core.{memoryId, waitingCount, waitingN, searchCount}
 use Rattle.memory_given.proofs.DecisionLaws.{Registers, registers-facts, registers-room}

@@ -34,7 +34,7 @@ use Rattle.registers.specs.Core.{rangeBad, recordsWith, stampsWith, storedAt}
 use Rattle.registers.proofs.DecisionLaws.{either, range-zero, range-long}
 use Rattle.registers.proofs.WriteLaws.{records-below, stamps-below}
 use Rattle.claims.specs.Core.{runReply, runArena, searchReply, searchArena}
-use Rattle.claims.proofs.ClaimLaws.{set-same}
+use Rattle.claim_laws.proofs.ClaimLaws.{set-same}
 use Rattle.memory_given.specs.Given.{memoryBytes, memoryCount, memoryRegisters}
 use Rattle.memory_replies.specs.Replies.{registeredReply, blockReply, memoryReply}
 use Rattle.memory.specs.Core.{memoryId, waitingCount, waitingN, waitingCommits, searchCount}

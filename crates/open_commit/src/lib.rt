@@ -4,7 +4,7 @@ ghost use Prim.Native.Nat.{_+_, _*_, _^_, _<_, _≤_};
 ghost use Rattle.layer.specs.Answering.{commitArena, commitReply};
 ghost use Rattle.open_commit.specs.Asked.{committingId, committingStart, committingLength};
 use arena::Arena;
-use claims::Served;
+use granting::Served;
 use layer::Answer;
 use layer::Question;
 use layer::Reply;

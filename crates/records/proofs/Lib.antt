@@ -4,7 +4,5 @@ pub mod Locals
 pub mod Calls
 pub mod Frame
 pub mod Ends
-pub mod Fields
-pub mod Looks
 mod Leaf
 pub mod Steps

@@ -10,19 +10,10 @@ use Rattle.words.specs.Rows.{setRun}
 use Rattle.clock.specs.Clock.{armed, dueAt}
 use Rattle.arena.specs.declared.Arena.{Arena}
 use Rattle.arena.specs.declared.Commitment.{Commitment}
-use Rattle.arena.specs.declared.Commitment.the-variants.{Untold, Committed, Uncommitted}
-use Rattle.arena.specs.Record.{withCommitted, withPending, withDeadline}
+use Rattle.arena.specs.Record.{withPending, withDeadline}
 use Rattle.arena.specs.Claiming.{giveBackRun}
 use Rattle.arena.specs.Releasing.{tellRun, pendRun, releaseRun}
 use Rattle.layer.specs.World.{blank}
-use Rattle.release_at.specs.Rows.{tellRow}
-
--- the map as told is the record as told
-pub told-row : (a : Arena) (s n : ℕ) (told : Commitment) → withCommitted a (tellRow (a .committed) s n told) ≡ tellRun a s n told
-unfolding tellRun
-told-row a s n Untold = refl
-told-row a s n Committed = refl
-told-row a s n Uncommitted = refl
 
 -- one record of the table changed
 abbrev pub changed : List Arena → ℕ → (Arena → Arena) → List Arena

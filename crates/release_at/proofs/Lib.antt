@@ -1,3 +1,2 @@
-mod Cuts
 mod Laws
 pub mod Steps

@@ -1,3 +1,1 @@
-pub mod HeadLaws
 pub mod ReleaseLaws
-pub mod StepLaws

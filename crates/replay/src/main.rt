@@ -7,12 +7,9 @@ mod known;
 mod pool;
 
 use libc::STDIN_FILENO;
-use sample_lines::line;
-use sample_lines::line::Line;
-use sample_lines::line::Parsed;
-use sample_lines::report;
-use sample_lines::tally;
-use sample_lines::tally::Tally;
+use sample_lines::Line;
+use sample_lines::Parsed;
+use sample_tally::Tally;
 ghost use Prim.Native.Nat.{_+_, _≤_};
 ghost use lib.ListN.{length};
 
@@ -25,19 +22,19 @@ const LINE: usize = 53;
 fn replay_numbers(line: Line, words: &mut [u32], t: Tally) -> Tally {
     if known::is_known(line.kind, line.a, line.b) {
         let same = answers::agrees(line, words);
-        return tally::answered(t, same);
+        return sample_tally::answered(t, same);
     }
-    tally::malformed(t)
+    sample_tally::malformed(t)
 }
 
 // The line at `at`, replayed and counted.
 fn replay_line(text: &[u8], at: usize, words: &mut [u32], t: Tally) -> Tally
     requires { ⌜ at + 53 ≤ length (now text) ⌝ }
 {
-    let parsed = line::parse(text, at);
+    let parsed = sample_lines::parse(text, at);
     match parsed {
         Parsed::Whole(line) => replay_numbers(line, words, t),
-        Parsed::Malformed => tally::malformed(t),
+        Parsed::Malformed => sample_tally::malformed(t),
     }
 }
 
@@ -50,7 +47,7 @@ fn replay_lines(text: &[u8], words: &mut [u32], start: Tally) -> Tally {
         at += LINE;
     }
     if at < text.len() {
-        t = tally::malformed(t);
+        t = sample_tally::malformed(t);
     }
     t
 }
@@ -60,16 +57,16 @@ fn replay_block(words: &mut [u32], t: Tally) -> Tally {
     let mut buffer = [0u8; BLOCK];
     let n = io::read_full(STDIN_FILENO, &mut buffer);
     if n < BLOCK {
-        return tally::ended(replay_lines(&buffer[..n], words, t));
+        return sample_tally::ended(replay_lines(&buffer[..n], words, t));
     }
     replay_lines(&buffer[..n], words, t)
 }
 
 // Nothing says that the input ends, so the blocks are counted down from a number that no run uses up.
 fn replay_all(words: &mut [u32]) -> Tally {
-    let mut t = tally::none_yet();
+    let mut t = sample_tally::none_yet();
     let mut blocks = u64::MAX;
-    while blocks > 0 && tally::goes_on(t) {
+    while blocks > 0 && sample_tally::goes_on(t) {
         t = replay_block(words, t);
         blocks -= 1;
     }
@@ -78,5 +75,5 @@ fn replay_all(words: &mut [u32]) -> Tally {
 
 fn main() {
     let mut words = [0u32; 2048];
-    report::print(replay_all(&mut words));
+    sample_report::print(replay_all(&mut words));
 }

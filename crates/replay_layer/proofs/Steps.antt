@@ -39,54 +39,54 @@ use Rattle.layer.proofs.State.Laws as Z′
 use Rattle.layer.proofs.Settings as Y
 use Rattle.layer.proofs.Reply as P
 use Rattle.layer.proofs.Reply.Laws as P′
-use Rattle.sample_lines.specs.declared.line.Line.{Line}
-use Rattle.sample_lines.proofs.line.Line as N
-use Rattle.sample_lines.proofs.line.Line.Laws as N′
-use Rattle.sample_calls.specs.declared.Made.{Made}
-use Rattle.sample_calls.proofs.Made as X
-use Rattle.replay_layer.specs.declared.session.Call.{Call}
-use Rattle.replay_layer.specs.declared.session.Session.{Session}
-use Rattle.replay_layer.proofs.session.Call as F
-use Rattle.replay_layer.proofs.session.Call.Laws as F′
-use Rattle.replay_layer.proofs.session.Session as S
-use Rattle.replay_layer.proofs.session.Session.Laws as S′
+use Rattle.sample_lines.specs.declared.Line.{Line}
+use Rattle.sample_lines.proofs.Line as N
+use Rattle.sample_lines.proofs.Line.Laws as N′
+use Rattle.sample_made.specs.declared.Made.{Made}
+use Rattle.sample_made.proofs.Made as X
+use Rattle.sample_session.specs.declared.Call.{Call}
+use Rattle.sample_session.specs.declared.Session.{Session}
+use Rattle.sample_session.proofs.Call as F
+use Rattle.sample_session.proofs.Call.Laws as F′
+use Rattle.sample_session.proofs.Session as S
+use Rattle.sample_session.proofs.Session.Laws as S′
 use Rattle.records.proofs.Walk.{Loan, lent, shared, sliceOf}
 use Rattle.records.proofs.Calls.{Site, plain-call, mut2-call}
 use Rattle.arena_area.proofs.Two.{ss-call}
 use Rattle.sample_state.proofs.hash as hash′
 use Rattle.sample_state.proofs.hash.Symbol.{name as #sample-state·hash}
-use Rattle.replay_layer.proofs.session.state_in as state-in′
-use Rattle.replay_layer.proofs.session.state_in.Symbol.{name as #replay-layer·session·state-in}
-use Rattle.replay_layer.proofs.session.ns_in as ns-in′
-use Rattle.replay_layer.proofs.session.ns_in.Symbol.{name as #replay-layer·session·ns-in}
-use Rattle.replay_layer.proofs.session.settings_in as settings-in′
-use Rattle.replay_layer.proofs.session.settings_in.Symbol.{name as #replay-layer·session·settings-in}
-use Rattle.replay_layer.proofs.session.told_in as told-in′
-use Rattle.replay_layer.proofs.session.told_in.Symbol.{name as #replay-layer·session·told-in}
-use Rattle.replay_layer.proofs.session.question_in as question-in′
-use Rattle.replay_layer.proofs.session.question_in.Symbol.{name as #replay-layer·session·question-in}
-use Rattle.replay_layer.proofs.session.made_in as made-in′
-use Rattle.replay_layer.proofs.session.made_in.Symbol.{name as #replay-layer·session·made-in}
-use Rattle.replay_layer.proofs.session.call_of as call-of′
-use Rattle.replay_layer.proofs.session.call_of.Symbol.{name as #replay-layer·session·call-of}
-use Rattle.replay_layer.proofs.session.is_call as is-call′
-use Rattle.replay_layer.proofs.session.is_call.Symbol.{name as #replay-layer·session·is-call}
-use Rattle.replay_layer.proofs.session.is_hash as is-hash′
-use Rattle.replay_layer.proofs.session.is_hash.Symbol.{name as #replay-layer·session·is-hash}
-use Rattle.replay_layer.proofs.session.state_of as state-of′
-use Rattle.replay_layer.proofs.session.state_of.Symbol.{name as #replay-layer·session·state-of}
-use Rattle.replay_layer.proofs.session.called as called′
-use Rattle.replay_layer.proofs.session.called.Symbol.{name as #replay-layer·session·called}
-use Rattle.replay_layer.proofs.session.hashed as hashed′
-use Rattle.replay_layer.proofs.session.hashed.Symbol.{name as #replay-layer·session·hashed}
-use Rattle.replay_layer.proofs.session.noted as noted′
-use Rattle.replay_layer.proofs.session.noted.Symbol.{name as #replay-layer·session·noted}
-use Rattle.replay_layer.proofs.session.start as start′
-use Rattle.replay_layer.proofs.session.start.Symbol.{name as #replay-layer·session·start}
+use Rattle.sample_session.proofs.state_in as state-in′
+use Rattle.sample_session.proofs.state_in.Symbol.{name as #sample-session·state-in}
+use Rattle.sample_session.proofs.ns_in as ns-in′
+use Rattle.sample_session.proofs.ns_in.Symbol.{name as #sample-session·ns-in}
+use Rattle.sample_session.proofs.settings_in as settings-in′
+use Rattle.sample_session.proofs.settings_in.Symbol.{name as #sample-session·settings-in}
+use Rattle.sample_session.proofs.told_in as told-in′
+use Rattle.sample_session.proofs.told_in.Symbol.{name as #sample-session·told-in}
+use Rattle.sample_session.proofs.question_in as question-in′
+use Rattle.sample_session.proofs.question_in.Symbol.{name as #sample-session·question-in}
+use Rattle.sample_session.proofs.made_in as made-in′
+use Rattle.sample_session.proofs.made_in.Symbol.{name as #sample-session·made-in}
+use Rattle.sample_session.proofs.call_of as call-of′
+use Rattle.sample_session.proofs.call_of.Symbol.{name as #sample-session·call-of}
+use Rattle.sample_session.proofs.is_call as is-call′
+use Rattle.sample_session.proofs.is_call.Symbol.{name as #sample-session·is-call}
+use Rattle.sample_session.proofs.is_hash as is-hash′
+use Rattle.sample_session.proofs.is_hash.Symbol.{name as #sample-session·is-hash}
+use Rattle.sample_session.proofs.state_of as state-of′
+use Rattle.sample_session.proofs.state_of.Symbol.{name as #sample-session·state-of}
+use Rattle.sample_session.proofs.called as called′
+use Rattle.sample_session.proofs.called.Symbol.{name as #sample-session·called}
+use Rattle.sample_session.proofs.hashed as hashed′
+use Rattle.sample_session.proofs.hashed.Symbol.{name as #sample-session·hashed}
+use Rattle.sample_session.proofs.noted as noted′
+use Rattle.sample_session.proofs.noted.Symbol.{name as #sample-session·noted}
+use Rattle.sample_session.proofs.start as start′
+use Rattle.sample_session.proofs.start.Symbol.{name as #sample-session·start}
 use Rattle.replay_layer.proofs.read_line as read-line′
 use Rattle.replay_layer.proofs.read_line.Symbol.{name as #replay-layer·read-line}
-use Rattle.replay_layer.proofs.session.fewer as fewer′
-use Rattle.replay_layer.proofs.session.fewer.Symbol.{name as #replay-layer·session·fewer}
+use Rattle.sample_session.proofs.fewer as fewer′
+use Rattle.sample_session.proofs.fewer.Symbol.{name as #sample-session·fewer}
 use Rattle.replay_layer.proofs.make as make′
 use Rattle.replay_layer.proofs.make.Symbol.{name as #replay-layer·make}
 use Rattle.replay_layer.proofs.reply_line as reply-line′
@@ -166,85 +166,85 @@ module _ {M : Type 1} (𝓤 : URA M) (H : Heap 𝓤) (A : Atoms 𝓤) (mem : Mem
   ReplayLine = tripleOf 𝓤 H A replay-line′.signature (replay-line′.spec 𝓤 H A mem run)
 
 module _ {M : Type 1} {𝓤 : URA M} {H : Heap 𝓤} {A : Atoms 𝓤} {K : Type 0} {W : Given 𝓤 H A} {Γ : List (Item 𝓤)} {C : Calls 𝓤 H} {E : Env 𝓤 H} {xs : List Operand} {G : Goal 𝓤 H} {after : Val → Goal 𝓤 H} {i : Item 𝓤} where
-  pub state-in-step : K → Site K W Γ C E #replay-layer·session·state-in xs G after → (mem : Memory → SProp 𝓤) (run : Routine → Fun 𝓤) → Triple 𝓤 (C #replay-layer·session·state-in) (StateIn 𝓤 H A mem run) → (c : Call) (vc : Val) → Is F.the-row c (vc ∷ [])
+  pub state-in-step : K → Site K W Γ C E #sample-session·state-in xs G after → (mem : Memory → SProp 𝓤) (run : Routine → Fun 𝓤) → Triple 𝓤 (C #sample-session·state-in) (StateIn 𝓤 H A mem run) → (c : Call) (vc : Val) → Is F.the-row c (vc ∷ [])
       → ((j : Item 𝓤) → Opds K W (j ∷ Γ) E xs (vc ∷ [])) → ((v : Val) (r : State) → Is Z.the-row r (v ∷ []) → Seq K W (i ∷ Γ) (after v)) → Seq K W (i ∷ Γ) G
   state-in-step t site mem run known c vc gc ops k =
       plain-call t site Z.the-row (plain (λ _. F.the-row) ∷ []) (yes, tt) (state-in′.clauses 𝓤 H A mem run) known (c, tt) (vc ∷ [], tt) (owns-make 𝓤 H A (F.the-row ∷ []) (Ises (F.the-row ∷ [])) (LL.makes F.the-type F′.the-plain 𝓤 H A, tt) (c, tt) (vc ∷ [], tt) (gc, tt)) tt (id⊢ 𝓤 _)
       (λ _. Unit {0}) (λ r ws. factI 𝓤 (Unit {0}) _ tt) ops (λ v r is e. k v r is)
 
-  pub ns-in-step : K → Site K W Γ C E #replay-layer·session·ns-in xs G after → (mem : Memory → SProp 𝓤) (run : Routine → Fun 𝓤) → Triple 𝓤 (C #replay-layer·session·ns-in) (NsIn 𝓤 H A mem run) → (c : Call) (vc : Val) → Is F.the-row c (vc ∷ [])
+  pub ns-in-step : K → Site K W Γ C E #sample-session·ns-in xs G after → (mem : Memory → SProp 𝓤) (run : Routine → Fun 𝓤) → Triple 𝓤 (C #sample-session·ns-in) (NsIn 𝓤 H A mem run) → (c : Call) (vc : Val) → Is F.the-row c (vc ∷ [])
       → ((j : Item 𝓤) → Opds K W (j ∷ Γ) E xs (vc ∷ [])) → ((r : ℕ) → r < 2 ^ 64 → Seq K W (i ∷ Γ) (after (vint w64 r))) → Seq K W (i ∷ Γ) G
   ns-in-step t site mem run known c vc gc ops k =
       plain-call t site u64 (plain (λ _. F.the-row) ∷ []) (yes, tt) (ns-in′.clauses 𝓤 H A mem run) known (c, tt) (vc ∷ [], tt) (owns-make 𝓤 H A (F.the-row ∷ []) (Ises (F.the-row ∷ [])) (LL.makes F.the-type F′.the-plain 𝓤 H A, tt) (c, tt) (vc ∷ [], tt) (gc, tt)) tt (id⊢ 𝓤 _)
       (λ _. Unit {0}) (λ r ws. factI 𝓤 (Unit {0}) _ tt) ops (λ v r is e. subst (λ (u : Val). Seq K W (i ∷ Γ) (after u)) (sym (ap only (is .0))) (k r (is .1)))
 
-  pub settings-in-step : K → Site K W Γ C E #replay-layer·session·settings-in xs G after → (mem : Memory → SProp 𝓤) (run : Routine → Fun 𝓤) → Triple 𝓤 (C #replay-layer·session·settings-in) (SettingsIn 𝓤 H A mem run) → (c : Call) (vc : Val) → Is F.the-row c (vc ∷ [])
+  pub settings-in-step : K → Site K W Γ C E #sample-session·settings-in xs G after → (mem : Memory → SProp 𝓤) (run : Routine → Fun 𝓤) → Triple 𝓤 (C #sample-session·settings-in) (SettingsIn 𝓤 H A mem run) → (c : Call) (vc : Val) → Is F.the-row c (vc ∷ [])
       → ((j : Item 𝓤) → Opds K W (j ∷ Γ) E xs (vc ∷ [])) → ((v : Val) (r : Settings) → Is Y.the-row r (v ∷ []) → Seq K W (i ∷ Γ) (after v)) → Seq K W (i ∷ Γ) G
   settings-in-step t site mem run known c vc gc ops k =
       plain-call t site Y.the-row (plain (λ _. F.the-row) ∷ []) (yes, tt) (settings-in′.clauses 𝓤 H A mem run) known (c, tt) (vc ∷ [], tt) (owns-make 𝓤 H A (F.the-row ∷ []) (Ises (F.the-row ∷ [])) (LL.makes F.the-type F′.the-plain 𝓤 H A, tt) (c, tt) (vc ∷ [], tt) (gc, tt)) tt (id⊢ 𝓤 _)
       (λ _. Unit {0}) (λ r ws. factI 𝓤 (Unit {0}) _ tt) ops (λ v r is e. k v r is)
 
-  pub told-in-step : K → Site K W Γ C E #replay-layer·session·told-in xs G after → (mem : Memory → SProp 𝓤) (run : Routine → Fun 𝓤) → Triple 𝓤 (C #replay-layer·session·told-in) (ToldIn 𝓤 H A mem run) → (c : Call) (vc : Val) → Is F.the-row c (vc ∷ [])
+  pub told-in-step : K → Site K W Γ C E #sample-session·told-in xs G after → (mem : Memory → SProp 𝓤) (run : Routine → Fun 𝓤) → Triple 𝓤 (C #sample-session·told-in) (ToldIn 𝓤 H A mem run) → (c : Call) (vc : Val) → Is F.the-row c (vc ∷ [])
       → ((j : Item 𝓤) → Opds K W (j ∷ Γ) E xs (vc ∷ [])) → ((v : Val) (r : Commitment) → Is D.the-row r (v ∷ []) → Seq K W (i ∷ Γ) (after v)) → Seq K W (i ∷ Γ) G
   told-in-step t site mem run known c vc gc ops k =
       plain-call t site D.the-row (plain (λ _. F.the-row) ∷ []) (yes, tt) (told-in′.clauses 𝓤 H A mem run) known (c, tt) (vc ∷ [], tt) (owns-make 𝓤 H A (F.the-row ∷ []) (Ises (F.the-row ∷ [])) (LL.makes F.the-type F′.the-plain 𝓤 H A, tt) (c, tt) (vc ∷ [], tt) (gc, tt)) tt (id⊢ 𝓤 _)
       (λ _. Unit {0}) (λ r ws. factI 𝓤 (Unit {0}) _ tt) ops (λ v r is e. k v r is)
 
-  pub question-in-step : K → Site K W Γ C E #replay-layer·session·question-in xs G after → (mem : Memory → SProp 𝓤) (run : Routine → Fun 𝓤) → Triple 𝓤 (C #replay-layer·session·question-in) (QuestionIn 𝓤 H A mem run) → (c : Call) (vc : Val) → Is F.the-row c (vc ∷ [])
+  pub question-in-step : K → Site K W Γ C E #sample-session·question-in xs G after → (mem : Memory → SProp 𝓤) (run : Routine → Fun 𝓤) → Triple 𝓤 (C #sample-session·question-in) (QuestionIn 𝓤 H A mem run) → (c : Call) (vc : Val) → Is F.the-row c (vc ∷ [])
       → ((j : Item 𝓤) → Opds K W (j ∷ Γ) E xs (vc ∷ [])) → ((v : Val) (r : Kind) → Is Q.the-row r (v ∷ []) → Seq K W (i ∷ Γ) (after v)) → Seq K W (i ∷ Γ) G
   question-in-step t site mem run known c vc gc ops k =
       plain-call t site Q.the-row (plain (λ _. F.the-row) ∷ []) (yes, tt) (question-in′.clauses 𝓤 H A mem run) known (c, tt) (vc ∷ [], tt) (owns-make 𝓤 H A (F.the-row ∷ []) (Ises (F.the-row ∷ [])) (LL.makes F.the-type F′.the-plain 𝓤 H A, tt) (c, tt) (vc ∷ [], tt) (gc, tt)) tt (id⊢ 𝓤 _)
       (λ _. Unit {0}) (λ r ws. factI 𝓤 (Unit {0}) _ tt) ops (λ v r is e. k v r is)
 
-  pub made-in-step : K → Site K W Γ C E #replay-layer·session·made-in xs G after → (mem : Memory → SProp 𝓤) (run : Routine → Fun 𝓤) → Triple 𝓤 (C #replay-layer·session·made-in) (MadeIn 𝓤 H A mem run) → (c : Call) (vc : Val) → Is F.the-row c (vc ∷ [])
+  pub made-in-step : K → Site K W Γ C E #sample-session·made-in xs G after → (mem : Memory → SProp 𝓤) (run : Routine → Fun 𝓤) → Triple 𝓤 (C #sample-session·made-in) (MadeIn 𝓤 H A mem run) → (c : Call) (vc : Val) → Is F.the-row c (vc ∷ [])
       → ((j : Item 𝓤) → Opds K W (j ∷ Γ) E xs (vc ∷ [])) → ((v : Val) (r : Made) → Is X.the-row r (v ∷ []) → Seq K W (i ∷ Γ) (after v)) → Seq K W (i ∷ Γ) G
   made-in-step t site mem run known c vc gc ops k =
       plain-call t site X.the-row (plain (λ _. F.the-row) ∷ []) (yes, tt) (made-in′.clauses 𝓤 H A mem run) known (c, tt) (vc ∷ [], tt) (owns-make 𝓤 H A (F.the-row ∷ []) (Ises (F.the-row ∷ [])) (LL.makes F.the-type F′.the-plain 𝓤 H A, tt) (c, tt) (vc ∷ [], tt) (gc, tt)) tt (id⊢ 𝓤 _)
       (λ _. Unit {0}) (λ r ws. factI 𝓤 (Unit {0}) _ tt) ops (λ v r is e. k v r is)
 
-  pub call-of-step : K → Site K W Γ C E #replay-layer·session·call-of xs G after → (mem : Memory → SProp 𝓤) (run : Routine → Fun 𝓤) → Triple 𝓤 (C #replay-layer·session·call-of) (CallOf 𝓤 H A mem run) → (s : Session) (vs : Val) → Is S.the-row s (vs ∷ []) → (l : Line) (vl : Val) → Is N.the-row l (vl ∷ [])
+  pub call-of-step : K → Site K W Γ C E #sample-session·call-of xs G after → (mem : Memory → SProp 𝓤) (run : Routine → Fun 𝓤) → Triple 𝓤 (C #sample-session·call-of) (CallOf 𝓤 H A mem run) → (s : Session) (vs : Val) → Is S.the-row s (vs ∷ []) → (l : Line) (vl : Val) → Is N.the-row l (vl ∷ [])
       → ((j : Item 𝓤) → Opds K W (j ∷ Γ) E xs (vs ∷ vl ∷ [])) → ((v : Val) (r : Call) → Is F.the-row r (v ∷ []) → Seq K W (i ∷ Γ) (after v)) → Seq K W (i ∷ Γ) G
   call-of-step t site mem run known s vs gs l vl gl ops k =
       plain-call t site F.the-row (plain (λ _. S.the-row) ∷ plain (λ _. N.the-row) ∷ []) (yes, (yes, tt)) (call-of′.clauses 𝓤 H A mem run) known (s, (l, tt)) (vs ∷ [], (vl ∷ [], tt)) (owns-make 𝓤 H A (S.the-row ∷ N.the-row ∷ []) (Ises (S.the-row ∷ N.the-row ∷ [])) (LL.makes S.the-type S′.the-plain 𝓤 H A, (LL.makes N.the-type N′.the-plain 𝓤 H A, tt)) (s, (l, tt)) (vs ∷ [], (vl ∷ [], tt)) (gs, (gl, tt))) tt (id⊢ 𝓤 _)
       (λ _. Unit {0}) (λ r ws. factI 𝓤 (Unit {0}) _ tt) ops (λ v r is e. k v r is)
 
-  pub is-call-step : K → Site K W Γ C E #replay-layer·session·is-call xs G after → (mem : Memory → SProp 𝓤) (run : Routine → Fun 𝓤) → Triple 𝓤 (C #replay-layer·session·is-call) (IsCall 𝓤 H A mem run) → (l : Line) (vl : Val) → Is N.the-row l (vl ∷ [])
+  pub is-call-step : K → Site K W Γ C E #sample-session·is-call xs G after → (mem : Memory → SProp 𝓤) (run : Routine → Fun 𝓤) → Triple 𝓤 (C #sample-session·is-call) (IsCall 𝓤 H A mem run) → (l : Line) (vl : Val) → Is N.the-row l (vl ∷ [])
       → ((j : Item 𝓤) → Opds K W (j ∷ Γ) E xs (vl ∷ [])) → ((r : Bool) → Seq K W (i ∷ Γ) (after (vbool r))) → Seq K W (i ∷ Γ) G
   is-call-step t site mem run known l vl gl ops k =
       plain-call t site bool (plain (λ _. N.the-row) ∷ []) (yes, tt) (is-call′.clauses 𝓤 H A mem run) known (l, tt) (vl ∷ [], tt) (owns-make 𝓤 H A (N.the-row ∷ []) (Ises (N.the-row ∷ [])) (LL.makes N.the-type N′.the-plain 𝓤 H A, tt) (l, tt) (vl ∷ [], tt) (gl, tt)) tt (id⊢ 𝓤 _)
       (λ _. Unit {0}) (λ r ws. factI 𝓤 (Unit {0}) _ tt) ops (λ v r is e. subst (λ (u : Val). Seq K W (i ∷ Γ) (after u)) (sym (ap only (bool-tells r (v ∷ []) is))) (k r))
 
-  pub is-hash-step : K → Site K W Γ C E #replay-layer·session·is-hash xs G after → (mem : Memory → SProp 𝓤) (run : Routine → Fun 𝓤) → Triple 𝓤 (C #replay-layer·session·is-hash) (IsHash 𝓤 H A mem run) → (l : Line) (vl : Val) → Is N.the-row l (vl ∷ [])
+  pub is-hash-step : K → Site K W Γ C E #sample-session·is-hash xs G after → (mem : Memory → SProp 𝓤) (run : Routine → Fun 𝓤) → Triple 𝓤 (C #sample-session·is-hash) (IsHash 𝓤 H A mem run) → (l : Line) (vl : Val) → Is N.the-row l (vl ∷ [])
       → ((j : Item 𝓤) → Opds K W (j ∷ Γ) E xs (vl ∷ [])) → ((r : Bool) → Seq K W (i ∷ Γ) (after (vbool r))) → Seq K W (i ∷ Γ) G
   is-hash-step t site mem run known l vl gl ops k =
       plain-call t site bool (plain (λ _. N.the-row) ∷ []) (yes, tt) (is-hash′.clauses 𝓤 H A mem run) known (l, tt) (vl ∷ [], tt) (owns-make 𝓤 H A (N.the-row ∷ []) (Ises (N.the-row ∷ [])) (LL.makes N.the-type N′.the-plain 𝓤 H A, tt) (l, tt) (vl ∷ [], tt) (gl, tt)) tt (id⊢ 𝓤 _)
       (λ _. Unit {0}) (λ r ws. factI 𝓤 (Unit {0}) _ tt) ops (λ v r is e. subst (λ (u : Val). Seq K W (i ∷ Γ) (after u)) (sym (ap only (bool-tells r (v ∷ []) is))) (k r))
 
-  pub state-of-step : K → Site K W Γ C E #replay-layer·session·state-of xs G after → (mem : Memory → SProp 𝓤) (run : Routine → Fun 𝓤) → Triple 𝓤 (C #replay-layer·session·state-of) (StateOf 𝓤 H A mem run) → (s : Session) (vs : Val) → Is S.the-row s (vs ∷ [])
+  pub state-of-step : K → Site K W Γ C E #sample-session·state-of xs G after → (mem : Memory → SProp 𝓤) (run : Routine → Fun 𝓤) → Triple 𝓤 (C #sample-session·state-of) (StateOf 𝓤 H A mem run) → (s : Session) (vs : Val) → Is S.the-row s (vs ∷ [])
       → ((j : Item 𝓤) → Opds K W (j ∷ Γ) E xs (vs ∷ [])) → ((v : Val) (r : State) → Is Z.the-row r (v ∷ []) → Seq K W (i ∷ Γ) (after v)) → Seq K W (i ∷ Γ) G
   state-of-step t site mem run known s vs gs ops k =
       plain-call t site Z.the-row (plain (λ _. S.the-row) ∷ []) (yes, tt) (state-of′.clauses 𝓤 H A mem run) known (s, tt) (vs ∷ [], tt) (owns-make 𝓤 H A (S.the-row ∷ []) (Ises (S.the-row ∷ [])) (LL.makes S.the-type S′.the-plain 𝓤 H A, tt) (s, tt) (vs ∷ [], tt) (gs, tt)) tt (id⊢ 𝓤 _)
       (λ _. Unit {0}) (λ r ws. factI 𝓤 (Unit {0}) _ tt) ops (λ v r is e. k v r is)
 
-  pub called-step : K → Site K W Γ C E #replay-layer·session·called xs G after → (mem : Memory → SProp 𝓤) (run : Routine → Fun 𝓤) → Triple 𝓤 (C #replay-layer·session·called) (Called 𝓤 H A mem run) → (s : Session) (vs : Val) → Is S.the-row s (vs ∷ []) → (l : Line) (vl : Val) → Is N.the-row l (vl ∷ []) → (p : Reply) (vp : Val) → Is P.the-row p (vp ∷ [])
+  pub called-step : K → Site K W Γ C E #sample-session·called xs G after → (mem : Memory → SProp 𝓤) (run : Routine → Fun 𝓤) → Triple 𝓤 (C #sample-session·called) (Called 𝓤 H A mem run) → (s : Session) (vs : Val) → Is S.the-row s (vs ∷ []) → (l : Line) (vl : Val) → Is N.the-row l (vl ∷ []) → (p : Reply) (vp : Val) → Is P.the-row p (vp ∷ [])
       → ((j : Item 𝓤) → Opds K W (j ∷ Γ) E xs (vs ∷ vl ∷ vp ∷ [])) → ((v : Val) (r : Session) → Is S.the-row r (v ∷ []) → Seq K W (i ∷ Γ) (after v)) → Seq K W (i ∷ Γ) G
   called-step t site mem run known s vs gs l vl gl p vp gp ops k =
       plain-call t site S.the-row (plain (λ _. S.the-row) ∷ plain (λ _. N.the-row) ∷ plain (λ _. P.the-row) ∷ []) (yes, (yes, (yes, tt))) (called′.clauses 𝓤 H A mem run) known (s, (l, (p, tt))) (vs ∷ [], (vl ∷ [], (vp ∷ [], tt))) (owns-make 𝓤 H A (S.the-row ∷ N.the-row ∷ P.the-row ∷ []) (Ises (S.the-row ∷ N.the-row ∷ P.the-row ∷ [])) (LL.makes S.the-type S′.the-plain 𝓤 H A, (LL.makes N.the-type N′.the-plain 𝓤 H A, (LL.makes P.the-type P′.the-plain 𝓤 H A, tt))) (s, (l, (p, tt))) (vs ∷ [], (vl ∷ [], (vp ∷ [], tt))) (gs, (gl, (gp, tt)))) tt (id⊢ 𝓤 _)
       (λ _. Unit {0}) (λ r ws. factI 𝓤 (Unit {0}) _ tt) ops (λ v r is e. k v r is)
 
-  pub hashed-step : K → Site K W Γ C E #replay-layer·session·hashed xs G after → (mem : Memory → SProp 𝓤) (run : Routine → Fun 𝓤) → Triple 𝓤 (C #replay-layer·session·hashed) (Hashed 𝓤 H A mem run) → (s : Session) (vs : Val) → Is S.the-row s (vs ∷ []) → (l : Line) (vl : Val) → Is N.the-row l (vl ∷ []) → (h : ℕ) → h < 2 ^ 32
+  pub hashed-step : K → Site K W Γ C E #sample-session·hashed xs G after → (mem : Memory → SProp 𝓤) (run : Routine → Fun 𝓤) → Triple 𝓤 (C #sample-session·hashed) (Hashed 𝓤 H A mem run) → (s : Session) (vs : Val) → Is S.the-row s (vs ∷ []) → (l : Line) (vl : Val) → Is N.the-row l (vl ∷ []) → (h : ℕ) → h < 2 ^ 32
       → ((j : Item 𝓤) → Opds K W (j ∷ Γ) E xs (vs ∷ vl ∷ vint w32 h ∷ [])) → ((v : Val) (r : Session) → Is S.the-row r (v ∷ []) → Seq K W (i ∷ Γ) (after v)) → Seq K W (i ∷ Γ) G
   hashed-step t site mem run known s vs gs l vl gl h fh ops k =
       plain-call t site S.the-row (plain (λ _. S.the-row) ∷ plain (λ _. N.the-row) ∷ plain (λ _. u32) ∷ []) (yes, (yes, (yes, tt))) (hashed′.clauses 𝓤 H A mem run) known (s, (l, (h, tt))) (vs ∷ [], (vl ∷ [], (vint w32 h ∷ [], tt))) (owns-make 𝓤 H A (S.the-row ∷ N.the-row ∷ u32 ∷ []) (Ises (S.the-row ∷ N.the-row ∷ u32 ∷ [])) (LL.makes S.the-type S′.the-plain 𝓤 H A, (LL.makes N.the-type N′.the-plain 𝓤 H A, (uint-makes 𝓤 H A W w32, tt))) (s, (l, (h, tt))) (vs ∷ [], (vl ∷ [], (vint w32 h ∷ [], tt))) (gs, (gl, ((refl, fh), tt)))) tt (id⊢ 𝓤 _)
       (λ _. Unit {0}) (λ r ws. factI 𝓤 (Unit {0}) _ tt) ops (λ v r is e. k v r is)
 
-  pub noted-step : K → Site K W Γ C E #replay-layer·session·noted xs G after → (mem : Memory → SProp 𝓤) (run : Routine → Fun 𝓤) → Triple 𝓤 (C #replay-layer·session·noted) (Noted 𝓤 H A mem run) → (s : Session) (vs : Val) → Is S.the-row s (vs ∷ []) → (l : Line) (vl : Val) → Is N.the-row l (vl ∷ [])
+  pub noted-step : K → Site K W Γ C E #sample-session·noted xs G after → (mem : Memory → SProp 𝓤) (run : Routine → Fun 𝓤) → Triple 𝓤 (C #sample-session·noted) (Noted 𝓤 H A mem run) → (s : Session) (vs : Val) → Is S.the-row s (vs ∷ []) → (l : Line) (vl : Val) → Is N.the-row l (vl ∷ [])
       → ((j : Item 𝓤) → Opds K W (j ∷ Γ) E xs (vs ∷ vl ∷ [])) → ((v : Val) (r : Session) → Is S.the-row r (v ∷ []) → Seq K W (i ∷ Γ) (after v)) → Seq K W (i ∷ Γ) G
   noted-step t site mem run known s vs gs l vl gl ops k =
       plain-call t site S.the-row (plain (λ _. S.the-row) ∷ plain (λ _. N.the-row) ∷ []) (yes, (yes, tt)) (noted′.clauses 𝓤 H A mem run) known (s, (l, tt)) (vs ∷ [], (vl ∷ [], tt)) (owns-make 𝓤 H A (S.the-row ∷ N.the-row ∷ []) (Ises (S.the-row ∷ N.the-row ∷ [])) (LL.makes S.the-type S′.the-plain 𝓤 H A, (LL.makes N.the-type N′.the-plain 𝓤 H A, tt)) (s, (l, tt)) (vs ∷ [], (vl ∷ [], tt)) (gs, (gl, tt))) tt (id⊢ 𝓤 _)
       (λ _. Unit {0}) (λ r ws. factI 𝓤 (Unit {0}) _ tt) ops (λ v r is e. k v r is)
 
-  pub start-step : K → Site K W Γ C E #replay-layer·session·start xs G after → (mem : Memory → SProp 𝓤) (run : Routine → Fun 𝓤) → Triple 𝓤 (C #replay-layer·session·start) (Start 𝓤 H A mem run)
+  pub start-step : K → Site K W Γ C E #sample-session·start xs G after → (mem : Memory → SProp 𝓤) (run : Routine → Fun 𝓤) → Triple 𝓤 (C #sample-session·start) (Start 𝓤 H A mem run)
       → ((j : Item 𝓤) → Opds K W (j ∷ Γ) E xs []) → ((v : Val) (r : Session) → Is S.the-row r (v ∷ []) → Seq K W (i ∷ Γ) (after v)) → Seq K W (i ∷ Γ) G
   start-step t site mem run known ops k =
       plain-call t site S.the-row [] tt (start′.clauses 𝓤 H A mem run) known tt tt (id⊢ 𝓤 _) tt (id⊢ 𝓤 _)
@@ -256,7 +256,7 @@ module _ {M : Type 1} {𝓤 : URA M} {H : Heap 𝓤} {A : Atoms 𝓤} {K : Type 
       plain-call t site N.the-row [] tt (read-line′.clauses 𝓤 H A mem run) known tt tt (id⊢ 𝓤 _) tt (id⊢ 𝓤 _)
       (λ _. Unit {0}) (λ r ws. factI 𝓤 (Unit {0}) _ tt) ops (λ v r is e. k v r is)
 
-  pub fewer-step : K → Site K W Γ C E #replay-layer·session·fewer xs G after → (mem : Memory → SProp 𝓤) (run : Routine → Fun 𝓤) → Triple 𝓤 (C #replay-layer·session·fewer) (Fewer 𝓤 H A mem run)
+  pub fewer-step : K → Site K W Γ C E #sample-session·fewer xs G after → (mem : Memory → SProp 𝓤) (run : Routine → Fun 𝓤) → Triple 𝓤 (C #sample-session·fewer) (Fewer 𝓤 H A mem run)
       → (m : ℕ) → m < 2 ^ 64 → 0 < m → (l : Line) (vl : Val) → Is N.the-row l (vl ∷ [])
       → ((j : Item 𝓤) → Opds K W (j ∷ Γ) E xs (vint w64 m ∷ vl ∷ [])) → ((r : ℕ) → r < m → Seq K W (i ∷ Γ) (after (vint w64 r))) → Seq K W (i ∷ Γ) G
   fewer-step t site mem run known m fm o l vl gl ops k =

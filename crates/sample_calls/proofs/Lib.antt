@@ -1,3 +1,2 @@
-mod CallLaws
 pub mod Shares
 pub mod Steps

@@ -1,3 +1,1 @@
-pub mod CountingLaws
-pub mod HexLaws
 pub mod LineLaws

@@ -5,7 +5,7 @@ use mathlib.Core.List.{List}
 use Prim.Native.Nat.{ℕ, _+_}
 use lib.Dec.{eqb}
 use lib.ListN.{getD}
-use Rattle.sample_lines.specs.declared.hex.Number.{Number}
+use Rattle.sample_hex.specs.declared.Number.{Number}
 use Rattle.sample_lines.specs.Lines.{parted, lineOf}
 
 pub fields-are : {k a b r l x y z : Number} → k ≡ l → a ≡ x → b ≡ y → r ≡ z → lineOf k a b r ≡ lineOf l x y z

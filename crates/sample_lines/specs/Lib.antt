@@ -1,5 +1,1 @@
-pub mod Counting
-pub mod Hash
-pub mod Hex
 pub mod Lines
-pub mod Signed

@@ -4,12 +4,12 @@ use mathlib.Core.List.{List}
 use Prim.Native.Nat.{ℕ, _+_}
 use lib.Dec.{eqb}
 use lib.ListN.{getD}
-use Rattle.sample_lines.specs.declared.hex.Number.{Number}
-use Rattle.sample_lines.specs.declared.hex.Number.the-variants.{Is, NotHex}
-use Rattle.sample_lines.specs.declared.line.Line.{Line}
-use Rattle.sample_lines.specs.declared.line.Parsed.{Parsed}
-use Rattle.sample_lines.specs.declared.line.Parsed.the-variants.{Whole, Malformed}
-use Rattle.sample_lines.specs.Hex.{digitOf, digitsAt}
+use Rattle.sample_hex.specs.declared.Number.{Number}
+use Rattle.sample_hex.specs.declared.Number.the-variants.{Is, NotHex}
+use Rattle.sample_lines.specs.declared.Line.{Line}
+use Rattle.sample_lines.specs.declared.Parsed.{Parsed}
+use Rattle.sample_lines.specs.declared.Parsed.the-variants.{Whole, Malformed}
+use Rattle.sample_hex.specs.Hex.{digitOf, digitsAt}
 
 -- three spaces (32) and a line end (10)
 unfoldable pub parted : List ℕ → ℕ → Bool

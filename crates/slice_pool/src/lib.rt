@@ -38,7 +38,7 @@ pub fn alloc_run(lent: &mut [u32], slices: u64) -> Allocated
     let found = runs::lowest_set_run(lent, SLOTS, n);
     match found {
         Found::At(s) => {
-            words::clear_run(lent, s, n);
+            rows::clear_run(lent, s, n);
             Allocated::Run((s as u64) * SLICE_SIZE)
         }
         Found::Nothing => Allocated::NotRun(Refusal::NoRun),
@@ -69,6 +69,6 @@ pub fn free_range(lent: &mut [u32], base: u64, size: u64) -> Freed
     if 65536 < start + n {
         return Freed::NotDone(Refusal::PastEnd);
     }
-    words::set_run(lent, start as usize, n as usize);
+    rows::set_run(lent, start as usize, n as usize);
     Freed::Done
 }

@@ -49,10 +49,11 @@ use Rattle.judge.specs.declared.Query.the-variants.{Unsound, Meets}
 use Rattle.judge.specs.declared.Head.{Head}
 use Rattle.judge.specs.Scan.{hit}
 use Rattle.open_question.specs.Questions.{aboutNone}
-use Rattle.judge.specs.Heads.{headOf, runAsked, asksTails, headHit, outside, Covers}
-use Rattle.judge.specs.declared.Span.{Span}
-use Rattle.judge.proofs.Span as P
-use Rattle.judge.proofs.Span.Laws as P′
+use Rattle.judge.specs.Heads.{headOf, runAsked, asksTails, headHit}
+use Rattle.spans.specs.Spans.{outside, Covers}
+use Rattle.spans.specs.declared.Span.{Span}
+use Rattle.spans.proofs.Span as P
+use Rattle.spans.proofs.Span.Laws as P′
 use Rattle.judge.proofs.Head as D
 use Rattle.judge.proofs.Head.Laws as D′
 use Rattle.judge.proofs.Query as Q
@@ -85,24 +86,24 @@ use Rattle.row_parts.proofs.count_of as count-of′
 use Rattle.row_parts.proofs.count_of.Symbol.{name as #row-parts·count-of}
 use Rattle.row_parts.proofs.question_of as question-of′
 use Rattle.row_parts.proofs.question_of.Symbol.{name as #row-parts·question-of}
-use Rattle.judge.proofs.asks_tails as asks′
-use Rattle.judge.proofs.asks_tails.Symbol.{name as #judge·asks-tails}
-use Rattle.judge.proofs.run_asked as run-asked′
-use Rattle.judge.proofs.run_asked.Symbol.{name as #judge·run-asked}
+use Rattle.heads.proofs.asks_tails as asks′
+use Rattle.heads.proofs.asks_tails.Symbol.{name as #heads·asks-tails}
+use Rattle.serving.proofs.run_asked as run-asked′
+use Rattle.serving.proofs.run_asked.Symbol.{name as #serving·run-asked}
 use Rattle.judge.proofs.chunks_of as chunks-of′
 use Rattle.judge.proofs.chunks_of.Symbol.{name as #judge·chunks-of}
-use Rattle.judge.proofs.hit_head as hit-head′
-use Rattle.judge.proofs.hit_head.Symbol.{name as #judge·hit-head}
+use Rattle.heads.proofs.hit_head as hit-head′
+use Rattle.heads.proofs.hit_head.Symbol.{name as #heads·hit-head}
 use Rattle.row_parts.proofs.is_nothing as is-nothing′
 use Rattle.row_parts.proofs.is_nothing.Symbol.{name as #row-parts·is-nothing}
 use Rattle.table.proofs.meets_none as meets-none′
 use Rattle.table.proofs.meets_none.Symbol.{name as #table·meets-none}
-use Rattle.judge.proofs.is_outside as outside′
-use Rattle.judge.proofs.is_outside.Symbol.{name as #judge·is-outside}
-use Rattle.judge.proofs.no_span as no-span′
-use Rattle.judge.proofs.no_span.Symbol.{name as #judge·no-span}
-use Rattle.judge.proofs.span_with as span-with′
-use Rattle.judge.proofs.span_with.Symbol.{name as #judge·span-with}
+use Rattle.spans.proofs.is_outside as outside′
+use Rattle.spans.proofs.is_outside.Symbol.{name as #spans·is-outside}
+use Rattle.spans.proofs.no_span as no-span′
+use Rattle.spans.proofs.no_span.Symbol.{name as #spans·no-span}
+use Rattle.spans.proofs.span_with as span-with′
+use Rattle.spans.proofs.span_with.Symbol.{name as #spans·span-with}
 use Rattle.records.proofs.Walk.{Loan, sliceOf, shared}
 use Rattle.records.proofs.Calls.{Site, plain-call, pass-call}
 
@@ -295,7 +296,7 @@ module _ {M : Type 1} {𝓤 : URA M} {H : Heap 𝓤} {A : Atoms 𝓤} {K : Type 
       (id⊢ 𝓤 _) tt (id⊢ 𝓤 _)
       (λ r. r ≡ headOf blank) (λ r ws. id⊢ 𝓤 _) ops (λ v r is e. k v (subst (λ (o : Head). Is D.the-row o (v ∷ [])) e is))
 
-  pub run-asked-step : K → Site K W Γ C E #judge·run-asked xs G after → (mem : Memory → SProp 𝓤) (run : Routine → Fun 𝓤) → Triple 𝓤 (C #judge·run-asked) (RunAsked 𝓤 H A mem run)
+  pub run-asked-step : K → Site K W Γ C E #serving·run-asked xs G after → (mem : Memory → SProp 𝓤) (run : Routine → Fun 𝓤) → Triple 𝓤 (C #serving·run-asked) (RunAsked 𝓤 H A mem run)
       → (q : Query) (vq : Val) → Is Q.the-row q (vq ∷ []) → (j : ℕ) → j < 2 ^ 64 → (d : Head) (vd : Val) → Is D.the-row d (vd ∷ [])
       → ((h : Item 𝓤) → Opds K W (h ∷ Γ) E xs (vq ∷ vint w64 j ∷ vd ∷ []))
       → (runAsked q j d < 2 ^ 64 → Seq K W (i ∷ Γ) (after (vint w64 (runAsked q j d))))
@@ -315,7 +316,7 @@ module _ {M : Type 1} {𝓤 : URA M} {H : Heap 𝓤} {A : Atoms 𝓤} {K : Type 
       (owns-make 𝓤 H A (D.the-row ∷ []) (Ises (D.the-row ∷ [])) (LL.makes D.the-type D′.the-plain 𝓤 H A, tt) (d, tt) (vd ∷ [], tt) (gd, tt)) tt (id⊢ 𝓤 _)
       (λ r. r ≡ d .chunks) (λ r ws. id⊢ 𝓤 _) ops (λ v r is e. subst (λ (u : Val). Seq K W (i ∷ Γ) (after u)) (sym (ap only (is .0) ∙ ap (vint w64) e)) (k (subst (λ (m : ℕ). m < 2 ^ 64) e (is .1))))
 
-  pub asks-step : K → Site K W Γ C E #judge·asks-tails xs G after → (mem : Memory → SProp 𝓤) (run : Routine → Fun 𝓤) → Triple 𝓤 (C #judge·asks-tails) (AsksTails 𝓤 H A mem run)
+  pub asks-step : K → Site K W Γ C E #heads·asks-tails xs G after → (mem : Memory → SProp 𝓤) (run : Routine → Fun 𝓤) → Triple 𝓤 (C #heads·asks-tails) (AsksTails 𝓤 H A mem run)
       → (q : Query) (vq : Val) → Is Q.the-row q (vq ∷ []) → (d : Head) (vd : Val) → Is D.the-row d (vd ∷ []) → (S : ℕ) → S < 2 ^ 64 → 0 < S → S ≤ 4294967296
       → ((h : Item 𝓤) → Opds K W (h ∷ Γ) E xs (vq ∷ vd ∷ vint w64 S ∷ []))
       → Seq K W (i ∷ Γ) (after (vbool (asksTails S q d)))
@@ -325,7 +326,7 @@ module _ {M : Type 1} {𝓤 : URA M} {H : Heap 𝓤} {A : Atoms 𝓤} {K : Type 
       (owns-make 𝓤 H A (Q.the-row ∷ D.the-row ∷ u64 ∷ []) (Ises (Q.the-row ∷ D.the-row ∷ u64 ∷ [])) (EL.makes Q.the-type Q′.the-plain 𝓤 H A, (LL.makes D.the-type D′.the-plain 𝓤 H A, (uint-makes 𝓤 H A W w64, tt))) (q, (d, (S, tt))) (vq ∷ [], (vd ∷ [], (vint w64 S ∷ [], tt))) (gq, (gd, ((refl, fS), tt)))) tt (factI 𝓤 _ (emp 𝓤) (pos, most))
       (λ r. r ≡ asksTails S q d) (λ r ws. id⊢ 𝓤 _) ops (λ v r is e. subst (λ (u : Val). Seq K W (i ∷ Γ) (after u)) (sym (ap only (bool-tells r (v ∷ []) is) ∙ ap vbool e)) k)
 
-  pub hit-head-step : K → Site K W Γ C E #judge·hit-head xs G after → (mem : Memory → SProp 𝓤) (run : Routine → Fun 𝓤) → Triple 𝓤 (C #judge·hit-head) (HitHead 𝓤 H A mem run)
+  pub hit-head-step : K → Site K W Γ C E #heads·hit-head xs G after → (mem : Memory → SProp 𝓤) (run : Routine → Fun 𝓤) → Triple 𝓤 (C #heads·hit-head) (HitHead 𝓤 H A mem run)
       → (q : Query) (vq : Val) → Is Q.the-row q (vq ∷ []) → (j : ℕ) → j < 2 ^ 64 → (d : Head) (vd : Val) → Is D.the-row d (vd ∷ []) → (S : ℕ) → S < 2 ^ 64 → 0 < S → S ≤ 4294967296
       → ((h : Item 𝓤) → Opds K W (h ∷ Γ) E xs (vq ∷ vint w64 j ∷ vd ∷ vint w64 S ∷ []))
       → Seq K W (i ∷ Γ) (after (vbool (headHit S q j d)))
@@ -355,7 +356,7 @@ module _ {M : Type 1} {𝓤 : URA M} {H : Heap 𝓤} {A : Atoms 𝓤} {K : Type 
       (owns-make 𝓤 H A (F.the-row ∷ []) (Ises (F.the-row ∷ [])) (EL.makes F.the-type F′.the-plain 𝓤 H A, tt) (f, tt) (vf ∷ [], tt) (gf, tt)) tt (id⊢ 𝓤 _)
       (λ r. r ≡ not (isAt f)) (λ r ws. id⊢ 𝓤 _) ops (λ v r is e. subst (λ (u : Val). Seq K W (i ∷ Γ) (after u)) (sym (ap only (bool-tells r (v ∷ []) is) ∙ ap vbool e)) k)
 
-  pub outside-step : K → Site K W Γ C E #judge·is-outside xs G after → (mem : Memory → SProp 𝓤) (run : Routine → Fun 𝓤) → Triple 𝓤 (C #judge·is-outside) (Outside 𝓤 H A mem run)
+  pub outside-step : K → Site K W Γ C E #spans·is-outside xs G after → (mem : Memory → SProp 𝓤) (run : Routine → Fun 𝓤) → Triple 𝓤 (C #spans·is-outside) (Outside 𝓤 H A mem run)
       → (s : Span) (vs : Val) → Is P.the-row s (vs ∷ []) → (d : Head) (vd : Val) → Is D.the-row d (vd ∷ []) → (S : ℕ) → S < 2 ^ 64 → d .base + d .chunks * S < 2 ^ 64
       → ((h : Item 𝓤) → Opds K W (h ∷ Γ) E xs (vs ∷ vd ∷ vint w64 S ∷ []))
       → Seq K W (i ∷ Γ) (after (vbool (outside S s d)))
@@ -375,7 +376,7 @@ module _ {M : Type 1} {𝓤 : URA M} {H : Heap 𝓤} {A : Atoms 𝓤} {K : Type 
       (λ _. owns-make 𝓤 H A (usize ∷ u64 ∷ P.the-row ∷ D.the-row ∷ []) (Ises (usize ∷ u64 ∷ P.the-row ∷ D.the-row ∷ [])) (uint-makes 𝓤 H A W w64, (uint-makes 𝓤 H A W w64, (LL.makes P.the-type P′.the-plain 𝓤 H A, (LL.makes D.the-type D′.the-plain 𝓤 H A, tt)))) (j, (S, (s, (d, tt)))) (vint w64 j ∷ [], (vint w64 S ∷ [], (vs ∷ [], (vd ∷ [], tt)))) ((refl, fj), ((refl, fS), (gs, (gd, tt))))) (λ _ _. tt) (λ _ _. factI 𝓤 _ (emp 𝓤) (pos, most, fit, cov))
       (λ r. r ≡ not (overlaps S ys j (d .base) (d .chunks * S))) (λ _ _ r ws. id⊢ 𝓤 _) (λ h _. ops h) (λ v r is e. subst (λ (u : Val). Seq K W ((‵ (shared T.the-row L ys) ⊛ i) ∷ Γ) (after u)) (sym (ap only (bool-tells r (v ∷ []) is) ∙ ap vbool e)) k)
 
-  pub no-span-step : K → Site K W Γ C E #judge·no-span xs G after → (mem : Memory → SProp 𝓤) (run : Routine → Fun 𝓤) → Triple 𝓤 (C #judge·no-span) (NoSpan 𝓤 H A mem run)
+  pub no-span-step : K → Site K W Γ C E #spans·no-span xs G after → (mem : Memory → SProp 𝓤) (run : Routine → Fun 𝓤) → Triple 𝓤 (C #spans·no-span) (NoSpan 𝓤 H A mem run)
       → ((h : Item 𝓤) → Opds K W (h ∷ Γ) E xs ([]))
       → ((v : Val) (r : Span) → Is P.the-row r (v ∷ []) → Seq K W (i ∷ Γ) (after v))
       → Seq K W (i ∷ Γ) G
@@ -384,7 +385,7 @@ module _ {M : Type 1} {𝓤 : URA M} {H : Heap 𝓤} {A : Atoms 𝓤} {K : Type 
       (id⊢ 𝓤 _) tt (id⊢ 𝓤 _)
       (λ r. (r .lo ≡ 18446744073709551615) × (r .hi ≡ 0)) (λ r ws. id⊢ 𝓤 _) ops (λ v r is e. k v r is)
 
-  pub span-step : K → Site K W Γ C E #judge·span-with xs G after → (mem : Memory → SProp 𝓤) (run : Routine → Fun 𝓤) → Triple 𝓤 (C #judge·span-with) (SpanWith 𝓤 H A mem run)
+  pub span-step : K → Site K W Γ C E #spans·span-with xs G after → (mem : Memory → SProp 𝓤) (run : Routine → Fun 𝓤) → Triple 𝓤 (C #spans·span-with) (SpanWith 𝓤 H A mem run)
       → (s : Span) (vs : Val) → Is P.the-row s (vs ∷ []) → (d : Head) (vd : Val) → Is D.the-row d (vd ∷ []) → (S : ℕ) → S < 2 ^ 64 → d .base + d .chunks * S < 2 ^ 64
       → ((h : Item 𝓤) → Opds K W (h ∷ Γ) E xs (vs ∷ vd ∷ vint w64 S ∷ []))
       → ((v : Val) (r : Span) → Is P.the-row r (v ∷ []) → (r .lo ≤ s .lo) × (s .hi ≤ r .hi) × (r .lo ≤ d .base) × (d .base + d .chunks * S ≤ r .hi) → Seq K W (i ∷ Γ) (after v))

@@ -23,10 +23,10 @@ use Rattle.layer.specs.World.{blank}
 use Rattle.layer.specs.declared.State.{State}
 use Rattle.layer.specs.Table.{at, isAt, meets, overlaps, apart, askedId, soundQuestion, soundTable, soundLent}
 use Rattle.judge.specs.declared.Head.{Head}
-use Rattle.judge.specs.declared.Span.{Span}
+use Rattle.spans.specs.declared.Span.{Span}
 use Rattle.judge.specs.declared.Query.the-variants.{Unsound, Meets}
 use Rattle.judge.specs.Scan.{hit, scanOf}
-use Rattle.judge.specs.Heads.{outside, Covers}
+use Rattle.spans.specs.Spans.{outside, Covers}
 use Rattle.ranges.proofs.RangeLaws.{no-meeting}
 use Rattle.records.proofs.Ends.{past}
 

@@ -8,14 +8,15 @@ ghost use Rattle.runs.specs.Lowest.{all};
 ghost use Rattle.lookup.specs.Soundness.{soundArena};
 ghost use Rattle.layer.specs.World.{blank};
 ghost use Rattle.layer.specs.Table.{at, overlaps, apart, soundLent};
-ghost use Rattle.judge.specs.Heads.{headOf, Covers};
+ghost use Rattle.judge.specs.Heads.{headOf};
+ghost use Rattle.spans.specs.Spans.{Covers};
 ghost use Rattle.judge.specs.Scan.{hit, scanOf};
 use arena::Arena;
 use judge::Head;
 use judge::Query;
-use judge::Span;
 use layer::State;
 use runs::Found;
+use spans::Span;
 
 // The head of the record at an id of the table, read where it lies.
 fn head_at(records: &[Arena], i: usize) -> Head
@@ -61,15 +62,15 @@ fn hits_at(records: &[Arena], i: usize, q: Query, chunk_size: u64) -> bool
 {
     let h = head_or(records, i);
     let chunks = judge::chunks_of(h);
-    let n = judge::run_asked(q, i, h);
+    let n = serving::run_asked(q, i, h);
     if 0 < n {
         let f = maps::run_at(records, i, chunks, n);
         return row_parts::is_at(f);
     }
-    if judge::asks_tails(q, h, chunk_size) {
+    if heads::asks_tails(q, h, chunk_size) {
         return !maps::tails_clear_at(records, i, chunks);
     }
-    judge::hit_head(q, i, h, chunk_size)
+    heads::hit_head(q, i, h, chunk_size)
 }
 
 // The lowest id below k whose record the query hits.
@@ -95,7 +96,7 @@ fn meets_none(records: &[Arena], j: usize, chunk_size: u64, s: Span, h: Head) ->
     requires { ⌜ (0 < «chunk_size») × («chunk_size» ≤ 4294967296) × (h .base + h .chunks * «chunk_size» < 2 ^ 64) × Covers «chunk_size» s (now records) j ⌝ }
     ensures { λ r. ⌜ r ≡ not (overlaps «chunk_size» (now (records .entry)) j (h .base) (h .chunks * «chunk_size»)) ⌝ }
 {
-    if judge::is_outside(s, h, chunk_size) {
+    if spans::is_outside(s, h, chunk_size) {
         return true;
     }
     let q = row_parts::range_query(h, chunk_size);
@@ -109,14 +110,14 @@ pub fn apart_table(records: &[Arena], k: usize, chunk_size: u64) -> bool
     requires { ⌜ (0 < «chunk_size») × («chunk_size» ≤ 4294967296) × (all (λ i. soundArena «chunk_size» (at (now records) i)) 0 k ≡ true) ⌝ }
     ensures { λ r. ⌜ r ≡ apart «chunk_size» (now (records .entry)) k ⌝ }
 {
-    let mut s = judge::no_span();
+    let mut s = spans::no_span();
     let mut j = 0;
     while j < k {
         let h = head_or(records, j);
         if !meets_none(records, j, chunk_size, s, h) {
             return false;
         }
-        s = judge::span_with(s, h, chunk_size);
+        s = spans::span_with(s, h, chunk_size);
         j = j + 1;
     }
     true

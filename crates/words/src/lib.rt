@@ -1,11 +1,9 @@
-// Words of 32 bits, and rows of them as bitmaps: masks of low ones, runs of bits set and cleared by
-// masks, and the lowest set or clear bit of a word. Document 01, "Map words".
+// Words of 32 bits, and what a row of them is as a bitmap: masks of low ones, a run of bits of a word set and cleared
+// by masks, and the lowest set or clear bit of a word. Document 01, "Map words".
 ghost use mathlib.Core.Path.{_≡_};
 ghost use mathlib.Core.Bool.{true, false, cond};
-ghost use Prim.Native.Nat.{ℕ, _+_, _*_, _<_, _≤_, min};
-ghost use lib.ListN.{length};
+ghost use Prim.Native.Nat.{ℕ, _+_, _<_, _≤_, min};
 ghost use Rattle.words.specs.Bits.{lowOnes, bit, within, LowestBit};
-ghost use Rattle.words.specs.Rows.{writeRun, setRun, clearRun};
 
 // The masks of n low ones, n from 0 to 32. Only low_ones reads them.
 const LOW_ONES: [u32; 33] = [
@@ -69,7 +67,7 @@ fn clear_word(w: u32, lo: usize, n: usize) -> u32
 }
 
 // w with the n bits from lo on made `on`.
-fn write_word(w: u32, lo: usize, n: usize, on: bool) -> u32
+pub fn write_word(w: u32, lo: usize, n: usize, on: bool) -> u32
     requires { ⌜ (lo < 32) × (lo + n ≤ 32) ⌝ }
     ensures { λ r. ⌜ ((i : ℕ) → bit r i ≡ cond (within lo n i) on (bit w i)) ⌝ }
 {
@@ -98,51 +96,4 @@ pub fn least(a: usize, b: usize) -> usize
     ensures { λ r. ⌜ r ≡ min a b ⌝ }
 {
     if a <= b { a } else { b }
-}
-
-// The n places from start on of a lent row made `on`, a word at a time.
-fn write_run(lent: &mut [u32], start: usize, n: usize, on: bool)
-    requires { ⌜ (start + n ≤ 32 * length (now lent)) × (start + n ≤ 65536) ⌝ }
-    ensures { λ _. ⌜ now (lent .exit) ≡ writeRun on (now (lent .entry)) start n ⌝ }
-{
-    let mut at = start;
-    let end = start + n;
-    while at < end {
-        let k = at / 32;
-        let lo = at % 32;
-        let m = least(32 - lo, end - at);
-        lent[k] = write_word(lent[k], lo, m, on);
-        at = at + m;
-    }
-}
-
-// The n places from start on of a lent row set.
-pub fn set_run(lent: &mut [u32], start: usize, n: usize)
-    requires { ⌜ (start + n ≤ 32 * length (now lent)) × (start + n ≤ 65536) ⌝ }
-    ensures { λ _. ⌜ now (lent .exit) ≡ setRun (now (lent .entry)) start n ⌝ }
-{
-    write_run(lent, start, n, true)
-}
-
-// The n places from start on of a lent row clear.
-pub fn clear_run(lent: &mut [u32], start: usize, n: usize)
-    requires { ⌜ (start + n ≤ 32 * length (now lent)) × (start + n ≤ 65536) ⌝ }
-    ensures { λ _. ⌜ now (lent .exit) ≡ clearRun (now (lent .entry)) start n ⌝ }
-{
-    write_run(lent, start, n, false)
-}
-
-// The same two over a row of 1,024 bits as an array: an arena's bitmap where it lies.
-pub fn set_row(row: &mut [u32; 32], start: usize, n: usize)
-    requires { ⌜ start + n ≤ 1024 ⌝ }
-    ensures { λ _. ⌜ now (row .exit) ≡ setRun (now (row .entry)) start n ⌝ }
-{
-    write_run(row, start, n, true)
-}
-
-pub fn clear_row(row: &mut [u32; 32], start: usize, n: usize)
-    requires { ⌜ start + n ≤ 1024 ⌝ }
-    ensures { λ _. ⌜ now (row .exit) ≡ clearRun (now (row .entry)) start n ⌝ }
-{
-    write_run(row, start, n, false)
 }

@@ -58,9 +58,10 @@ use Rattle.judge.proofs.Query.Laws as Q′
 use Rattle.claims.specs.Core.{claimCount}
 use Rattle.arena.specs.Claiming.{findRun}
 use Rattle.layer.specs.Claiming.{grantArena}
-use Rattle.grants.specs.Grants.{startOf, claimAnswer, placeOf}
-use Rattle.grants.proofs.Grant as N
-use Rattle.grants.proofs.Grant.Laws as N′
+use Rattle.grants.specs.Grants.{claimAnswer}
+use Rattle.grant_parts.specs.Reads.{startOf, placeOf}
+use Rattle.grant_parts.proofs.Grant as N
+use Rattle.grant_parts.proofs.Grant.Laws as N′
 use Rattle.records.proofs.Walk.{Loan, Known, lent, sliceOf}
 use Rattle.records.proofs.Locals.{enters, used}
 use Rattle.records.proofs.Frame.{Done2, finish2, mut2-meets}
@@ -86,9 +87,9 @@ use Rattle.chunk_alloc.proofs.serves_query.Met as query-thm
 use Rattle.table.proofs.scan.Symbol as scan-def
 use Rattle.table.proofs.scan.Symbol.{name as #table·scan}
 use Rattle.table.proofs.scan.Met as scan-thm
-use Rattle.grants.proofs.place_of.Symbol as place-def
-use Rattle.grants.proofs.place_of.Symbol.{name as #grants·place-of}
-use Rattle.grants.proofs.place_of.Met as place-thm
+use Rattle.grant_parts.proofs.place_of.Symbol as place-def
+use Rattle.grant_parts.proofs.place_of.Symbol.{name as #grant-parts·place-of}
+use Rattle.grant_parts.proofs.place_of.Met as place-thm
 use Rattle.grant_at.proofs.grant_at.Symbol as grant-def
 use Rattle.grant_at.proofs.grant_at.Symbol.{name as #grant-at·grant-at}
 use Rattle.grant_at.proofs.grant_at.Met as grant-thm
@@ -102,7 +103,7 @@ use Rattle.chunk_alloc.proofs.claim_at.Code as code
 
 module _ {M : Type 1} (𝓤 : URA M) (H : Heap 𝓤) (A : Atoms 𝓤) (W : Given 𝓤 H A) (mem : Memory → SProp 𝓤) (run : Routine → Fun 𝓤) (𝓣 : Tables 𝓤 H)
     (known-page : Triple 𝓤 (𝓣 .C #entry·page-of) (Page 𝓤 H A mem run)) (known-row : Triple 𝓤 (𝓣 .C #table·row-one) (Row 𝓤 H A mem run)) (known-count : Triple 𝓤 (𝓣 .C #claims·claim-count) (Count 𝓤 H A mem run)) (known-query : Triple 𝓤 (𝓣 .C #chunk-alloc·serves-query) (Asks 𝓤 H A mem run)) (known-scan : Triple 𝓤 (𝓣 .C #table·scan) (Scan 𝓤 H A mem run))
-    (known-place : Triple 𝓤 (𝓣 .C #grants·place-of) (Place 𝓤 H A mem run)) (known-grant : Triple 𝓤 (𝓣 .C #grant-at·grant-at) (GrantAt 𝓤 H A mem run)) (known-answer : Triple 𝓤 (𝓣 .C #grants·claim-answer) (Answers 𝓤 H A mem run)) where
+    (known-place : Triple 𝓤 (𝓣 .C #grant-parts·place-of) (Place 𝓤 H A mem run)) (known-grant : Triple 𝓤 (𝓣 .C #grant-at·grant-at) (GrantAt 𝓤 H A mem run)) (known-answer : Triple 𝓤 (𝓣 .C #grants·claim-answer) (Answers 𝓤 H A mem run)) where
   module _ (κ κ′ : Lft) (q q′ : Share) (γ γ′ : GName) (b o b′ o′ : ℕ) (ys : List Arena) (us : List ℕ) (s : State) (c : Settings) (id : ℤ) (n : ℕ) (w : Bool) where
     abbrev L : Loan
     L = record { κ = κ; q = q; γ = γ; b = b; o = o; n = length ys }
@@ -191,6 +192,6 @@ claim-at-spec 𝓤 H 𝓜 𝓖 𝓡 =
     (cited 𝓤 H (Count 𝓤 H (𝓖 .A) (𝓜 .mem) (𝓡 .run)) 𝓜 𝓡 code.env #claims·claim-count count-def.routine code.calls-claims·claim-count (count-thm.met 𝓤 H 𝓜 𝓖 𝓡))
     (cited 𝓤 H (Asks 𝓤 H (𝓖 .A) (𝓜 .mem) (𝓡 .run)) 𝓜 𝓡 code.env #chunk-alloc·serves-query query-def.routine code.calls-chunk-alloc·serves-query (query-thm.met 𝓤 H 𝓜 𝓖 𝓡))
     (cited 𝓤 H (Scan 𝓤 H (𝓖 .A) (𝓜 .mem) (𝓡 .run)) 𝓜 𝓡 code.env #table·scan scan-def.routine code.calls-table·scan (scan-thm.met 𝓤 H 𝓜 𝓖 𝓡))
-    (cited 𝓤 H (Place 𝓤 H (𝓖 .A) (𝓜 .mem) (𝓡 .run)) 𝓜 𝓡 code.env #grants·place-of place-def.routine code.calls-grants·place-of (place-thm.met 𝓤 H 𝓜 𝓖 𝓡))
+    (cited 𝓤 H (Place 𝓤 H (𝓖 .A) (𝓜 .mem) (𝓡 .run)) 𝓜 𝓡 code.env #grant-parts·place-of place-def.routine code.calls-grant-parts·place-of (place-thm.met 𝓤 H 𝓜 𝓖 𝓡))
     (cited 𝓤 H (GrantAt 𝓤 H (𝓖 .A) (𝓜 .mem) (𝓡 .run)) 𝓜 𝓡 code.env #grant-at·grant-at grant-def.routine code.calls-grant-at·grant-at (grant-thm.met 𝓤 H 𝓜 𝓖 𝓡))
     (cited 𝓤 H (Answers 𝓤 H (𝓖 .A) (𝓜 .mem) (𝓡 .run)) 𝓜 𝓡 code.env #grants·claim-answer answer-def.routine code.calls-grants·claim-answer (answer-thm.met 𝓤 H 𝓜 𝓖 𝓡)))

@@ -45,10 +45,10 @@ use Rattle.layer.specs.Claiming.{asksCommit, grantArena}
 use Rattle.judge.specs.Heads.{headOf}
 use Rattle.judge.proofs.Head as D
 use Rattle.judge.proofs.Head.Laws as D′
-use Rattle.grants.specs.declared.Grant.{Grant}
-use Rattle.grants.specs.Grants.{startOf, grantOf}
-use Rattle.grants.proofs.Grant as N
-use Rattle.grants.proofs.Grant.Laws as N′
+use Rattle.grant_parts.specs.declared.Grant.{Grant}
+use Rattle.grant_parts.specs.Reads.{startOf, grantOf}
+use Rattle.grant_parts.proofs.Grant as N
+use Rattle.grant_parts.proofs.Grant.Laws as N′
 use Rattle.records.proofs.Walk.{Loan, Known, lent, sliceOf}
 use Rattle.records.proofs.Locals.{enters, used}
 use Rattle.records.proofs.Calls.{in-seq}
@@ -58,30 +58,30 @@ use Rattle.grant_at.proofs.Steps.{Chunks, RunAt, Start, CommittedAt, Fr
 use Rattle.table.proofs.head_or.Symbol as head-def
 use Rattle.table.proofs.head_or.Symbol.{name as #table·head-or}
 use Rattle.table.proofs.head_or.Met as head-thm
-use Rattle.grants.proofs.chunks_of.Symbol as chunks-def
-use Rattle.grants.proofs.chunks_of.Symbol.{name as #grants·chunks-of}
-use Rattle.grants.proofs.chunks_of.Met as chunks-thm
+use Rattle.judge.proofs.chunks_of.Symbol as chunks-def
+use Rattle.judge.proofs.chunks_of.Symbol.{name as #judge·chunks-of}
+use Rattle.judge.proofs.chunks_of.Met as chunks-thm
 use Rattle.maps.proofs.run_at.Symbol as run-def
 use Rattle.maps.proofs.run_at.Symbol.{name as #maps·run-at}
 use Rattle.maps.proofs.run_at.Met as run-thm
-use Rattle.grants.proofs.start_of.Symbol as start-def
-use Rattle.grants.proofs.start_of.Symbol.{name as #grants·start-of}
-use Rattle.grants.proofs.start_of.Met as start-thm
-use Rattle.maps.proofs.committed_at.Symbol as committed-def
-use Rattle.maps.proofs.committed_at.Symbol.{name as #maps·committed-at}
-use Rattle.maps.proofs.committed_at.Met as committed-thm
-use Rattle.maps.proofs.fresh_at.Symbol as fresh-def
-use Rattle.maps.proofs.fresh_at.Symbol.{name as #maps·fresh-at}
-use Rattle.maps.proofs.fresh_at.Met as fresh-thm
-use Rattle.grants.proofs.asks_commit.Symbol as asks-def
-use Rattle.grants.proofs.asks_commit.Symbol.{name as #grants·asks-commit}
-use Rattle.grants.proofs.asks_commit.Met as asks-thm
+use Rattle.grant_parts.proofs.start_of.Symbol as start-def
+use Rattle.grant_parts.proofs.start_of.Symbol.{name as #grant-parts·start-of}
+use Rattle.grant_parts.proofs.start_of.Met as start-thm
+use Rattle.run_maps.proofs.committed_at.Symbol as committed-def
+use Rattle.run_maps.proofs.committed_at.Symbol.{name as #run-maps·committed-at}
+use Rattle.run_maps.proofs.committed_at.Met as committed-thm
+use Rattle.run_maps.proofs.fresh_at.Symbol as fresh-def
+use Rattle.run_maps.proofs.fresh_at.Symbol.{name as #run-maps·fresh-at}
+use Rattle.run_maps.proofs.fresh_at.Met as fresh-thm
+use Rattle.grant_parts.proofs.asks_commit.Symbol as asks-def
+use Rattle.grant_parts.proofs.asks_commit.Symbol.{name as #grant-parts·asks-commit}
+use Rattle.grant_parts.proofs.asks_commit.Met as asks-thm
 use Rattle.grant_at.proofs.take_in.Symbol as take-def
 use Rattle.grant_at.proofs.take_in.Symbol.{name as #grant-at·take-in}
 use Rattle.grant_at.proofs.take_in.Met as take-thm
-use Rattle.grants.proofs.grant_of.Symbol as grant-def
-use Rattle.grants.proofs.grant_of.Symbol.{name as #grants·grant-of}
-use Rattle.grants.proofs.grant_of.Met as grant-thm
+use Rattle.grant_parts.proofs.grant_of.Symbol as grant-def
+use Rattle.grant_parts.proofs.grant_of.Symbol.{name as #grant-parts·grant-of}
+use Rattle.grant_parts.proofs.grant_of.Met as grant-thm
 use Rattle.grant_at.proofs.grant_in.Key.{name as #grant-at·grant-in}
 use Rattle.grant_at.proofs.grant_in as this′
 use Rattle.grant_at.proofs.grant_in.Statement as stated
@@ -89,14 +89,14 @@ use Rattle.grant_at.proofs.grant_in.Code as code
 
 module _ {M : Type 1} (𝓤 : URA M) (H : Heap 𝓤) (A : Atoms 𝓤) (W : Given 𝓤 H A) (mem : Memory → SProp 𝓤) (run : Routine → Fun 𝓤) (𝓣 : Tables 𝓤 H)
     (known-head : Triple 𝓤 (𝓣 .C #table·head-or) (HeadOr 𝓤 H A mem run))
-    (known-chunks : Triple 𝓤 (𝓣 .C #grants·chunks-of) (Chunks 𝓤 H A mem run))
+    (known-chunks : Triple 𝓤 (𝓣 .C #judge·chunks-of) (Chunks 𝓤 H A mem run))
     (known-run : Triple 𝓤 (𝓣 .C #maps·run-at) (RunAt 𝓤 H A mem run))
-    (known-start : Triple 𝓤 (𝓣 .C #grants·start-of) (Start 𝓤 H A mem run))
-    (known-committed : Triple 𝓤 (𝓣 .C #maps·committed-at) (CommittedAt 𝓤 H A mem run))
-    (known-fresh : Triple 𝓤 (𝓣 .C #maps·fresh-at) (FreshAt 𝓤 H A mem run))
-    (known-asks : Triple 𝓤 (𝓣 .C #grants·asks-commit) (Asks 𝓤 H A mem run))
+    (known-start : Triple 𝓤 (𝓣 .C #grant-parts·start-of) (Start 𝓤 H A mem run))
+    (known-committed : Triple 𝓤 (𝓣 .C #run-maps·committed-at) (CommittedAt 𝓤 H A mem run))
+    (known-fresh : Triple 𝓤 (𝓣 .C #run-maps·fresh-at) (FreshAt 𝓤 H A mem run))
+    (known-asks : Triple 𝓤 (𝓣 .C #grant-parts·asks-commit) (Asks 𝓤 H A mem run))
     (known-take : Triple 𝓤 (𝓣 .C #grant-at·take-in) (TakeIn 𝓤 H A mem run))
-    (known-grant : Triple 𝓤 (𝓣 .C #grants·grant-of) (GrantOf 𝓤 H A mem run)) where
+    (known-grant : Triple 𝓤 (𝓣 .C #grant-parts·grant-of) (GrantOf 𝓤 H A mem run)) where
   module _ (κ : Lft) (q : Share) (γ : GName) (b o : ℕ) (ys : List Arena) (i n : ℕ) (commits : Bool) where
     abbrev L : Loan
     L = record { κ = κ; q = q; γ = γ; b = b; o = o; n = length ys }
@@ -181,11 +181,11 @@ grant-in-spec 𝓤 H 𝓜 𝓖 𝓡 =
     (tables 𝓤 H 𝓜 𝓡 code.env .C) (tables 𝓤 H 𝓜 𝓡 code.env .Λ) #grant-at·grant-in code.function (code.unfolded 𝓤 H 𝓜 𝓡)
     (this-meets 𝓤 H (𝓖 .A) (givenOf 𝓤 H 𝓜 𝓖) (𝓜 .mem) (𝓡 .run) (tablesOf 𝓤 H 𝓜 (tables 𝓤 H 𝓜 𝓡 code.env))
     (cited 𝓤 H (HeadOr 𝓤 H (𝓖 .A) (𝓜 .mem) (𝓡 .run)) 𝓜 𝓡 code.env #table·head-or head-def.routine code.calls-table·head-or (head-thm.met 𝓤 H 𝓜 𝓖 𝓡))
-    (cited 𝓤 H (Chunks 𝓤 H (𝓖 .A) (𝓜 .mem) (𝓡 .run)) 𝓜 𝓡 code.env #grants·chunks-of chunks-def.routine code.calls-grants·chunks-of (chunks-thm.met 𝓤 H 𝓜 𝓖 𝓡))
+    (cited 𝓤 H (Chunks 𝓤 H (𝓖 .A) (𝓜 .mem) (𝓡 .run)) 𝓜 𝓡 code.env #judge·chunks-of chunks-def.routine code.calls-judge·chunks-of (chunks-thm.met 𝓤 H 𝓜 𝓖 𝓡))
     (cited 𝓤 H (RunAt 𝓤 H (𝓖 .A) (𝓜 .mem) (𝓡 .run)) 𝓜 𝓡 code.env #maps·run-at run-def.routine code.calls-maps·run-at (run-thm.met 𝓤 H 𝓜 𝓖 𝓡))
-    (cited 𝓤 H (Start 𝓤 H (𝓖 .A) (𝓜 .mem) (𝓡 .run)) 𝓜 𝓡 code.env #grants·start-of start-def.routine code.calls-grants·start-of (start-thm.met 𝓤 H 𝓜 𝓖 𝓡))
-    (cited 𝓤 H (CommittedAt 𝓤 H (𝓖 .A) (𝓜 .mem) (𝓡 .run)) 𝓜 𝓡 code.env #maps·committed-at committed-def.routine code.calls-maps·committed-at (committed-thm.met 𝓤 H 𝓜 𝓖 𝓡))
-    (cited 𝓤 H (FreshAt 𝓤 H (𝓖 .A) (𝓜 .mem) (𝓡 .run)) 𝓜 𝓡 code.env #maps·fresh-at fresh-def.routine code.calls-maps·fresh-at (fresh-thm.met 𝓤 H 𝓜 𝓖 𝓡))
-    (cited 𝓤 H (Asks 𝓤 H (𝓖 .A) (𝓜 .mem) (𝓡 .run)) 𝓜 𝓡 code.env #grants·asks-commit asks-def.routine code.calls-grants·asks-commit (asks-thm.met 𝓤 H 𝓜 𝓖 𝓡))
+    (cited 𝓤 H (Start 𝓤 H (𝓖 .A) (𝓜 .mem) (𝓡 .run)) 𝓜 𝓡 code.env #grant-parts·start-of start-def.routine code.calls-grant-parts·start-of (start-thm.met 𝓤 H 𝓜 𝓖 𝓡))
+    (cited 𝓤 H (CommittedAt 𝓤 H (𝓖 .A) (𝓜 .mem) (𝓡 .run)) 𝓜 𝓡 code.env #run-maps·committed-at committed-def.routine code.calls-run-maps·committed-at (committed-thm.met 𝓤 H 𝓜 𝓖 𝓡))
+    (cited 𝓤 H (FreshAt 𝓤 H (𝓖 .A) (𝓜 .mem) (𝓡 .run)) 𝓜 𝓡 code.env #run-maps·fresh-at fresh-def.routine code.calls-run-maps·fresh-at (fresh-thm.met 𝓤 H 𝓜 𝓖 𝓡))
+    (cited 𝓤 H (Asks 𝓤 H (𝓖 .A) (𝓜 .mem) (𝓡 .run)) 𝓜 𝓡 code.env #grant-parts·asks-commit asks-def.routine code.calls-grant-parts·asks-commit (asks-thm.met 𝓤 H 𝓜 𝓖 𝓡))
     (cited 𝓤 H (TakeIn 𝓤 H (𝓖 .A) (𝓜 .mem) (𝓡 .run)) 𝓜 𝓡 code.env #grant-at·take-in take-def.routine code.calls-grant-at·take-in (take-thm.met 𝓤 H 𝓜 𝓖 𝓡))
-    (cited 𝓤 H (GrantOf 𝓤 H (𝓖 .A) (𝓜 .mem) (𝓡 .run)) 𝓜 𝓡 code.env #grants·grant-of grant-def.routine code.calls-grants·grant-of (grant-thm.met 𝓤 H 𝓜 𝓖 𝓡)))
+    (cited 𝓤 H (GrantOf 𝓤 H (𝓖 .A) (𝓜 .mem) (𝓡 .run)) 𝓜 𝓡 code.env #grant-parts·grant-of grant-def.routine code.calls-grant-parts·grant-of (grant-thm.met 𝓤 H 𝓜 𝓖 𝓡)))

@@ -30,9 +30,9 @@ use denote.Triple.Spec.{Meets, tripleOf}
 use denote.Triple.Statement.{Triple}
 use denote.Triple.Table.{entered, cited}
 use Rattle.words.specs.Rows.{setRun}
-use Rattle.words.proofs.set_row.Symbol as set-row-def
-use Rattle.words.proofs.set_row.Symbol.{name as #words·set-row}
-use Rattle.words.proofs.set_row.Met as set-row-thm
+use Rattle.rows.proofs.set_row.Symbol as set-row-def
+use Rattle.rows.proofs.set_row.Symbol.{name as #rows·set-row}
+use Rattle.rows.proofs.set_row.Met as set-row-thm
 use Rattle.arena.specs.declared.Arena.{Arena}
 use Rattle.arena.specs.Record.{withPending}
 use Rattle.arena.proofs.Arena as T
@@ -41,14 +41,14 @@ use Rattle.records.proofs.Walk.{Loan, Known, lent, sliceOf}
 use Rattle.records.proofs.Locals.{enters, used}
 use Rattle.records.proofs.Calls.{in-seq}
 use Rattle.records.proofs.Frame.{Done, finish, mut-meets}
-use Rattle.maps.proofs.Cuts.{pending-cut}
+use Rattle.record_fields.proofs.Maps.{pending-cut}
 use Rattle.map_changes.proofs.Steps.{SetRow, set-row-at}
 use Rattle.map_changes.proofs.pend_at.Key.{name as #map-changes·pend-at}
 use Rattle.map_changes.proofs.pend_at as take′
 use Rattle.map_changes.proofs.pend_at.Statement as stated
 use Rattle.map_changes.proofs.pend_at.Code as code
 
-module _ {M : Type 1} (𝓤 : URA M) (H : Heap 𝓤) (A : Atoms 𝓤) (W : Given 𝓤 H A) (mem : Memory → SProp 𝓤) (run : Routine → Fun 𝓤) (𝓣 : Tables 𝓤 H) (known : Triple 𝓤 (𝓣 .C #words·set-row) (SetRow 𝓤 H A mem run)) where
+module _ {M : Type 1} (𝓤 : URA M) (H : Heap 𝓤) (A : Atoms 𝓤) (W : Given 𝓤 H A) (mem : Memory → SProp 𝓤) (run : Routine → Fun 𝓤) (𝓣 : Tables 𝓤 H) (known : Triple 𝓤 (𝓣 .C #rows·set-row) (SetRow 𝓤 H A mem run)) where
   module _ (κ : Lft) (q : Share) (γ : GName) (b o : ℕ) (ys : List Arena) (i s n : ℕ) where
     abbrev L : Loan
     L = record { κ = κ; q = q; γ = γ; b = b; o = o; n = length ys }
@@ -93,4 +93,4 @@ pend-at-spec 𝓤 H 𝓜 𝓖 𝓡 =
     entered 𝓤 H (tripleOf 𝓤 H (𝓖 .A) take′.signature (take′.spec 𝓤 H (𝓖 .A) (𝓜 .mem) (𝓡 .run)))
     (tables 𝓤 H 𝓜 𝓡 code.env .C) (tables 𝓤 H 𝓜 𝓡 code.env .Λ) #map-changes·pend-at code.function (code.unfolded 𝓤 H 𝓜 𝓡)
     (pend-at-meets 𝓤 H (𝓖 .A) (givenOf 𝓤 H 𝓜 𝓖) (𝓜 .mem) (𝓡 .run) (tablesOf 𝓤 H 𝓜 (tables 𝓤 H 𝓜 𝓡 code.env))
-    (cited 𝓤 H (SetRow 𝓤 H (𝓖 .A) (𝓜 .mem) (𝓡 .run)) 𝓜 𝓡 code.env #words·set-row set-row-def.routine code.calls-words·set-row (set-row-thm.met 𝓤 H 𝓜 𝓖 𝓡)))
+    (cited 𝓤 H (SetRow 𝓤 H (𝓖 .A) (𝓜 .mem) (𝓡 .run)) 𝓜 𝓡 code.env #rows·set-row set-row-def.routine code.calls-rows·set-row (set-row-thm.met 𝓤 H 𝓜 𝓖 𝓡)))

@@ -47,7 +47,7 @@ use Rattle.records.proofs.Walk.{Loan, Known, shared, sliceOf}
 use Rattle.records.proofs.Locals.{enters, used}
 use Rattle.records.proofs.Calls.{in-seq}
 use Rattle.records.proofs.Frame.{DoneS, finishS, shr-meets}
-use Rattle.maps.proofs.Cuts.{used-look}
+use Rattle.record_fields.proofs.Maps.{used-look}
 use Rattle.maps.proofs.Steps.{LowestRun, lowest-run-at}
 use Rattle.maps.proofs.run_at.Key.{name as #maps·run-at}
 use Rattle.maps.proofs.run_at as this′

@@ -42,7 +42,7 @@ use Rattle.records.proofs.Walk.{Loan, Known, shared, sliceOf}
 use Rattle.records.proofs.Locals.{enters, used, room, if-else}
 use Rattle.records.proofs.Calls.{in-seq}
 use Rattle.records.proofs.Frame.{DoneS, finishS, shr-meets}
-use Rattle.maps.proofs.Cuts.{used-look, dirty-look, committed-look, pending-look}
+use Rattle.record_fields.proofs.Maps.{used-look, dirty-look, committed-look, pending-look}
 use Rattle.maps.proofs.Steps.{TailClear, tail-clear-at}
 use Rattle.maps.proofs.tails_clear_at.Key.{name as #maps·tails-clear-at}
 use Rattle.maps.proofs.tails_clear_at as this′

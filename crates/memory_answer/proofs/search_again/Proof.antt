@@ -47,8 +47,8 @@ use Rattle.layer.proofs.Reply.Laws as P′
 use Rattle.judge.specs.declared.Query.the-variants.{Serves}
 use Rattle.judge.proofs.Query as Q
 use Rattle.judge.proofs.Query.Laws as Q′
-use Rattle.claims.proofs.Served as D
-use Rattle.claims.proofs.Served.Laws as D′
+use Rattle.granting.proofs.Served as D
+use Rattle.granting.proofs.Served.Laws as D′
 use Rattle.registers.specs.Core.{storedAt}
 use Rattle.memory.specs.declared.Memory.{Memory as Made}
 use Rattle.memory.proofs.Memory as X

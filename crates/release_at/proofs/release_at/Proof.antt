@@ -52,12 +52,12 @@ use Rattle.map_changes.proofs.give_back_at.Met as give-thm
 use Rattle.map_changes.proofs.pend_at.Symbol as pend-def
 use Rattle.map_changes.proofs.pend_at.Symbol.{name as #map-changes·pend-at}
 use Rattle.map_changes.proofs.pend_at.Met as pend-thm
-use Rattle.release_at.proofs.tell_at.Symbol as tell-def
-use Rattle.release_at.proofs.tell_at.Symbol.{name as #release-at·tell-at}
-use Rattle.release_at.proofs.tell_at.Met as tell-thm
-use Rattle.release_at.proofs.arm_at.Symbol as arm-def
-use Rattle.release_at.proofs.arm_at.Symbol.{name as #release-at·arm-at}
-use Rattle.release_at.proofs.arm_at.Met as arm-thm
+use Rattle.release_rows.proofs.tell_at.Symbol as tell-def
+use Rattle.release_rows.proofs.tell_at.Symbol.{name as #release-rows·tell-at}
+use Rattle.release_rows.proofs.tell_at.Met as tell-thm
+use Rattle.release_rows.proofs.arm_at.Symbol as arm-def
+use Rattle.release_rows.proofs.arm_at.Symbol.{name as #release-rows·arm-at}
+use Rattle.release_rows.proofs.arm_at.Met as arm-thm
 use Rattle.release_at.proofs.Laws.{given, tolds, pends, arms, still, released, kept, long-tolds, long-arms}
 use Rattle.release_at.proofs.Steps.{GiveBack, Pend, Tell, Arm, Due, give-back-step, pend-step, tell-step, arm-step, due-step}
 use Rattle.release_at.proofs.release_at.Key.{name as #release-at·release-at}
@@ -68,10 +68,10 @@ use Rattle.release_at.proofs.release_at.Code.Mir.{t-9}
 
 module _ {M : Type 1} (𝓤 : URA M) (H : Heap 𝓤) (A : Atoms 𝓤) (W : Given 𝓤 H A) (mem : Memory → SProp 𝓤) (run : Routine → Fun 𝓤) (𝓣 : Tables 𝓤 H)
     (known-give : Triple 𝓤 (𝓣 .C #map-changes·give-back-at) (GiveBack 𝓤 H A mem run))
-    (known-tell : Triple 𝓤 (𝓣 .C #release-at·tell-at) (Tell 𝓤 H A mem run))
+    (known-tell : Triple 𝓤 (𝓣 .C #release-rows·tell-at) (Tell 𝓤 H A mem run))
     (known-pend : Triple 𝓤 (𝓣 .C #map-changes·pend-at) (Pend 𝓤 H A mem run))
     (known-due : Triple 𝓤 (𝓣 .C #clock·due-at) (Due 𝓤 H A mem run))
-    (known-arm : Triple 𝓤 (𝓣 .C #release-at·arm-at) (Arm 𝓤 H A mem run)) where
+    (known-arm : Triple 𝓤 (𝓣 .C #release-rows·arm-at) (Arm 𝓤 H A mem run)) where
   module _ (κ : Lft) (q : Share) (γ : GName) (b o : ℕ) (ys : List Arena) (i s n : ℕ) (told : Commitment) (pending : Bool) (ms delay : ℕ) where
     abbrev L : Loan
     L = record { κ = κ; q = q; γ = γ; b = b; o = o; n = length ys }
@@ -149,7 +149,7 @@ release-at-spec 𝓤 H 𝓜 𝓖 𝓡 =
     (tables 𝓤 H 𝓜 𝓡 code.env .C) (tables 𝓤 H 𝓜 𝓡 code.env .Λ) #release-at·release-at code.function (code.unfolded 𝓤 H 𝓜 𝓡)
     (release-at-meets 𝓤 H (𝓖 .A) (givenOf 𝓤 H 𝓜 𝓖) (𝓜 .mem) (𝓡 .run) (tablesOf 𝓤 H 𝓜 (tables 𝓤 H 𝓜 𝓡 code.env))
     (cited 𝓤 H (GiveBack 𝓤 H (𝓖 .A) (𝓜 .mem) (𝓡 .run)) 𝓜 𝓡 code.env #map-changes·give-back-at give-def.routine code.calls-map-changes·give-back-at (give-thm.met 𝓤 H 𝓜 𝓖 𝓡))
-    (cited 𝓤 H (Tell 𝓤 H (𝓖 .A) (𝓜 .mem) (𝓡 .run)) 𝓜 𝓡 code.env #release-at·tell-at tell-def.routine code.calls-release-at·tell-at (tell-thm.met 𝓤 H 𝓜 𝓖 𝓡))
+    (cited 𝓤 H (Tell 𝓤 H (𝓖 .A) (𝓜 .mem) (𝓡 .run)) 𝓜 𝓡 code.env #release-rows·tell-at tell-def.routine code.calls-release-rows·tell-at (tell-thm.met 𝓤 H 𝓜 𝓖 𝓡))
     (cited 𝓤 H (Pend 𝓤 H (𝓖 .A) (𝓜 .mem) (𝓡 .run)) 𝓜 𝓡 code.env #map-changes·pend-at pend-def.routine code.calls-map-changes·pend-at (pend-thm.met 𝓤 H 𝓜 𝓖 𝓡))
     (cited 𝓤 H (Due 𝓤 H (𝓖 .A) (𝓜 .mem) (𝓡 .run)) 𝓜 𝓡 code.env #clock·due-at due-def.routine code.calls-clock·due-at (due-thm.met 𝓤 H 𝓜 𝓖 𝓡))
-    (cited 𝓤 H (Arm 𝓤 H (𝓖 .A) (𝓜 .mem) (𝓡 .run)) 𝓜 𝓡 code.env #release-at·arm-at arm-def.routine code.calls-release-at·arm-at (arm-thm.met 𝓤 H 𝓜 𝓖 𝓡)))
+    (cited 𝓤 H (Arm 𝓤 H (𝓖 .A) (𝓜 .mem) (𝓡 .run)) 𝓜 𝓡 code.env #release-rows·arm-at arm-def.routine code.calls-release-rows·arm-at (arm-thm.met 𝓤 H 𝓜 𝓖 𝓡)))

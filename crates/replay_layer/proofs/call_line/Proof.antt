@@ -30,12 +30,12 @@ use types.Part.{agg, whole, sub, look-in}
 use types.Run.{look, init, stop, hop, fld, from, load, addr, and-then, no-more, assigns, land, returns, params1, pass1, pass0, free0}
 use Rattle.layer.proofs.Reply as P
 use Rattle.layer.proofs.Reply.Laws as P′
-use Rattle.sample_lines.specs.declared.line.Line.{Line}
-use Rattle.sample_lines.proofs.line.Line as N
-use Rattle.sample_lines.proofs.line.Line.Laws as N′
-use Rattle.replay_layer.specs.declared.session.Session.{Session}
-use Rattle.replay_layer.proofs.session.Session as S
-use Rattle.replay_layer.proofs.session.Session.Laws as S′
+use Rattle.sample_lines.specs.declared.Line.{Line}
+use Rattle.sample_lines.proofs.Line as N
+use Rattle.sample_lines.proofs.Line.Laws as N′
+use Rattle.sample_session.specs.declared.Session.{Session}
+use Rattle.sample_session.proofs.Session as S
+use Rattle.sample_session.proofs.Session.Laws as S′
 use Rattle.records.proofs.Walk.{Loan, Known, lent, sliceOf}
 use Rattle.records.proofs.Locals.{enters, used}
 use Rattle.records.proofs.Calls.{in-seq}
@@ -44,9 +44,9 @@ use Rattle.replay_layer.proofs.Steps.{ReplyLine, Called, reply-line-ste
 use Rattle.replay_layer.proofs.reply_line.Symbol as reply-line-def
 use Rattle.replay_layer.proofs.reply_line.Symbol.{name as #replay-layer·reply-line}
 use Rattle.replay_layer.proofs.reply_line.Met as reply-line-thm
-use Rattle.replay_layer.proofs.session.called.Symbol as called-def
-use Rattle.replay_layer.proofs.session.called.Symbol.{name as #replay-layer·session·called}
-use Rattle.replay_layer.proofs.session.called.Met as called-thm
+use Rattle.sample_session.proofs.called.Symbol as called-def
+use Rattle.sample_session.proofs.called.Symbol.{name as #sample-session·called}
+use Rattle.sample_session.proofs.called.Met as called-thm
 use Rattle.replay_layer.proofs.call_line.Key.{name as #replay-layer·call-line}
 use Rattle.replay_layer.proofs.call_line as walked′
 use Rattle.replay_layer.proofs.call_line.Statement as stated
@@ -54,7 +54,7 @@ use Rattle.replay_layer.proofs.call_line.Code as code
 
 module _ {M : Type 1} (𝓤 : URA M) (H : Heap 𝓤) (A : Atoms 𝓤) (W : Given 𝓤 H A) (mem : Memory → SProp 𝓤) (run : Routine → Fun 𝓤) (𝓣 : Tables 𝓤 H)
     (known-reply-line : Triple 𝓤 (𝓣 .C #replay-layer·reply-line) (ReplyLine 𝓤 H A mem run))
-    (known-called : Triple 𝓤 (𝓣 .C #replay-layer·session·called) (Called 𝓤 H A mem run)) where
+    (known-called : Triple 𝓤 (𝓣 .C #sample-session·called) (Called 𝓤 H A mem run)) where
   module _ (κ κ′ : Lft) (q q′ : Share) (γ γ′ : GName) (b₀ o b′ o′ : ℕ) (ys : List Arena) (us : List ℕ) (s : Session) (l : Line) where
     abbrev L : Loan
     L = record { κ = κ; q = q; γ = γ; b = b₀; o = o; n = length ys }
@@ -105,4 +105,4 @@ call-line-spec 𝓤 H 𝓜 𝓖 𝓡 =
     (tables 𝓤 H 𝓜 𝓡 code.env .C) (tables 𝓤 H 𝓜 𝓡 code.env .Λ) #replay-layer·call-line code.function (code.unfolded 𝓤 H 𝓜 𝓡)
     (call-line-meets 𝓤 H (𝓖 .A) (givenOf 𝓤 H 𝓜 𝓖) (𝓜 .mem) (𝓡 .run) (tablesOf 𝓤 H 𝓜 (tables 𝓤 H 𝓜 𝓡 code.env))
     (cited 𝓤 H (ReplyLine 𝓤 H (𝓖 .A) (𝓜 .mem) (𝓡 .run)) 𝓜 𝓡 code.env #replay-layer·reply-line reply-line-def.routine code.calls-replay-layer·reply-line (reply-line-thm.met 𝓤 H 𝓜 𝓖 𝓡))
-    (cited 𝓤 H (Called 𝓤 H (𝓖 .A) (𝓜 .mem) (𝓡 .run)) 𝓜 𝓡 code.env #replay-layer·session·called called-def.routine code.calls-replay-layer·session·called (called-thm.met 𝓤 H 𝓜 𝓖 𝓡)))
+    (cited 𝓤 H (Called 𝓤 H (𝓖 .A) (𝓜 .mem) (𝓡 .run)) 𝓜 𝓡 code.env #sample-session·called called-def.routine code.calls-sample-session·called (called-thm.met 𝓤 H 𝓜 𝓖 𝓡)))

@@ -29,35 +29,35 @@ use types.Kit.{Given, Sq, prop, ‵, _⊛_, _$_, ! }
 use types.Run.{look, init, stop, from, load, and-then, no-more, land, returns, params1, pass1, pass0, free0}
 use Rattle.layer.proofs.State as Z
 use Rattle.layer.proofs.State.Laws as Z′
-use Rattle.sample_lines.specs.declared.line.Line.{Line}
-use Rattle.sample_lines.proofs.line.Line as N
-use Rattle.sample_lines.proofs.line.Line.Laws as N′
-use Rattle.replay_layer.specs.declared.session.Session.{Session}
-use Rattle.replay_layer.proofs.session.Session as S
-use Rattle.replay_layer.proofs.session.Session.Laws as S′
+use Rattle.sample_lines.specs.declared.Line.{Line}
+use Rattle.sample_lines.proofs.Line as N
+use Rattle.sample_lines.proofs.Line.Laws as N′
+use Rattle.sample_session.specs.declared.Session.{Session}
+use Rattle.sample_session.proofs.Session as S
+use Rattle.sample_session.proofs.Session.Laws as S′
 use Rattle.records.proofs.Walk.{Loan, Known, shared, sliceOf}
 use Rattle.records.proofs.Locals.{enters, used}
 use Rattle.records.proofs.Calls.{in-seq}
 use Rattle.arena_area.proofs.Two.{Done, finish, meets}
 use Rattle.replay_layer.proofs.Steps.{StateOf, Hash, Hashed, state-of-step, hash-step, hashed-step}
-use Rattle.replay_layer.proofs.session.state_of.Symbol as state-of-def
-use Rattle.replay_layer.proofs.session.state_of.Symbol.{name as #replay-layer·session·state-of}
-use Rattle.replay_layer.proofs.session.state_of.Met as state-of-thm
+use Rattle.sample_session.proofs.state_of.Symbol as state-of-def
+use Rattle.sample_session.proofs.state_of.Symbol.{name as #sample-session·state-of}
+use Rattle.sample_session.proofs.state_of.Met as state-of-thm
 use Rattle.sample_state.proofs.hash.Symbol as hash-def
 use Rattle.sample_state.proofs.hash.Symbol.{name as #sample-state·hash}
 use Rattle.sample_state.proofs.hash.Met as hash-thm
-use Rattle.replay_layer.proofs.session.hashed.Symbol as hashed-def
-use Rattle.replay_layer.proofs.session.hashed.Symbol.{name as #replay-layer·session·hashed}
-use Rattle.replay_layer.proofs.session.hashed.Met as hashed-thm
+use Rattle.sample_session.proofs.hashed.Symbol as hashed-def
+use Rattle.sample_session.proofs.hashed.Symbol.{name as #sample-session·hashed}
+use Rattle.sample_session.proofs.hashed.Met as hashed-thm
 use Rattle.replay_layer.proofs.hash_line.Key.{name as #replay-layer·hash-line}
 use Rattle.replay_layer.proofs.hash_line as walked′
 use Rattle.replay_layer.proofs.hash_line.Statement as stated
 use Rattle.replay_layer.proofs.hash_line.Code as code
 
 module _ {M : Type 1} (𝓤 : URA M) (H : Heap 𝓤) (A : Atoms 𝓤) (W : Given 𝓤 H A) (mem : Memory → SProp 𝓤) (run : Routine → Fun 𝓤) (𝓣 : Tables 𝓤 H)
-    (known-state-of : Triple 𝓤 (𝓣 .C #replay-layer·session·state-of) (StateOf 𝓤 H A mem run))
+    (known-state-of : Triple 𝓤 (𝓣 .C #sample-session·state-of) (StateOf 𝓤 H A mem run))
     (known-hash : Triple 𝓤 (𝓣 .C #sample-state·hash) (Hash 𝓤 H A mem run))
-    (known-hashed : Triple 𝓤 (𝓣 .C #replay-layer·session·hashed) (Hashed 𝓤 H A mem run)) where
+    (known-hashed : Triple 𝓤 (𝓣 .C #sample-session·hashed) (Hashed 𝓤 H A mem run)) where
   module _ (κ κ′ : Lft) (q q′ : Share) (γ γ′ : GName) (b₀ o b′ o′ : ℕ) (ys : List Arena) (us : List ℕ) (s : Session) (l : Line) where
     abbrev L : Loan
     L = record { κ = κ; q = q; γ = γ; b = b₀; o = o; n = length ys }
@@ -105,6 +105,6 @@ hash-line-spec 𝓤 H 𝓜 𝓖 𝓡 =
     entered 𝓤 H (tripleOf 𝓤 H (𝓖 .A) walked′.signature (walked′.spec 𝓤 H (𝓖 .A) (𝓜 .mem) (𝓡 .run)))
     (tables 𝓤 H 𝓜 𝓡 code.env .C) (tables 𝓤 H 𝓜 𝓡 code.env .Λ) #replay-layer·hash-line code.function (code.unfolded 𝓤 H 𝓜 𝓡)
     (hash-line-meets 𝓤 H (𝓖 .A) (givenOf 𝓤 H 𝓜 𝓖) (𝓜 .mem) (𝓡 .run) (tablesOf 𝓤 H 𝓜 (tables 𝓤 H 𝓜 𝓡 code.env))
-    (cited 𝓤 H (StateOf 𝓤 H (𝓖 .A) (𝓜 .mem) (𝓡 .run)) 𝓜 𝓡 code.env #replay-layer·session·state-of state-of-def.routine code.calls-replay-layer·session·state-of (state-of-thm.met 𝓤 H 𝓜 𝓖 𝓡))
+    (cited 𝓤 H (StateOf 𝓤 H (𝓖 .A) (𝓜 .mem) (𝓡 .run)) 𝓜 𝓡 code.env #sample-session·state-of state-of-def.routine code.calls-sample-session·state-of (state-of-thm.met 𝓤 H 𝓜 𝓖 𝓡))
     (cited 𝓤 H (Hash 𝓤 H (𝓖 .A) (𝓜 .mem) (𝓡 .run)) 𝓜 𝓡 code.env #sample-state·hash hash-def.routine code.calls-sample-state·hash (hash-thm.met 𝓤 H 𝓜 𝓖 𝓡))
-    (cited 𝓤 H (Hashed 𝓤 H (𝓖 .A) (𝓜 .mem) (𝓡 .run)) 𝓜 𝓡 code.env #replay-layer·session·hashed hashed-def.routine code.calls-replay-layer·session·hashed (hashed-thm.met 𝓤 H 𝓜 𝓖 𝓡)))
+    (cited 𝓤 H (Hashed 𝓤 H (𝓖 .A) (𝓜 .mem) (𝓡 .run)) 𝓜 𝓡 code.env #sample-session·hashed hashed-def.routine code.calls-sample-session·hashed (hashed-thm.met 𝓤 H 𝓜 𝓖 𝓡)))

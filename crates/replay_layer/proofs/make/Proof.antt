@@ -40,35 +40,35 @@ use Rattle.layer.proofs.Settings.Laws as Y′
 use Rattle.layer.specs.declared.Reply.{Reply}
 use Rattle.layer.proofs.Reply as P
 use Rattle.layer.proofs.Reply.Laws as P′
-use Rattle.sample_calls.proofs.Made as X
-use Rattle.sample_calls.proofs.Made.Laws as X′
-use Rattle.replay_layer.specs.declared.session.Call.{Call}
-use Rattle.replay_layer.proofs.session.Call as F
-use Rattle.replay_layer.proofs.session.Call.Laws as F′
+use Rattle.sample_made.proofs.Made as X
+use Rattle.sample_made.proofs.Made.Laws as X′
+use Rattle.sample_session.specs.declared.Call.{Call}
+use Rattle.sample_session.proofs.Call as F
+use Rattle.sample_session.proofs.Call.Laws as F′
 use Rattle.sample_calls.proofs.Steps.{Call as CallMade, call-step}
 use Rattle.records.proofs.Walk.{Loan, Known, lent, sliceOf}
 use Rattle.records.proofs.Locals.{enters, used}
 use Rattle.records.proofs.Calls.{in-seq}
 use Rattle.records.proofs.Frame.{Done2, finish2, mut2-meets}
 use Rattle.replay_layer.proofs.Steps.{StateIn, NsIn, SettingsIn, ToldIn, QuestionIn, MadeIn, state-in-step, ns-in-step, settings-in-step, told-in-step, question-in-step, made-in-step}
-use Rattle.replay_layer.proofs.session.state_in.Symbol as state-in-def
-use Rattle.replay_layer.proofs.session.state_in.Symbol.{name as #replay-layer·session·state-in}
-use Rattle.replay_layer.proofs.session.state_in.Met as state-in-thm
-use Rattle.replay_layer.proofs.session.ns_in.Symbol as ns-in-def
-use Rattle.replay_layer.proofs.session.ns_in.Symbol.{name as #replay-layer·session·ns-in}
-use Rattle.replay_layer.proofs.session.ns_in.Met as ns-in-thm
-use Rattle.replay_layer.proofs.session.settings_in.Symbol as settings-in-def
-use Rattle.replay_layer.proofs.session.settings_in.Symbol.{name as #replay-layer·session·settings-in}
-use Rattle.replay_layer.proofs.session.settings_in.Met as settings-in-thm
-use Rattle.replay_layer.proofs.session.told_in.Symbol as told-in-def
-use Rattle.replay_layer.proofs.session.told_in.Symbol.{name as #replay-layer·session·told-in}
-use Rattle.replay_layer.proofs.session.told_in.Met as told-in-thm
-use Rattle.replay_layer.proofs.session.question_in.Symbol as question-in-def
-use Rattle.replay_layer.proofs.session.question_in.Symbol.{name as #replay-layer·session·question-in}
-use Rattle.replay_layer.proofs.session.question_in.Met as question-in-thm
-use Rattle.replay_layer.proofs.session.made_in.Symbol as made-in-def
-use Rattle.replay_layer.proofs.session.made_in.Symbol.{name as #replay-layer·session·made-in}
-use Rattle.replay_layer.proofs.session.made_in.Met as made-in-thm
+use Rattle.sample_session.proofs.state_in.Symbol as state-in-def
+use Rattle.sample_session.proofs.state_in.Symbol.{name as #sample-session·state-in}
+use Rattle.sample_session.proofs.state_in.Met as state-in-thm
+use Rattle.sample_session.proofs.ns_in.Symbol as ns-in-def
+use Rattle.sample_session.proofs.ns_in.Symbol.{name as #sample-session·ns-in}
+use Rattle.sample_session.proofs.ns_in.Met as ns-in-thm
+use Rattle.sample_session.proofs.settings_in.Symbol as settings-in-def
+use Rattle.sample_session.proofs.settings_in.Symbol.{name as #sample-session·settings-in}
+use Rattle.sample_session.proofs.settings_in.Met as settings-in-thm
+use Rattle.sample_session.proofs.told_in.Symbol as told-in-def
+use Rattle.sample_session.proofs.told_in.Symbol.{name as #sample-session·told-in}
+use Rattle.sample_session.proofs.told_in.Met as told-in-thm
+use Rattle.sample_session.proofs.question_in.Symbol as question-in-def
+use Rattle.sample_session.proofs.question_in.Symbol.{name as #sample-session·question-in}
+use Rattle.sample_session.proofs.question_in.Met as question-in-thm
+use Rattle.sample_session.proofs.made_in.Symbol as made-in-def
+use Rattle.sample_session.proofs.made_in.Symbol.{name as #sample-session·made-in}
+use Rattle.sample_session.proofs.made_in.Met as made-in-thm
 use Rattle.sample_calls.proofs.call.Symbol as call-def
 use Rattle.sample_calls.proofs.call.Symbol.{name as #sample-calls·call}
 use Rattle.sample_calls.proofs.call.Met as call-thm
@@ -78,12 +78,12 @@ use Rattle.replay_layer.proofs.make.Statement as stated
 use Rattle.replay_layer.proofs.make.Code as code
 
 module _ {M : Type 1} (𝓤 : URA M) (H : Heap 𝓤) (A : Atoms 𝓤) (W : Given 𝓤 H A) (mem : Memory → SProp 𝓤) (run : Routine → Fun 𝓤) (𝓣 : Tables 𝓤 H)
-    (known-state-in : Triple 𝓤 (𝓣 .C #replay-layer·session·state-in) (StateIn 𝓤 H A mem run))
-    (known-ns-in : Triple 𝓤 (𝓣 .C #replay-layer·session·ns-in) (NsIn 𝓤 H A mem run))
-    (known-settings-in : Triple 𝓤 (𝓣 .C #replay-layer·session·settings-in) (SettingsIn 𝓤 H A mem run))
-    (known-told-in : Triple 𝓤 (𝓣 .C #replay-layer·session·told-in) (ToldIn 𝓤 H A mem run))
-    (known-question-in : Triple 𝓤 (𝓣 .C #replay-layer·session·question-in) (QuestionIn 𝓤 H A mem run))
-    (known-made-in : Triple 𝓤 (𝓣 .C #replay-layer·session·made-in) (MadeIn 𝓤 H A mem run))
+    (known-state-in : Triple 𝓤 (𝓣 .C #sample-session·state-in) (StateIn 𝓤 H A mem run))
+    (known-ns-in : Triple 𝓤 (𝓣 .C #sample-session·ns-in) (NsIn 𝓤 H A mem run))
+    (known-settings-in : Triple 𝓤 (𝓣 .C #sample-session·settings-in) (SettingsIn 𝓤 H A mem run))
+    (known-told-in : Triple 𝓤 (𝓣 .C #sample-session·told-in) (ToldIn 𝓤 H A mem run))
+    (known-question-in : Triple 𝓤 (𝓣 .C #sample-session·question-in) (QuestionIn 𝓤 H A mem run))
+    (known-made-in : Triple 𝓤 (𝓣 .C #sample-session·made-in) (MadeIn 𝓤 H A mem run))
     (known-call : Triple 𝓤 (𝓣 .C #sample-calls·call) (CallMade 𝓤 H A mem run)) where
   module _ (κ κ′ : Lft) (q q′ : Share) (γ γ′ : GName) (b₀ o b′ o′ : ℕ) (ys : List Arena) (us : List ℕ) (c : Call) where
     abbrev L : Loan
@@ -141,10 +141,10 @@ make-spec 𝓤 H 𝓜 𝓖 𝓡 =
     entered 𝓤 H (tripleOf 𝓤 H (𝓖 .A) walked′.signature (walked′.spec 𝓤 H (𝓖 .A) (𝓜 .mem) (𝓡 .run)))
     (tables 𝓤 H 𝓜 𝓡 code.env .C) (tables 𝓤 H 𝓜 𝓡 code.env .Λ) #replay-layer·make code.function (code.unfolded 𝓤 H 𝓜 𝓡)
     (make-meets 𝓤 H (𝓖 .A) (givenOf 𝓤 H 𝓜 𝓖) (𝓜 .mem) (𝓡 .run) (tablesOf 𝓤 H 𝓜 (tables 𝓤 H 𝓜 𝓡 code.env))
-    (cited 𝓤 H (StateIn 𝓤 H (𝓖 .A) (𝓜 .mem) (𝓡 .run)) 𝓜 𝓡 code.env #replay-layer·session·state-in state-in-def.routine code.calls-replay-layer·session·state-in (state-in-thm.met 𝓤 H 𝓜 𝓖 𝓡))
-    (cited 𝓤 H (NsIn 𝓤 H (𝓖 .A) (𝓜 .mem) (𝓡 .run)) 𝓜 𝓡 code.env #replay-layer·session·ns-in ns-in-def.routine code.calls-replay-layer·session·ns-in (ns-in-thm.met 𝓤 H 𝓜 𝓖 𝓡))
-    (cited 𝓤 H (SettingsIn 𝓤 H (𝓖 .A) (𝓜 .mem) (𝓡 .run)) 𝓜 𝓡 code.env #replay-layer·session·settings-in settings-in-def.routine code.calls-replay-layer·session·settings-in (settings-in-thm.met 𝓤 H 𝓜 𝓖 𝓡))
-    (cited 𝓤 H (ToldIn 𝓤 H (𝓖 .A) (𝓜 .mem) (𝓡 .run)) 𝓜 𝓡 code.env #replay-layer·session·told-in told-in-def.routine code.calls-replay-layer·session·told-in (told-in-thm.met 𝓤 H 𝓜 𝓖 𝓡))
-    (cited 𝓤 H (QuestionIn 𝓤 H (𝓖 .A) (𝓜 .mem) (𝓡 .run)) 𝓜 𝓡 code.env #replay-layer·session·question-in question-in-def.routine code.calls-replay-layer·session·question-in (question-in-thm.met 𝓤 H 𝓜 𝓖 𝓡))
-    (cited 𝓤 H (MadeIn 𝓤 H (𝓖 .A) (𝓜 .mem) (𝓡 .run)) 𝓜 𝓡 code.env #replay-layer·session·made-in made-in-def.routine code.calls-replay-layer·session·made-in (made-in-thm.met 𝓤 H 𝓜 𝓖 𝓡))
+    (cited 𝓤 H (StateIn 𝓤 H (𝓖 .A) (𝓜 .mem) (𝓡 .run)) 𝓜 𝓡 code.env #sample-session·state-in state-in-def.routine code.calls-sample-session·state-in (state-in-thm.met 𝓤 H 𝓜 𝓖 𝓡))
+    (cited 𝓤 H (NsIn 𝓤 H (𝓖 .A) (𝓜 .mem) (𝓡 .run)) 𝓜 𝓡 code.env #sample-session·ns-in ns-in-def.routine code.calls-sample-session·ns-in (ns-in-thm.met 𝓤 H 𝓜 𝓖 𝓡))
+    (cited 𝓤 H (SettingsIn 𝓤 H (𝓖 .A) (𝓜 .mem) (𝓡 .run)) 𝓜 𝓡 code.env #sample-session·settings-in settings-in-def.routine code.calls-sample-session·settings-in (settings-in-thm.met 𝓤 H 𝓜 𝓖 𝓡))
+    (cited 𝓤 H (ToldIn 𝓤 H (𝓖 .A) (𝓜 .mem) (𝓡 .run)) 𝓜 𝓡 code.env #sample-session·told-in told-in-def.routine code.calls-sample-session·told-in (told-in-thm.met 𝓤 H 𝓜 𝓖 𝓡))
+    (cited 𝓤 H (QuestionIn 𝓤 H (𝓖 .A) (𝓜 .mem) (𝓡 .run)) 𝓜 𝓡 code.env #sample-session·question-in question-in-def.routine code.calls-sample-session·question-in (question-in-thm.met 𝓤 H 𝓜 𝓖 𝓡))
+    (cited 𝓤 H (MadeIn 𝓤 H (𝓖 .A) (𝓜 .mem) (𝓡 .run)) 𝓜 𝓡 code.env #sample-session·made-in made-in-def.routine code.calls-sample-session·made-in (made-in-thm.met 𝓤 H 𝓜 𝓖 𝓡))
     (cited 𝓤 H (CallMade 𝓤 H (𝓖 .A) (𝓜 .mem) (𝓡 .run)) 𝓜 𝓡 code.env #sample-calls·call call-def.routine code.calls-sample-calls·call (call-thm.met 𝓤 H 𝓜 𝓖 𝓡)))

@@ -28,44 +28,44 @@ use prog.Wp.{Heap, WpFn, Tables}
 use types.Kit.{Given, Sq, prop, ‵, _⊛_, _$_, ! }
 use types.Part.{agg, whole, sub, look-in}
 use types.Run.{look, init, stop, hop, fld, from, load, addr, and-then, no-more, assigns, land, returns, returns-within, params1, pass1, pass0, free0}
-use Rattle.sample_lines.specs.declared.line.Line.{Line}
-use Rattle.sample_lines.proofs.line.Line as N
-use Rattle.sample_lines.proofs.line.Line.Laws as N′
-use Rattle.replay_layer.specs.declared.session.Session.{Session}
-use Rattle.replay_layer.proofs.session.Session as S
-use Rattle.replay_layer.proofs.session.Session.Laws as S′
+use Rattle.sample_lines.specs.declared.Line.{Line}
+use Rattle.sample_lines.proofs.Line as N
+use Rattle.sample_lines.proofs.Line.Laws as N′
+use Rattle.sample_session.specs.declared.Session.{Session}
+use Rattle.sample_session.proofs.Session as S
+use Rattle.sample_session.proofs.Session.Laws as S′
 use Rattle.sample_calls.proofs.Shares.{shrLoan, shares-both, unshares-both}
 use Rattle.records.proofs.Walk.{Loan, Known, lent, sliceOf}
 use Rattle.records.proofs.Locals.{enters, used, room, if-else}
 use Rattle.records.proofs.Calls.{in-seq}
 use Rattle.records.proofs.Frame.{Done2, finish2, mut2-meets}
 use Rattle.replay_layer.proofs.Steps.{IsCall, CallLine, IsHash, HashLine, Noted, is-call-step, call-line-step, is-hash-step, hash-line-step, noted-step}
-use Rattle.replay_layer.proofs.session.is_call.Symbol as is-call-def
-use Rattle.replay_layer.proofs.session.is_call.Symbol.{name as #replay-layer·session·is-call}
-use Rattle.replay_layer.proofs.session.is_call.Met as is-call-thm
+use Rattle.sample_session.proofs.is_call.Symbol as is-call-def
+use Rattle.sample_session.proofs.is_call.Symbol.{name as #sample-session·is-call}
+use Rattle.sample_session.proofs.is_call.Met as is-call-thm
 use Rattle.replay_layer.proofs.call_line.Symbol as call-line-def
 use Rattle.replay_layer.proofs.call_line.Symbol.{name as #replay-layer·call-line}
 use Rattle.replay_layer.proofs.call_line.Met as call-line-thm
-use Rattle.replay_layer.proofs.session.is_hash.Symbol as is-hash-def
-use Rattle.replay_layer.proofs.session.is_hash.Symbol.{name as #replay-layer·session·is-hash}
-use Rattle.replay_layer.proofs.session.is_hash.Met as is-hash-thm
+use Rattle.sample_session.proofs.is_hash.Symbol as is-hash-def
+use Rattle.sample_session.proofs.is_hash.Symbol.{name as #sample-session·is-hash}
+use Rattle.sample_session.proofs.is_hash.Met as is-hash-thm
 use Rattle.replay_layer.proofs.hash_line.Symbol as hash-line-def
 use Rattle.replay_layer.proofs.hash_line.Symbol.{name as #replay-layer·hash-line}
 use Rattle.replay_layer.proofs.hash_line.Met as hash-line-thm
-use Rattle.replay_layer.proofs.session.noted.Symbol as noted-def
-use Rattle.replay_layer.proofs.session.noted.Symbol.{name as #replay-layer·session·noted}
-use Rattle.replay_layer.proofs.session.noted.Met as noted-thm
+use Rattle.sample_session.proofs.noted.Symbol as noted-def
+use Rattle.sample_session.proofs.noted.Symbol.{name as #sample-session·noted}
+use Rattle.sample_session.proofs.noted.Met as noted-thm
 use Rattle.replay_layer.proofs.replay_line.Key.{name as #replay-layer·replay-line}
 use Rattle.replay_layer.proofs.replay_line as walked′
 use Rattle.replay_layer.proofs.replay_line.Statement as stated
 use Rattle.replay_layer.proofs.replay_line.Code as code
 
 module _ {M : Type 1} (𝓤 : URA M) (H : Heap 𝓤) (A : Atoms 𝓤) (W : Given 𝓤 H A) (mem : Memory → SProp 𝓤) (run : Routine → Fun 𝓤) (𝓣 : Tables 𝓤 H)
-    (known-is-call : Triple 𝓤 (𝓣 .C #replay-layer·session·is-call) (IsCall 𝓤 H A mem run))
+    (known-is-call : Triple 𝓤 (𝓣 .C #sample-session·is-call) (IsCall 𝓤 H A mem run))
     (known-call-line : Triple 𝓤 (𝓣 .C #replay-layer·call-line) (CallLine 𝓤 H A mem run))
-    (known-is-hash : Triple 𝓤 (𝓣 .C #replay-layer·session·is-hash) (IsHash 𝓤 H A mem run))
+    (known-is-hash : Triple 𝓤 (𝓣 .C #sample-session·is-hash) (IsHash 𝓤 H A mem run))
     (known-hash-line : Triple 𝓤 (𝓣 .C #replay-layer·hash-line) (HashLine 𝓤 H A mem run))
-    (known-noted : Triple 𝓤 (𝓣 .C #replay-layer·session·noted) (Noted 𝓤 H A mem run)) where
+    (known-noted : Triple 𝓤 (𝓣 .C #sample-session·noted) (Noted 𝓤 H A mem run)) where
   module _ (κ κ′ : Lft) (q q′ : Share) (γ γ′ : GName) (b₀ o b′ o′ : ℕ) (ys : List Arena) (us : List ℕ) (s : Session) (l : Line) where
     abbrev L : Loan
     L = record { κ = κ; q = q; γ = γ; b = b₀; o = o; n = length ys }
@@ -133,8 +133,8 @@ replay-line-spec 𝓤 H 𝓜 𝓖 𝓡 =
     entered 𝓤 H (tripleOf 𝓤 H (𝓖 .A) walked′.signature (walked′.spec 𝓤 H (𝓖 .A) (𝓜 .mem) (𝓡 .run)))
     (tables 𝓤 H 𝓜 𝓡 code.env .C) (tables 𝓤 H 𝓜 𝓡 code.env .Λ) #replay-layer·replay-line code.function (code.unfolded 𝓤 H 𝓜 𝓡)
     (replay-line-meets 𝓤 H (𝓖 .A) (givenOf 𝓤 H 𝓜 𝓖) (𝓜 .mem) (𝓡 .run) (tablesOf 𝓤 H 𝓜 (tables 𝓤 H 𝓜 𝓡 code.env))
-    (cited 𝓤 H (IsCall 𝓤 H (𝓖 .A) (𝓜 .mem) (𝓡 .run)) 𝓜 𝓡 code.env #replay-layer·session·is-call is-call-def.routine code.calls-replay-layer·session·is-call (is-call-thm.met 𝓤 H 𝓜 𝓖 𝓡))
+    (cited 𝓤 H (IsCall 𝓤 H (𝓖 .A) (𝓜 .mem) (𝓡 .run)) 𝓜 𝓡 code.env #sample-session·is-call is-call-def.routine code.calls-sample-session·is-call (is-call-thm.met 𝓤 H 𝓜 𝓖 𝓡))
     (cited 𝓤 H (CallLine 𝓤 H (𝓖 .A) (𝓜 .mem) (𝓡 .run)) 𝓜 𝓡 code.env #replay-layer·call-line call-line-def.routine code.calls-replay-layer·call-line (call-line-thm.met 𝓤 H 𝓜 𝓖 𝓡))
-    (cited 𝓤 H (IsHash 𝓤 H (𝓖 .A) (𝓜 .mem) (𝓡 .run)) 𝓜 𝓡 code.env #replay-layer·session·is-hash is-hash-def.routine code.calls-replay-layer·session·is-hash (is-hash-thm.met 𝓤 H 𝓜 𝓖 𝓡))
+    (cited 𝓤 H (IsHash 𝓤 H (𝓖 .A) (𝓜 .mem) (𝓡 .run)) 𝓜 𝓡 code.env #sample-session·is-hash is-hash-def.routine code.calls-sample-session·is-hash (is-hash-thm.met 𝓤 H 𝓜 𝓖 𝓡))
     (cited 𝓤 H (HashLine 𝓤 H (𝓖 .A) (𝓜 .mem) (𝓡 .run)) 𝓜 𝓡 code.env #replay-layer·hash-line hash-line-def.routine code.calls-replay-layer·hash-line (hash-line-thm.met 𝓤 H 𝓜 𝓖 𝓡))
-    (cited 𝓤 H (Noted 𝓤 H (𝓖 .A) (𝓜 .mem) (𝓡 .run)) 𝓜 𝓡 code.env #replay-layer·session·noted noted-def.routine code.calls-replay-layer·session·noted (noted-thm.met 𝓤 H 𝓜 𝓖 𝓡)))
+    (cited 𝓤 H (Noted 𝓤 H (𝓖 .A) (𝓜 .mem) (𝓡 .run)) 𝓜 𝓡 code.env #sample-session·noted noted-def.routine code.calls-sample-session·noted (noted-thm.met 𝓤 H 𝓜 𝓖 𝓡)))

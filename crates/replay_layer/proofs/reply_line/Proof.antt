@@ -31,22 +31,22 @@ use types.Run.{look, init, stop, hop, fld, from, load, addr, and-then, no-more, 
 use Rattle.layer.specs.declared.Reply.{Reply}
 use Rattle.layer.proofs.Reply as P
 use Rattle.layer.proofs.Reply.Laws as P′
-use Rattle.sample_lines.specs.declared.line.Line.{Line}
-use Rattle.sample_lines.proofs.line.Line as N
-use Rattle.sample_lines.proofs.line.Line.Laws as N′
-use Rattle.replay_layer.proofs.session.Call as F
-use Rattle.replay_layer.proofs.session.Call.Laws as F′
-use Rattle.replay_layer.specs.declared.session.Session.{Session}
-use Rattle.replay_layer.proofs.session.Session as S
-use Rattle.replay_layer.proofs.session.Session.Laws as S′
+use Rattle.sample_lines.specs.declared.Line.{Line}
+use Rattle.sample_lines.proofs.Line as N
+use Rattle.sample_lines.proofs.Line.Laws as N′
+use Rattle.sample_session.proofs.Call as F
+use Rattle.sample_session.proofs.Call.Laws as F′
+use Rattle.sample_session.specs.declared.Session.{Session}
+use Rattle.sample_session.proofs.Session as S
+use Rattle.sample_session.proofs.Session.Laws as S′
 use Rattle.records.proofs.Walk.{Loan, Known, lent, sliceOf}
 use Rattle.records.proofs.Locals.{enters, used}
 use Rattle.records.proofs.Calls.{in-seq}
 use Rattle.records.proofs.Frame.{Done2, finish2, mut2-meets}
 use Rattle.replay_layer.proofs.Steps.{CallOf, Make, call-of-step, make-step}
-use Rattle.replay_layer.proofs.session.call_of.Symbol as call-of-def
-use Rattle.replay_layer.proofs.session.call_of.Symbol.{name as #replay-layer·session·call-of}
-use Rattle.replay_layer.proofs.session.call_of.Met as call-of-thm
+use Rattle.sample_session.proofs.call_of.Symbol as call-of-def
+use Rattle.sample_session.proofs.call_of.Symbol.{name as #sample-session·call-of}
+use Rattle.sample_session.proofs.call_of.Met as call-of-thm
 use Rattle.replay_layer.proofs.make.Symbol as make-def
 use Rattle.replay_layer.proofs.make.Symbol.{name as #replay-layer·make}
 use Rattle.replay_layer.proofs.make.Met as make-thm
@@ -56,7 +56,7 @@ use Rattle.replay_layer.proofs.reply_line.Statement as stated
 use Rattle.replay_layer.proofs.reply_line.Code as code
 
 module _ {M : Type 1} (𝓤 : URA M) (H : Heap 𝓤) (A : Atoms 𝓤) (W : Given 𝓤 H A) (mem : Memory → SProp 𝓤) (run : Routine → Fun 𝓤) (𝓣 : Tables 𝓤 H)
-    (known-call-of : Triple 𝓤 (𝓣 .C #replay-layer·session·call-of) (CallOf 𝓤 H A mem run))
+    (known-call-of : Triple 𝓤 (𝓣 .C #sample-session·call-of) (CallOf 𝓤 H A mem run))
     (known-make : Triple 𝓤 (𝓣 .C #replay-layer·make) (Make 𝓤 H A mem run)) where
   module _ (κ κ′ : Lft) (q q′ : Share) (γ γ′ : GName) (b₀ o b′ o′ : ℕ) (ys : List Arena) (us : List ℕ) (s : Session) (l : Line) where
     abbrev L : Loan
@@ -107,5 +107,5 @@ reply-line-spec 𝓤 H 𝓜 𝓖 𝓡 =
     entered 𝓤 H (tripleOf 𝓤 H (𝓖 .A) walked′.signature (walked′.spec 𝓤 H (𝓖 .A) (𝓜 .mem) (𝓡 .run)))
     (tables 𝓤 H 𝓜 𝓡 code.env .C) (tables 𝓤 H 𝓜 𝓡 code.env .Λ) #replay-layer·reply-line code.function (code.unfolded 𝓤 H 𝓜 𝓡)
     (reply-line-meets 𝓤 H (𝓖 .A) (givenOf 𝓤 H 𝓜 𝓖) (𝓜 .mem) (𝓡 .run) (tablesOf 𝓤 H 𝓜 (tables 𝓤 H 𝓜 𝓡 code.env))
-    (cited 𝓤 H (CallOf 𝓤 H (𝓖 .A) (𝓜 .mem) (𝓡 .run)) 𝓜 𝓡 code.env #replay-layer·session·call-of call-of-def.routine code.calls-replay-layer·session·call-of (call-of-thm.met 𝓤 H 𝓜 𝓖 𝓡))
+    (cited 𝓤 H (CallOf 𝓤 H (𝓖 .A) (𝓜 .mem) (𝓡 .run)) 𝓜 𝓡 code.env #sample-session·call-of call-of-def.routine code.calls-sample-session·call-of (call-of-thm.met 𝓤 H 𝓜 𝓖 𝓡))
     (cited 𝓤 H (Make 𝓤 H (𝓖 .A) (𝓜 .mem) (𝓡 .run)) 𝓜 𝓡 code.env #replay-layer·make make-def.routine code.calls-replay-layer·make (make-thm.met 𝓤 H 𝓜 𝓖 𝓡)))

@@ -53,35 +53,36 @@ use Rattle.records.proofs.Walk.{Loan, Known, lent, sliceOf}
 use Rattle.records.proofs.Locals.{enters, used, room, if-else}
 use Rattle.records.proofs.Calls.{in-seq}
 use Rattle.records.proofs.Frame.{Done2, finish2, mut2-meets}
-use Rattle.sample_calls.specs.declared.Made.{Made}
+use Rattle.sample_made.specs.declared.Made.{Made}
 use Rattle.sample_calls.specs.Calls.{callOf}
-use Rattle.sample_calls.proofs.Made as X
-use Rattle.sample_calls.proofs.Made.Laws as X′
-use Rattle.sample_calls.proofs.CallLaws.{taken, passed, asking-leaves}
+use Rattle.sample_made.proofs.Made as X
+use Rattle.sample_made.proofs.Made.Laws as X′
+use Rattle.sample_made.proofs.Choices.{taken, passed}
+use Rattle.sample_asks.proofs.AskLaws.{asking-leaves}
 use Rattle.sample_calls.proofs.Shares.{shrLoan, shares-both, unshares-both}
 use Rattle.sample_calls.proofs.Steps.{Registers, Claims, Changes, Asks, registers-step, claims-step, changes-step, asks-step}
-use Rattle.sample_calls.proofs.registers.Symbol as registers-def
-use Rattle.sample_calls.proofs.registers.Symbol.{name as #sample-calls·registers}
-use Rattle.sample_calls.proofs.registers.Met as registers-thm
-use Rattle.sample_calls.proofs.claims.Symbol as claims-def
-use Rattle.sample_calls.proofs.claims.Symbol.{name as #sample-calls·claims}
-use Rattle.sample_calls.proofs.claims.Met as claims-thm
-use Rattle.sample_calls.proofs.changes.Symbol as changes-def
-use Rattle.sample_calls.proofs.changes.Symbol.{name as #sample-calls·changes}
-use Rattle.sample_calls.proofs.changes.Met as changes-thm
-use Rattle.sample_calls.proofs.asks.Symbol as asks-def
-use Rattle.sample_calls.proofs.asks.Symbol.{name as #sample-calls·asks}
-use Rattle.sample_calls.proofs.asks.Met as asks-thm
+use Rattle.sample_registers.proofs.registers.Symbol as registers-def
+use Rattle.sample_registers.proofs.registers.Symbol.{name as #sample-registers·registers}
+use Rattle.sample_registers.proofs.registers.Met as registers-thm
+use Rattle.sample_claims.proofs.claims.Symbol as claims-def
+use Rattle.sample_claims.proofs.claims.Symbol.{name as #sample-claims·claims}
+use Rattle.sample_claims.proofs.claims.Met as claims-thm
+use Rattle.sample_changes.proofs.changes.Symbol as changes-def
+use Rattle.sample_changes.proofs.changes.Symbol.{name as #sample-changes·changes}
+use Rattle.sample_changes.proofs.changes.Met as changes-thm
+use Rattle.sample_asks.proofs.asks.Symbol as asks-def
+use Rattle.sample_asks.proofs.asks.Symbol.{name as #sample-asks·asks}
+use Rattle.sample_asks.proofs.asks.Met as asks-thm
 use Rattle.sample_calls.proofs.call.Key.{name as #sample-calls·call}
 use Rattle.sample_calls.proofs.call as call′
 use Rattle.sample_calls.proofs.call.Statement as stated
 use Rattle.sample_calls.proofs.call.Code as code
 
 module _ {M : Type 1} (𝓤 : URA M) (H : Heap 𝓤) (A : Atoms 𝓤) (W : Given 𝓤 H A) (mem : Memory → SProp 𝓤) (run : Routine → Fun 𝓤) (𝓣 : Tables 𝓤 H)
-    (known-registers : Triple 𝓤 (𝓣 .C #sample-calls·registers) (Registers 𝓤 H A mem run))
-    (known-claims : Triple 𝓤 (𝓣 .C #sample-calls·claims) (Claims 𝓤 H A mem run))
-    (known-changes : Triple 𝓤 (𝓣 .C #sample-calls·changes) (Changes 𝓤 H A mem run))
-    (known-asks : Triple 𝓤 (𝓣 .C #sample-calls·asks) (Asks 𝓤 H A mem run)) where
+    (known-registers : Triple 𝓤 (𝓣 .C #sample-registers·registers) (Registers 𝓤 H A mem run))
+    (known-claims : Triple 𝓤 (𝓣 .C #sample-claims·claims) (Claims 𝓤 H A mem run))
+    (known-changes : Triple 𝓤 (𝓣 .C #sample-changes·changes) (Changes 𝓤 H A mem run))
+    (known-asks : Triple 𝓤 (𝓣 .C #sample-asks·asks) (Asks 𝓤 H A mem run)) where
   module _ (κ κ′ : Lft) (q q′ : Share) (γ γ′ : GName) (b o b′ o′ : ℕ) (ys : List Arena) (us : List ℕ) (z : State) (ns : ℕ) (s : Settings) (told : Commitment) (question : Kind) (c : Made) where
     abbrev L : Loan
     L = record { κ = κ; q = q; γ = γ; b = b; o = o; n = length ys }
@@ -177,7 +178,7 @@ call-spec 𝓤 H 𝓜 𝓖 𝓡 =
     entered 𝓤 H (tripleOf 𝓤 H (𝓖 .A) call′.signature (call′.spec 𝓤 H (𝓖 .A) (𝓜 .mem) (𝓡 .run)))
     (tables 𝓤 H 𝓜 𝓡 code.env .C) (tables 𝓤 H 𝓜 𝓡 code.env .Λ) #sample-calls·call code.function (code.unfolded 𝓤 H 𝓜 𝓡)
     (call-meets 𝓤 H (𝓖 .A) (givenOf 𝓤 H 𝓜 𝓖) (𝓜 .mem) (𝓡 .run) (tablesOf 𝓤 H 𝓜 (tables 𝓤 H 𝓜 𝓡 code.env))
-    (cited 𝓤 H (Registers 𝓤 H (𝓖 .A) (𝓜 .mem) (𝓡 .run)) 𝓜 𝓡 code.env #sample-calls·registers registers-def.routine code.calls-sample-calls·registers (registers-thm.met 𝓤 H 𝓜 𝓖 𝓡))
-    (cited 𝓤 H (Claims 𝓤 H (𝓖 .A) (𝓜 .mem) (𝓡 .run)) 𝓜 𝓡 code.env #sample-calls·claims claims-def.routine code.calls-sample-calls·claims (claims-thm.met 𝓤 H 𝓜 𝓖 𝓡))
-    (cited 𝓤 H (Changes 𝓤 H (𝓖 .A) (𝓜 .mem) (𝓡 .run)) 𝓜 𝓡 code.env #sample-calls·changes changes-def.routine code.calls-sample-calls·changes (changes-thm.met 𝓤 H 𝓜 𝓖 𝓡))
-    (cited 𝓤 H (Asks 𝓤 H (𝓖 .A) (𝓜 .mem) (𝓡 .run)) 𝓜 𝓡 code.env #sample-calls·asks asks-def.routine code.calls-sample-calls·asks (asks-thm.met 𝓤 H 𝓜 𝓖 𝓡)))
+    (cited 𝓤 H (Registers 𝓤 H (𝓖 .A) (𝓜 .mem) (𝓡 .run)) 𝓜 𝓡 code.env #sample-registers·registers registers-def.routine code.calls-sample-registers·registers (registers-thm.met 𝓤 H 𝓜 𝓖 𝓡))
+    (cited 𝓤 H (Claims 𝓤 H (𝓖 .A) (𝓜 .mem) (𝓡 .run)) 𝓜 𝓡 code.env #sample-claims·claims claims-def.routine code.calls-sample-claims·claims (claims-thm.met 𝓤 H 𝓜 𝓖 𝓡))
+    (cited 𝓤 H (Changes 𝓤 H (𝓖 .A) (𝓜 .mem) (𝓡 .run)) 𝓜 𝓡 code.env #sample-changes·changes changes-def.routine code.calls-sample-changes·changes (changes-thm.met 𝓤 H 𝓜 𝓖 𝓡))
+    (cited 𝓤 H (Asks 𝓤 H (𝓖 .A) (𝓜 .mem) (𝓡 .run)) 𝓜 𝓡 code.env #sample-asks·asks asks-def.routine code.calls-sample-asks·asks (asks-thm.met 𝓤 H 𝓜 𝓖 𝓡)))

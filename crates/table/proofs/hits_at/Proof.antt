@@ -60,9 +60,9 @@ use Rattle.maps.proofs.Passes.{RunAt, TailsClear, run-at-pass, tails-clear-pass
 use Rattle.table.proofs.head_or.Symbol as head-def
 use Rattle.table.proofs.head_or.Symbol.{name as #table·head-or}
 use Rattle.table.proofs.head_or.Met as head-thm
-use Rattle.judge.proofs.run_asked.Symbol as asked-def
-use Rattle.judge.proofs.run_asked.Symbol.{name as #judge·run-asked}
-use Rattle.judge.proofs.run_asked.Met as asked-thm
+use Rattle.serving.proofs.run_asked.Symbol as asked-def
+use Rattle.serving.proofs.run_asked.Symbol.{name as #serving·run-asked}
+use Rattle.serving.proofs.run_asked.Met as asked-thm
 use Rattle.judge.proofs.chunks_of.Symbol as chunks-def
 use Rattle.judge.proofs.chunks_of.Symbol.{name as #judge·chunks-of}
 use Rattle.judge.proofs.chunks_of.Met as chunks-thm
@@ -72,15 +72,15 @@ use Rattle.maps.proofs.run_at.Met as run-thm
 use Rattle.row_parts.proofs.is_at.Symbol as is-at-def
 use Rattle.row_parts.proofs.is_at.Symbol.{name as #row-parts·is-at}
 use Rattle.row_parts.proofs.is_at.Met as is-at-thm
-use Rattle.judge.proofs.asks_tails.Symbol as asks-def
-use Rattle.judge.proofs.asks_tails.Symbol.{name as #judge·asks-tails}
-use Rattle.judge.proofs.asks_tails.Met as asks-thm
+use Rattle.heads.proofs.asks_tails.Symbol as asks-def
+use Rattle.heads.proofs.asks_tails.Symbol.{name as #heads·asks-tails}
+use Rattle.heads.proofs.asks_tails.Met as asks-thm
 use Rattle.maps.proofs.tails_clear_at.Symbol as tails-def
 use Rattle.maps.proofs.tails_clear_at.Symbol.{name as #maps·tails-clear-at}
 use Rattle.maps.proofs.tails_clear_at.Met as tails-thm
-use Rattle.judge.proofs.hit_head.Symbol as top-def
-use Rattle.judge.proofs.hit_head.Symbol.{name as #judge·hit-head}
-use Rattle.judge.proofs.hit_head.Met as top-thm
+use Rattle.heads.proofs.hit_head.Symbol as top-def
+use Rattle.heads.proofs.hit_head.Symbol.{name as #heads·hit-head}
+use Rattle.heads.proofs.hit_head.Met as top-thm
 use Rattle.table.proofs.hits_at.Key.{name as #table·hits-at}
 use Rattle.table.proofs.hits_at as hits′
 use Rattle.table.proofs.hits_at.Statement as stated
@@ -98,10 +98,10 @@ asks-none : (n : ℕ) → Holds (not (ltb 0 n)) → n ≡ 0
 asks-none n h = let l = nltb→le 0 n h in omega (arith, l)
 
 module _ {M : Type 1} (𝓤 : URA M) (H : Heap 𝓤) (A : Atoms 𝓤) (W : Given 𝓤 H A) (mem : Memory → SProp 𝓤) (run : Routine → Fun 𝓤) (𝓣 : Tables 𝓤 H)
-    (known-head : Triple 𝓤 (𝓣 .C #table·head-or) (HeadOr 𝓤 H A mem run)) (known-asked : Triple 𝓤 (𝓣 .C #judge·run-asked) (RunAsked 𝓤 H A mem run))
+    (known-head : Triple 𝓤 (𝓣 .C #table·head-or) (HeadOr 𝓤 H A mem run)) (known-asked : Triple 𝓤 (𝓣 .C #serving·run-asked) (RunAsked 𝓤 H A mem run))
     (known-chunks : Triple 𝓤 (𝓣 .C #judge·chunks-of) (ChunksOf 𝓤 H A mem run)) (known-run : Triple 𝓤 (𝓣 .C #maps·run-at) (RunAt 𝓤 H A mem run))
-    (known-is-at : Triple 𝓤 (𝓣 .C #row-parts·is-at) (IsAt 𝓤 H A mem run)) (known-asks : Triple 𝓤 (𝓣 .C #judge·asks-tails) (AsksTails 𝓤 H A mem run))
-    (known-tails : Triple 𝓤 (𝓣 .C #maps·tails-clear-at) (TailsClear 𝓤 H A mem run)) (known-top : Triple 𝓤 (𝓣 .C #judge·hit-head) (HitHead 𝓤 H A mem run)) where
+    (known-is-at : Triple 𝓤 (𝓣 .C #row-parts·is-at) (IsAt 𝓤 H A mem run)) (known-asks : Triple 𝓤 (𝓣 .C #heads·asks-tails) (AsksTails 𝓤 H A mem run))
+    (known-tails : Triple 𝓤 (𝓣 .C #maps·tails-clear-at) (TailsClear 𝓤 H A mem run)) (known-top : Triple 𝓤 (𝓣 .C #heads·hit-head) (HitHead 𝓤 H A mem run)) where
   module _ (κ : Lft) (q : Share) (γ : GName) (b o : ℕ) (ys : List Arena) (j : ℕ) (query : Query) (S : ℕ) where
     abbrev L : Loan
     L = record { κ = κ; q = q; γ = γ; b = b; o = o; n = length ys }
@@ -178,10 +178,10 @@ hits-at-spec 𝓤 H 𝓜 𝓖 𝓡 =
     (tables 𝓤 H 𝓜 𝓡 code.env .C) (tables 𝓤 H 𝓜 𝓡 code.env .Λ) #table·hits-at code.function (code.unfolded 𝓤 H 𝓜 𝓡)
     (hits-meets 𝓤 H (𝓖 .A) (givenOf 𝓤 H 𝓜 𝓖) (𝓜 .mem) (𝓡 .run) (tablesOf 𝓤 H 𝓜 (tables 𝓤 H 𝓜 𝓡 code.env))
     (cited 𝓤 H (HeadOr 𝓤 H (𝓖 .A) (𝓜 .mem) (𝓡 .run)) 𝓜 𝓡 code.env #table·head-or head-def.routine code.calls-table·head-or (head-thm.met 𝓤 H 𝓜 𝓖 𝓡))
-    (cited 𝓤 H (RunAsked 𝓤 H (𝓖 .A) (𝓜 .mem) (𝓡 .run)) 𝓜 𝓡 code.env #judge·run-asked asked-def.routine code.calls-judge·run-asked (asked-thm.met 𝓤 H 𝓜 𝓖 𝓡))
+    (cited 𝓤 H (RunAsked 𝓤 H (𝓖 .A) (𝓜 .mem) (𝓡 .run)) 𝓜 𝓡 code.env #serving·run-asked asked-def.routine code.calls-serving·run-asked (asked-thm.met 𝓤 H 𝓜 𝓖 𝓡))
     (cited 𝓤 H (ChunksOf 𝓤 H (𝓖 .A) (𝓜 .mem) (𝓡 .run)) 𝓜 𝓡 code.env #judge·chunks-of chunks-def.routine code.calls-judge·chunks-of (chunks-thm.met 𝓤 H 𝓜 𝓖 𝓡))
     (cited 𝓤 H (RunAt 𝓤 H (𝓖 .A) (𝓜 .mem) (𝓡 .run)) 𝓜 𝓡 code.env #maps·run-at run-def.routine code.calls-maps·run-at (run-thm.met 𝓤 H 𝓜 𝓖 𝓡))
     (cited 𝓤 H (IsAt 𝓤 H (𝓖 .A) (𝓜 .mem) (𝓡 .run)) 𝓜 𝓡 code.env #row-parts·is-at is-at-def.routine code.calls-row-parts·is-at (is-at-thm.met 𝓤 H 𝓜 𝓖 𝓡))
-    (cited 𝓤 H (AsksTails 𝓤 H (𝓖 .A) (𝓜 .mem) (𝓡 .run)) 𝓜 𝓡 code.env #judge·asks-tails asks-def.routine code.calls-judge·asks-tails (asks-thm.met 𝓤 H 𝓜 𝓖 𝓡))
+    (cited 𝓤 H (AsksTails 𝓤 H (𝓖 .A) (𝓜 .mem) (𝓡 .run)) 𝓜 𝓡 code.env #heads·asks-tails asks-def.routine code.calls-heads·asks-tails (asks-thm.met 𝓤 H 𝓜 𝓖 𝓡))
     (cited 𝓤 H (TailsClear 𝓤 H (𝓖 .A) (𝓜 .mem) (𝓡 .run)) 𝓜 𝓡 code.env #maps·tails-clear-at tails-def.routine code.calls-maps·tails-clear-at (tails-thm.met 𝓤 H 𝓜 𝓖 𝓡))
-    (cited 𝓤 H (HitHead 𝓤 H (𝓖 .A) (𝓜 .mem) (𝓡 .run)) 𝓜 𝓡 code.env #judge·hit-head top-def.routine code.calls-judge·hit-head (top-thm.met 𝓤 H 𝓜 𝓖 𝓡)))
+    (cited 𝓤 H (HitHead 𝓤 H (𝓖 .A) (𝓜 .mem) (𝓡 .run)) 𝓜 𝓡 code.env #heads·hit-head top-def.routine code.calls-heads·hit-head (top-thm.met 𝓤 H 𝓜 𝓖 𝓡)))

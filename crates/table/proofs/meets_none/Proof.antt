@@ -40,15 +40,15 @@ use Rattle.layer.specs.Table.{isAt, overlaps}
 use Rattle.judge.specs.declared.Query.{Query}
 use Rattle.judge.specs.declared.Query.the-variants.{Meets as Meeting}
 use Rattle.judge.specs.declared.Head.{Head}
-use Rattle.judge.specs.declared.Span.{Span}
+use Rattle.spans.specs.declared.Span.{Span}
 use Rattle.judge.specs.Scan.{scanOf}
-use Rattle.judge.specs.Heads.{outside, Covers}
+use Rattle.spans.specs.Spans.{outside, Covers}
 use Rattle.judge.proofs.Query as Q
 use Rattle.judge.proofs.Query.Laws as Q′
 use Rattle.judge.proofs.Head as D
 use Rattle.judge.proofs.Head.Laws as D′
-use Rattle.judge.proofs.Span as P
-use Rattle.judge.proofs.Span.Laws as P′
+use Rattle.spans.proofs.Span as P
+use Rattle.spans.proofs.Span.Laws as P′
 use Rattle.records.proofs.Walk.{Loan, Known, shared, sliceOf}
 use Rattle.records.proofs.Locals.{enters, used, room, if-else}
 use Rattle.records.proofs.Calls.{in-seq}
@@ -56,9 +56,9 @@ use Rattle.records.proofs.Frame.{DoneS, finishS, shr-meets}
 use Rattle.table.proofs.TableLaws.{outside-alone, scan-overlaps}
 use Rattle.table.proofs.Leaf.{Outside, Range, IsNothing, outside-step, range-step, is-nothing-step}
 use Rattle.table.proofs.Steps.{Scan, scan-pass}
-use Rattle.judge.proofs.is_outside.Symbol as out-def
-use Rattle.judge.proofs.is_outside.Symbol.{name as #judge·is-outside}
-use Rattle.judge.proofs.is_outside.Met as out-thm
+use Rattle.spans.proofs.is_outside.Symbol as out-def
+use Rattle.spans.proofs.is_outside.Symbol.{name as #spans·is-outside}
+use Rattle.spans.proofs.is_outside.Met as out-thm
 use Rattle.row_parts.proofs.range_query.Symbol as range-def
 use Rattle.row_parts.proofs.range_query.Symbol.{name as #row-parts·range-query}
 use Rattle.row_parts.proofs.range_query.Met as range-thm
@@ -78,7 +78,7 @@ is-outside true h = refl
 is-outside false h = absurd h
 
 module _ {M : Type 1} (𝓤 : URA M) (H : Heap 𝓤) (A : Atoms 𝓤) (W : Given 𝓤 H A) (mem : Memory → SProp 𝓤) (run : Routine → Fun 𝓤) (𝓣 : Tables 𝓤 H)
-    (known-out : Triple 𝓤 (𝓣 .C #judge·is-outside) (Outside 𝓤 H A mem run)) (known-range : Triple 𝓤 (𝓣 .C #row-parts·range-query) (Range 𝓤 H A mem run)) (known-scan : Triple 𝓤 (𝓣 .C #table·scan) (Scan 𝓤 H A mem run)) (known-none : Triple 𝓤 (𝓣 .C #row-parts·is-nothing) (IsNothing 𝓤 H A mem run)) where
+    (known-out : Triple 𝓤 (𝓣 .C #spans·is-outside) (Outside 𝓤 H A mem run)) (known-range : Triple 𝓤 (𝓣 .C #row-parts·range-query) (Range 𝓤 H A mem run)) (known-scan : Triple 𝓤 (𝓣 .C #table·scan) (Scan 𝓤 H A mem run)) (known-none : Triple 𝓤 (𝓣 .C #row-parts·is-nothing) (IsNothing 𝓤 H A mem run)) where
   module _ (κ : Lft) (q : Share) (γ : GName) (b o : ℕ) (ys : List Arena) (j S : ℕ) (s : Span) (h : Head) where
     abbrev L : Loan
     L = record { κ = κ; q = q; γ = γ; b = b; o = o; n = length ys }
@@ -137,7 +137,7 @@ meets-none-spec 𝓤 H 𝓜 𝓖 𝓡 =
     entered 𝓤 H (tripleOf 𝓤 H (𝓖 .A) none′.signature (none′.spec 𝓤 H (𝓖 .A) (𝓜 .mem) (𝓡 .run)))
     (tables 𝓤 H 𝓜 𝓡 code.env .C) (tables 𝓤 H 𝓜 𝓡 code.env .Λ) #table·meets-none code.function (code.unfolded 𝓤 H 𝓜 𝓡)
     (none-meets 𝓤 H (𝓖 .A) (givenOf 𝓤 H 𝓜 𝓖) (𝓜 .mem) (𝓡 .run) (tablesOf 𝓤 H 𝓜 (tables 𝓤 H 𝓜 𝓡 code.env))
-    (cited 𝓤 H (Outside 𝓤 H (𝓖 .A) (𝓜 .mem) (𝓡 .run)) 𝓜 𝓡 code.env #judge·is-outside out-def.routine code.calls-judge·is-outside (out-thm.met 𝓤 H 𝓜 𝓖 𝓡))
+    (cited 𝓤 H (Outside 𝓤 H (𝓖 .A) (𝓜 .mem) (𝓡 .run)) 𝓜 𝓡 code.env #spans·is-outside out-def.routine code.calls-spans·is-outside (out-thm.met 𝓤 H 𝓜 𝓖 𝓡))
     (cited 𝓤 H (Range 𝓤 H (𝓖 .A) (𝓜 .mem) (𝓡 .run)) 𝓜 𝓡 code.env #row-parts·range-query range-def.routine code.calls-row-parts·range-query (range-thm.met 𝓤 H 𝓜 𝓖 𝓡))
     (cited 𝓤 H (Scan 𝓤 H (𝓖 .A) (𝓜 .mem) (𝓡 .run)) 𝓜 𝓡 code.env #table·scan scan-def.routine code.calls-table·scan (scan-thm.met 𝓤 H 𝓜 𝓖 𝓡))
     (cited 𝓤 H (IsNothing 𝓤 H (𝓖 .A) (𝓜 .mem) (𝓡 .run)) 𝓜 𝓡 code.env #row-parts·is-nothing none-def.routine code.calls-row-parts·is-nothing (none-thm.met 𝓤 H 𝓜 𝓖 𝓡)))

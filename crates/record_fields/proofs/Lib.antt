@@ -1,0 +1,4 @@
+pub mod Deadline
+pub mod Fields
+pub mod Looks
+pub mod Maps

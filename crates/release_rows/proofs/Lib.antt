@@ -1,0 +1,2 @@
+mod RowLaws
+mod Steps

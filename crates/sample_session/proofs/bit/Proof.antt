@@ -1,0 +1,15 @@
+-- `sample_session::bit` meets its contract. Assumes nothing.
+use Rattle.words.specs.Bits.{bit}
+use borrow.Author.Needs.{needs}
+use Rattle.sample_session.proofs.bit.Statement.{statement}
+use Rattle.sample_session.proofs.bit.Tie as tie
+
+shr-result : tie.Need-shr-result
+shr-result c = search needs
+
+returns : tie.Need-returns
+unfolding bit
+returns c = cc
+
+pub bit-spec : {M : Type 1} → statement M
+bit-spec = tie.close (tie.spec shr-result returns)

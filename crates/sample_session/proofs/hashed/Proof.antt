@@ -1,0 +1,15 @@
+-- `sample_session::hashed` meets its contract. Assumes nothing.
+use Rattle.sample_session.specs.Session.{hashedOf}
+use borrow.Author.Needs.{needs}
+use Rattle.sample_session.proofs.hashed.Statement.{statement}
+use Rattle.sample_session.proofs.hashed.Tie as tie
+
+counted-requires : tie.Need-counted-requires
+counted-requires c κs = search needs
+
+returns : tie.Need-returns
+unfolding hashedOf
+returns c = cc
+
+pub hashed-spec : {M : Type 1} → statement M
+hashed-spec = tie.close (tie.spec counted-requires returns)

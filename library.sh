@@ -6,8 +6,14 @@ cd "$(dirname "${BASH_SOURCE[0]}")"
 command -v ar >/dev/null || { echo "ar (binutils) is needed to merge the archives" >&2; exit 1; }
 
 crates="c_leaves c_claims c_memory c_sweeps c_answer c_queries"
+terse() { grep -v '^library \|(unchanged since'; }
+
+# What they stand on first: `rt check` proves several crates at a time, `rt staticlib` one after the other.
+below=$(for crate in $crates; do sed -n "s/^$crate: *//p" crates.txt; done)
+# shellcheck disable=SC2086
+rt check $below 2>&1 | terse
 for crate in $crates; do
-    rt staticlib "$crate" 2>&1 | grep -v '^library \|(unchanged since'
+    rt staticlib "$crate" 2>&1 | terse
 done
 cd target/staticlib
 {

@@ -9,7 +9,7 @@ differ in names and types only, so they are written from a list. Usage: import t
              args=[("j", "usize"), ("s", "usize"), ("n", "usize")],
              req=[("(j < length ys) × (s + n ≤ 1024)", "few")], reqterm="few",
              ret="unit", value="", after="set ys j (takeRun (getD ys j blank) s n)"),
-        dict(name="start-step", crate="grants", fn="start_of", alias="start′", con="Start", kind="plain",
+        dict(name="start-step", crate="grant_parts", fn="start_of", alias="start′", con="Start", kind="plain",
              args=[("f", ("enum", "Found", "F"))], ret="usize", value="startOf f"),
     ])
 

@@ -1,4 +1,4 @@
--- The functions that a replay calls, each in one step of a walk (`table`'s Calls.antt). The walks say nothing of what is replayed, so of a callee's contract they take only that it may be called; of `fewer`, that it counts down.
+-- The functions that a replay calls, each in one step of a walk (`records`' Calls.antt). The walks say nothing of what is replayed, so of a callee's contract they take only that it may be called; of `fewer`, that it counts down.
 -- Assumes `Given`, the callee's theorem, and that the table of calls is monotone under a frame.
 use mathlib.Core.Path.{_≡_, refl, sym, ap, subst}
 use mathlib.Core.Bool.{Bool}

@@ -1,5 +1,5 @@
--- The entry points of the layer over the lent table, and the functions here that choose among them, each in one step of a walk
--- (`table`'s Calls.antt, `arena_area`'s Two.antt). Assumes `Given`, the callee's theorem, and that the table of calls is monotone under a frame.
+-- The queries, each in one step of a walk (`arena_area`'s Two.antt).
+-- Assumes `Given`, the callee's theorem, and that the table of calls is monotone under a frame.
 use mathlib.Core.Path.{_≡_, refl}
 use Prim.Native.Nat.{ℕ, _<_, _^_}
 use mathlib.Core.List.{List, [], _∷_}

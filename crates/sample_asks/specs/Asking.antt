@@ -1,4 +1,4 @@
--- The layer's call that a line of the sample is of. Assumes nothing.
+-- The layer's call that a line of the sample is of, where it is a query. Assumes nothing.
 use mathlib.Core.Bool.{cond}
 use lib.Dec.{eqb}
 use Rattle.layer.specs.Step.{Call, owns, area}

@@ -1,4 +1,4 @@
--- The layer's call that a line of the sample is of. Assumes nothing.
+-- The layer's call that a line of the sample is of, where chunks are released, arenas swept or a question answered. Assumes nothing.
 use mathlib.Core.Bool.{cond}
 use lib.Dec.{eqb}
 use Rattle.arena.specs.declared.Commitment.{Commitment}

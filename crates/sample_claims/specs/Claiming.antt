@@ -1,4 +1,4 @@
--- The layer's call that a line of the sample is of. Assumes nothing.
+-- The layer's call that a line of the sample is of, where chunks are claimed. Assumes nothing.
 use mathlib.Core.Bool.{true, false, cond}
 use lib.Dec.{eqb}
 use Rattle.layer.specs.Step.{Call, claim}

@@ -1,4 +1,5 @@
-// A call of a recorded sample, with all numbers and flags that a line has for it.
+// What a line of a recorded sample says of the call that it is of. No code stands here.
+
 // A call by its kind in the sample, with the numbers and flags that calls of any kind take: 4 to 6 register, 7 to
 // 9 claim, 10 releases, 11 sweeps, 12 answers, and 13 asks.
 pub struct Made {

@@ -1,4 +1,4 @@
--- The layer's call that a line of the sample is of. Assumes nothing.
+-- The layer's call that a line of the sample is of, where memory is registered. Assumes nothing.
 use mathlib.Core.Bool.{cond}
 use lib.Dec.{eqb}
 use Rattle.layer.specs.Step.{Call, reserve, manage, adopt}

@@ -1,4 +1,4 @@
--- The functions that the hash of the state calls, each in one step of a walk (`table`'s Calls.antt). Assumes `Given`, the callee's theorem, and that the table of calls is monotone under a frame.
+-- The functions that the hash of the state calls, each in one step of a walk (`records`' Calls.antt). Assumes `Given`, the callee's theorem, and that the table of calls is monotone under a frame.
 use mathlib.Core.Path.{_≡_, refl, sym, ap, subst}
 use Prim.Native.Nat.{ℕ, _<_, _^_}
 use mathlib.Core.List.{List, [], _∷_}

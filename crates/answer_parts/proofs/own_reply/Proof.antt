@@ -2,36 +2,41 @@
 use mathlib.Core.Path.{sym, ap, _∙_}
 use Rattle.layer.specs.declared.Kind.{Kind}
 use Rattle.answer_parts.specs.Parts.{ownReply}
-use borrow.Author.Needs.{needs}
 use Rattle.answer_parts.proofs.own_reply.Statement.{statement}
 use Rattle.answer_parts.proofs.own_reply.Tie as tie
 
 enum-told : tie.Need-enum-told
-enum-told c = search needs
+enum-told c = c .match .keys1
 
 enum-told-2 : tie.Need-enum-told-2
-enum-told-2 c = search needs
+enum-told-2 c = c .match .keys2
 
 enum-told-3 : tie.Need-enum-told-3
-enum-told-3 c = search needs
+enum-told-3 c = c .match .keys3
 
 enum-told-4 : tie.Need-enum-told-4
-enum-told-4 c = search needs
+enum-told-4 c = c .match .keys4
 
 give-back-core-requires : tie.Need-give-back-core-requires
-give-back-core-requires c κs = search needs
+give-back-core-requires c κs = tt
 
 enum-told-5 : tie.Need-enum-told-5
-enum-told-5 c = search needs
+enum-told-5 c = c .match .keys5
 
 returns : tie.Need-returns
-returns c = search needs
+returns c =
+    let a = c .before .before .args in
+    sym (ap (λ (x : Kind). ownReply (a .state) x (a .commit) (a .purge) (a .memory)) (c .enum-told .given .1))
 
 returns-2 : tie.Need-returns-2
-returns-2 c = search needs
+returns-2 c =
+    let a = c .before .before .args in
+    sym (ap (λ (x : Kind). ownReply (a .state) x (a .commit) (a .purge) (a .memory)) (c .enum-told2 .given .1))
 
 returns-3 : tie.Need-returns-3
-returns-3 c = search needs
+returns-3 c =
+    let a = c .before .before .args in
+    sym (ap (λ (x : Kind). ownReply (a .state) x (a .commit) (a .purge) (a .memory)) (c .enum-told3 .given .1))
 
 returns-4 : tie.Need-returns-4
 returns-4 c =
@@ -39,7 +44,9 @@ returns-4 c =
     c .give-back-core .ensures ∙ sym (ap (λ (x : Kind). ownReply (a .state) x (a .commit) (a .purge) (a .memory)) (c .before .enum-told4 .given .1))
 
 returns-5 : tie.Need-returns-5
-returns-5 c = search needs
+returns-5 c =
+    let a = c .before .before .args in
+    sym (ap (λ (x : Kind). ownReply (a .state) x (a .commit) (a .purge) (a .memory)) (c .enum-told5 .given .1))
 
 pub own-reply-spec : {M : Type 1} → statement M
 own-reply-spec =

@@ -10,7 +10,7 @@ reserve-reply-requires : tie.Need-reserve-reply-requires
 reserve-reply-requires c κs = search needs
 
 gate-requires : tie.Need-gate-requires
-gate-requires c κs = search needs
+gate-requires c κs = tt
 
 returns : tie.Need-returns
 unfolding reserveAnswer

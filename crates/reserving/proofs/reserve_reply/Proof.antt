@@ -12,10 +12,10 @@ too-large-requires : tie.Need-too-large-requires
 too-large-requires c κs = search needs
 
 calm-requires : tie.Need-calm-requires
-calm-requires c κs = search needs
+calm-requires c κs = tt
 
 turn-down-requires : tie.Need-turn-down-requires
-turn-down-requires c κs = search needs
+turn-down-requires c κs = tt
 
 returns : tie.Need-returns
 unfolding reserveReply

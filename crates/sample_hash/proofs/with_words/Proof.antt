@@ -1,10 +1,11 @@
 -- `sample_hash::with_words` meets its contract: before each turn g is the hash with the words passed. Assumes nothing.
 use borrow.Author.Needs.{needs}
-use mathlib.Core.Path.{_≡_, ap, _∙_}
-use Prim.Native.Nat.{_≤_, _-_}
+use mathlib.Core.Path.{_≡_, refl, sym, ap, _∙_}
+use Prim.Native.Nat.{ℕ, _+_, _≤_, _-_}
 use native.Mathlib.Numerals.{add-one}
+use lib.ListN.{getD}
 use native.Mathlib.Omega.{arith}
-use Rattle.sample_hash.specs.Hash.{withWords}
+use Rattle.sample_hash.specs.Hash.{withWord, withWords}
 use Rattle.sample_hash.proofs.with_words.Statement.{statement}
 use Rattle.sample_hash.proofs.with_words.Tie as tie
 
@@ -16,7 +17,7 @@ abbrev μ-loop : tie.MeasureT-loop
 
 loop-holds : tie.Need-loop-holds Inv-loop μ-loop
 unfolding withWords
-loop-holds c = search needs
+loop-holds c = (omega arith, refl)
 
 add-with-word : tie.Need-add-with-word Inv-loop μ-loop
 add-with-word c = search needs
@@ -28,7 +29,7 @@ shared-slice-read-with-word : tie.Need-shared-slice-read-with-word Inv-loop μ-l
 shared-slice-read-with-word c = search needs
 
 with-word-requires : tie.Need-with-word-requires Inv-loop μ-loop
-with-word-requires c κs = search needs
+with-word-requires c κs = tt
 
 add-i : tie.Need-add-i Inv-loop μ-loop
 add-i c = search needs
@@ -38,7 +39,10 @@ loop-less c = search needs
 
 loop-again : tie.Need-loop-again Inv-loop μ-loop
 unfolding withWords
-loop-again c = (search needs, rw add-one (cc))
+loop-again c =
+    let l = c .before .before .before .loop in
+    let a = c .before .before .before .before .before .args in
+    (omega arith, c .with-word .ensures ∙ ap (λ (g : ℕ). withWord g (getD (a .words .now) (a .at + l .i) 0)) (l .inv .1) ∙ ap (withWords (a .h) (a .words .now) (a .at)) (sym (add-one (l .i))))
 
 returns : tie.Need-returns Inv-loop μ-loop
 returns c =

@@ -1,5 +1,6 @@
 -- `sample_session::bit` meets its contract. Assumes nothing.
 use Rattle.words.specs.Bits.{bit}
+use mathlib.Core.Path.{refl}
 use borrow.Author.Needs.{needs}
 use Rattle.sample_session.proofs.bit.Statement.{statement}
 use Rattle.sample_session.proofs.bit.Tie as tie
@@ -9,7 +10,7 @@ shr-result c = search needs
 
 returns : tie.Need-returns
 unfolding bit
-returns c = cc
+returns c = refl
 
 pub bit-spec : {M : Type 1} → statement M
 bit-spec = tie.close (tie.spec shr-result returns)

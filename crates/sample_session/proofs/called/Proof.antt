@@ -1,24 +1,34 @@
 -- `sample_session::called` meets its contract. Assumes nothing.
-use Rattle.sample_session.specs.Session.{calledOf}
+use mathlib.Core.Path.{ap, _∙_}
+use lib.Dec.{eqb}
+use Rattle.surface_reply.specs.declared.ReplyNumbers.{ReplyNumbers}
+use Rattle.sample_tally.specs.Counting.{afterAnswer}
+use Rattle.sample_session.specs.Session.{calledOf, saidOf}
 use borrow.Author.Needs.{needs}
 use Rattle.sample_session.proofs.called.Statement.{statement}
 use Rattle.sample_session.proofs.called.Tie as tie
 
 in-numbers-requires : tie.Need-in-numbers-requires
-in-numbers-requires c κs = search needs
+in-numbers-requires c κs = tt
 
 said-of-requires : tie.Need-said-of-requires
-said-of-requires c κs = search needs
+said-of-requires c κs = tt
 
 cast-answered : tie.Need-cast-answered
 cast-answered c = search needs
 
 answered-requires : tie.Need-answered-requires
-answered-requires c κs = search needs
+answered-requires c κs = tt
 
 returns : tie.Need-returns
 unfolding calledOf
-returns c = cc
+returns c =
+    let t = c .before .before .before .before .before in
+    let x = t .before .in-numbers .ensures in
+    let a = t .before .before .args in
+    let said = t .said-of .ensures ∙ ap saidOf x in
+    let tally = c .answered .ensures ∙ ap (λ (y : ReplyNumbers). afterAnswer (a .s .tally) (eqb (y .number) (a .l .r))) x in
+    λ d. record { state = a .r .state; carried = a .s .carried; said = said d; tally = tally d }
 
 pub called-spec : {M : Type 1} → statement M
 called-spec =

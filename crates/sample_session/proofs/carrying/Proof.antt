@@ -1,19 +1,20 @@
 -- `sample_session::carrying` meets its contract. Assumes nothing.
-use borrow.Author.Needs.{needs}
 use Rattle.sample_session.proofs.carrying.Statement.{statement}
 use Rattle.sample_session.proofs.carrying.Tie as tie
 
 state-after-requires : tie.Need-state-after-requires
-state-after-requires c κs = search needs
+state-after-requires c κs = tt
 
 carried-after-requires : tie.Need-carried-after-requires
-carried-after-requires c κs = search needs
+carried-after-requires c κs = tt
 
 answered-requires : tie.Need-answered-requires
-answered-requires c κs = search needs
+answered-requires c κs = tt
 
 returns : tie.Need-returns
-returns c = cc
+returns c =
+    let t = c .before .before .before in
+    λ d. record { state = t .before .state-after .ensures d; carried = t .carried-after .ensures d; said = t .before .before .args .s .said; tally = c .answered .ensures d }
 
 pub carrying-spec : {M : Type 1} → statement M
 carrying-spec =

@@ -1,5 +1,6 @@
 -- `sample_session::word_of` meets its contract. Assumes nothing.
 use Rattle.sample_session.specs.Session.{wordOf}
+use mathlib.Core.Path.{refl}
 use borrow.Author.Needs.{needs}
 use Rattle.sample_session.proofs.word_of.Statement.{statement}
 use Rattle.sample_session.proofs.word_of.Tie as tie
@@ -24,7 +25,7 @@ cast-asked-3 c = search needs
 
 returns : tie.Need-returns
 unfolding wordOf
-returns c = cc
+returns c = refl
 
 pub word-of-spec : {M : Type 1} → statement M
 word-of-spec =

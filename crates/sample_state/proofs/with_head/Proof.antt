@@ -10,13 +10,13 @@ use Rattle.sample_state.proofs.with_head.Statement.{statement}
 use Rattle.sample_state.proofs.with_head.Tie as tie
 
 owner-requires : tie.Need-owner-requires
-owner-requires c κs = search needs
+owner-requires c κs = tt
 
 node-word-requires : tie.Need-node-word-requires
-node-word-requires c κs = search needs
+node-word-requires c κs = tt
 
 with-numbers-requires : tie.Need-with-numbers-requires
-with-numbers-requires c κs = search needs
+with-numbers-requires c κs = tt
 
 returns : tie.Need-returns
 unfolding withHead

@@ -1,6 +1,9 @@
 -- `sample_state::with_maps` meets its contract. Assumes nothing.
-use Rattle.sample_state.specs.State.{withMaps}
 use borrow.Author.Needs.{needs}
+use mathlib.Core.Path.{ap, _∙_}
+use Prim.Native.Nat.{ℕ}
+use Rattle.sample_hash.specs.Hash.{withWords}
+use Rattle.sample_state.specs.State.{withMaps}
 use Rattle.sample_state.proofs.with_maps.Statement.{statement}
 use Rattle.sample_state.proofs.with_maps.Tie as tie
 
@@ -18,7 +21,12 @@ with-words-requires-4 c κs = search needs
 
 returns : tie.Need-returns
 unfolding withMaps
-returns c = cc
+returns c =
+    let three = c .before .before .before .before in
+    let two = three .before .before .before .before in
+    let one = two .before .before .before .before in
+    let a = one .before .before .before .before .args .t2 in
+    c .with-words4 .ensures ∙ ap (λ (h : ℕ). withWords h (a .pending) 0 32) (three .with-words3 .ensures ∙ ap (λ (h : ℕ). withWords h (a .committed) 0 32) (two .with-words2 .ensures ∙ ap (λ (h : ℕ). withWords h (a .dirty) 0 32) (one .with-words .ensures)))
 
 pub with-maps-spec : {M : Type 1} → statement M
 with-maps-spec =

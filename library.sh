@@ -8,13 +8,27 @@ command -v ar >/dev/null || { echo "ar (binutils) is needed to merge the archive
 crates="c_leaves c_claims c_memory c_sweeps c_answer c_queries"
 terse() { grep -v '^library \|(unchanged since'; }
 
-# What they stand on first: `rt check` proves several crates at a time, `rt staticlib` one after the other.
+# What they stand on first: `rt check` proves several crates at a time.
 below=$(for crate in $crates; do sed -n "s/^$crate: *//p" crates.txt; done)
 # shellcheck disable=SC2086
 rt check $below 2>&1 | terse
-for crate in $crates; do
-    rt staticlib "$crate" 2>&1 | terse
-done
+
+# `rt` keeps its notes in target/, so two of it want two of those: each crate is built in a room of its own, over links
+# to what is proved.
+rm -rf target/rooms
+build() {
+    local room=target/rooms/$1
+    mkdir -p "$room/target"
+    ln -s "$PWD/crates" "$PWD/crates.txt" "$room"
+    cp -al target/rlib target/stamp "$room/target"
+    (cd "$room" && rt staticlib "$1") 2>&1 | terse
+}
+export -f build terse
+printf '%s\n' $crates | xargs -P "$(nproc)" -I '{}' bash -o pipefail -c 'said=$(build {}) && echo "$said" || { echo "$said" >&2; exit 1; }'
+
+mkdir -p target/staticlib
+mv target/rooms/*/target/staticlib/lib*.a target/staticlib
+rm -rf target/rooms
 cd target/staticlib
 {
     echo "CREATE libsirqobal.a"

@@ -1,0 +1,212 @@
+#!/usr/bin/env python3
+"""Tries wrong answers: the edits in crates/NAME/wrong, which the prover must refuse.
+
+An edit is written as a must-fail edit of `rt` is, with one line more, as `fails: look; lowest_run`: the functions that it
+makes wrong, and after the semicolon those that are not proved then because they call one of these. `rt` gives each must-fail
+edit a check of its crate from nothing, and is content if anything of the crate is refused. Here edits that keep clear of
+each other share a check, and the prover must refuse the functions that they name, because a fact fails, and no other.
+
+Two edits keep clear of each other if neither makes a function wrong that fails with the other. So a function that an edit
+makes wrong is changed by no other edit, and calls nothing that is: it is refused for its own wrong answer.
+
+A check starts from the crate as it was proved, where target/ has that, and takes the modules that the edits leave alone from
+there. Every public function of a crate that has a folder `wrong` must be made wrong by two edits or more.
+
+Usage: wrong_answers.py [NAME...]. With no name, all crates that have a folder `wrong`. What they stand on has to be proved, as
+library.sh leaves it. target/wrong/NAME/K/log has what the prover said in a check.
+"""
+import os
+import re
+import shutil
+import subprocess
+import sys
+import time
+from concurrent.futures import ThreadPoolExecutor
+from pathlib import Path
+
+ROOT = Path(__file__).resolve().parent.parent
+RLIB = ROOT / "target" / "rlib"
+WORK = ROOT / "target" / "wrong"
+
+# What a check says where a proof no longer fits the code, or a contract cannot be read: that shows nothing.
+UNFIT = re.compile("that can be named from here|has no field|error: .* is not in scope")
+
+
+class Edit:
+    """What an edit changes, and the functions that are not proved then."""
+
+    def __init__(self, path):
+        self.label = path.stem
+        self.changes = []
+        self.wrong, self.callers = set(), set()
+        file = old = None
+        for line in path.read_text().split("\n"):
+            key, _, rest = line.partition(":")
+            rest = rest[1:] if rest.startswith(" ") else rest
+            if key == "file":
+                file = rest
+            elif key == "old":
+                old = rest
+            elif key == "new":
+                self.changes.append((file, old, rest))
+            elif key == "fails":
+                wrong, _, callers = rest.partition(";")
+                self.wrong, self.callers = set(wrong.split()), set(callers.split())
+        if not self.changes or not self.wrong:
+            sys.exit(f"{path}: it needs a pair 'old:' and 'new:', and a line 'fails:'")
+
+    def fails(self):
+        return self.wrong | self.callers
+
+    def clear_of(self, other):
+        return not (self.wrong & other.fails() or other.wrong & self.fails())
+
+
+def make(crate, group):
+    """Makes the edits of a group in this copy of their crate, each where the crate as it stands has its text."""
+    places = {}
+    for edit in group:
+        for file, old, new in edit.changes:
+            text = (crate / file).read_text()
+            if text.count(old) != 1:
+                raise ValueError(f"{edit.label}: its 'old:' text is in {file} {text.count(old)} times, and not once")
+            places.setdefault(file, []).append((text.index(old), old, new))
+    for file, found in places.items():
+        text = (crate / file).read_text()
+        end = len(text)
+        for at, old, new in sorted(found, reverse=True):
+            if at + len(old) > end:
+                raise ValueError(f"two edits change the same text of {file}")
+            text, end = text[:at] + new + text[at + len(old) :], at
+        (crate / file).write_text(text)
+
+
+def grouped(edits):
+    """The edits in groups, in each of which any two keep clear of each other."""
+    groups = []
+    for edit in sorted(edits, key=lambda e: -len(e.fails())):
+        group = next((g for g in groups if all(edit.clear_of(e) for e in g)), None)
+        if group is None:
+            groups.append([edit])
+        else:
+            group.append(edit)
+    return groups
+
+
+def public(name):
+    """The public functions of a crate."""
+    src = ROOT / "crates" / name / "src"
+    for path in sorted(src.rglob("*.rt")):
+        module = path.relative_to(src).with_suffix("").parts
+        inside = "" if module == ("lib",) else "::".join(module) + "::"
+        for function in re.findall(r'^ *pub (?:extern "C" )?fn (\w+)', path.read_text(), re.M):
+            yield inside + function
+
+
+def too_few(name, edits):
+    """The public functions that fewer than two edits make wrong."""
+    count = {function: sum(function in edit.wrong for edit in edits) for function in public(name)}
+    return [f"{name}::{function} is made wrong by {n} edits, and not by two" for function, n in count.items() if n < 2]
+
+
+def dependencies():
+    """Each crate of crates.txt with what it stands on."""
+    lines = (line.split("#")[0] for line in (ROOT / "crates.txt").read_text().split("\n"))
+    pairs = (line.split(":") for line in lines if ":" in line)
+    return {name.strip(): deps.split() for name, deps in pairs}
+
+
+class Prover:
+    """The kit's prover, over the crates as target/rlib has them."""
+
+    def __init__(self):
+        guide = subprocess.run(["rt", "doc"], capture_output=True, text=True, check=True).stdout
+        self.home = Path(guide.strip()).parent.parent
+        self.own = self.home / "on" / os.uname().machine
+        self.deps = dependencies()
+
+    def check(self, name, crate, kept):
+        """Its exit status and what it says of the crate in this folder, where it keeps checked modules in `kept`."""
+        words = [self.own / "bin" / "rattle", "check", "--crate-name", name, crate / "src" / "lib.rt"]
+        words += ["--extern", f"std={self.own}/rlib/std.rlib"]
+        for dep in self.deps[name]:
+            words += ["--extern", f"{dep}={RLIB if dep in self.deps else self.own / 'rlib'}/{dep}.rlib"]
+        words += ["-L", f"dependency={RLIB}", "-L", f"dependency={self.own}/rlib"]
+        words += ["--antt-project", self.home / "logic" / "antt-project.json"]
+        words += ["--logic-built", self.own / "logic-built", "--incremental", kept]
+        run = subprocess.run(words, stdout=subprocess.PIPE, stderr=subprocess.STDOUT, text=True, check=False)
+        return run.returncode, run.stdout
+
+    def folder(self, name):
+        """What the prover calls the folder of its own build below the one where it keeps checked modules."""
+        kept = WORK / "kept"
+        kept.mkdir(parents=True)
+        self.check(name, ROOT / "crates" / name, kept)
+        return next(kept.iterdir()).name
+
+
+def refused_in(name, said):
+    """The functions of the crate that are not proved."""
+    found = re.findall(rf"^fn {name}::(\S+?): (proved$)?", said, re.M)
+    return {function for function, proved in found if not proved}
+
+
+def faults(name, group, status, said):
+    """What is wrong with a check of these edits."""
+    if status != 1 or not re.search("^logic=not-proved", said, re.M):
+        return [f"the crate is not refused by the prover (status {status})"]
+    if UNFIT.search(said):
+        return ["a proof does not fit the code, or a contract cannot be read: that shows nothing"]
+    refused = refused_in(name, said)
+    named = set().union(*(edit.fails() for edit in group))
+    found = [f"{function} is proved, and an edit names it" for function in sorted(named - refused)]
+    return found + [f"{function} is not proved, and no edit names it" for function in sorted(refused - named)]
+
+
+def try_group(prover, folder, name, number, group):
+    """Makes the group's edits in a copy of the crate, and says what is wrong with the prover's answer."""
+    crate = WORK / name / str(number)
+    for part in ("src", "specs", "proofs"):
+        if (ROOT / "crates" / name / part).is_dir():
+            shutil.copytree(ROOT / "crates" / name / part, crate / part)
+    try:
+        make(crate, group)
+    except ValueError as fault:
+        return [str(fault)]
+    proved = RLIB / f"{name}.rlib" / "toolchain" / "checked"
+    if proved.is_dir():
+        shutil.copytree(proved, crate / "kept" / folder)
+    status, said = prover.check(name, crate, crate / "kept")
+    shutil.rmtree(crate / "kept")
+    (crate / "log").write_text(said)
+    return faults(name, group, status, said)
+
+
+def main():
+    prover = Prover()
+    names = sys.argv[1:] or [n for n in prover.deps if (ROOT / "crates" / n / "wrong").is_dir()]
+    missing = sorted({d for n in names for d in prover.deps[n] if d in prover.deps and not (RLIB / f"{d}.rlib").is_dir()})
+    if missing:
+        sys.exit("library.sh proves no such crate: " + " ".join(missing))
+    shutil.rmtree(WORK, ignore_errors=True)
+    began = time.time()
+    folder = prover.folder(names[0])
+    edits = {n: [Edit(p) for p in sorted((ROOT / "crates" / n / "wrong").glob("*.edit"))] for n in names}
+    few = [line for n in names for line in too_few(n, edits[n])]
+    groups = {n: grouped(edits[n]) for n in names}
+    # The dear crates stand last in crates.txt: begun first, they leave no processor idle at the end.
+    tasks = [(n, k, g) for n in reversed(names) for k, g in enumerate(groups[n])]
+    with ThreadPoolExecutor(len(os.sched_getaffinity(0))) as pool:
+        answers = list(pool.map(lambda task: try_group(prover, folder, *task), tasks))
+    for (name, number, group), found in zip(tasks, answers):
+        for fault in found:
+            print(f"wrong answers of {name}, check {number} ({' '.join(e.label for e in group)}): {fault}")
+    print("\n".join(few), end="\n" if few else "")
+    if few or any(answers):
+        sys.exit(1)
+    count = sum(len(group) for _, _, group in tasks)
+    took = f"in {len(tasks)} checks ({time.time() - began:.0f} s)"
+    print(f"{count} wrong answers of {len(names)} crates refused, each by the functions that it names, {took}")
+
+
+main()

@@ -4,7 +4,8 @@
 An edit is written as a must-fail edit of `rt` is, with one line more, as `fails: look; lowest_run`: the functions that it
 makes wrong, and after the semicolon those that are not proved then because they call one of these. `rt` gives each must-fail
 edit a check of its crate from nothing, and is content if anything of the crate is refused. Here edits that keep clear of
-each other share a check, and the prover must refuse the functions that they name, because a fact fails, and no other.
+each other share a check, and the prover must refuse the functions that they name and no other. That a fact fails is to be read
+in the log of a new edit: of the wrong reasons, as a proof that does not fit the code, only those that UNFIT lists are seen.
 
 Two edits keep clear of each other if neither makes a function wrong that fails with the other. So a function that an edit
 makes wrong is changed by no other edit, and calls nothing that is: it is refused for its own wrong answer.

@@ -11,7 +11,8 @@ Two edits keep clear of each other if neither makes a function wrong that fails 
 makes wrong is changed by no other edit, and calls nothing that is: it is refused for its own wrong answer.
 
 A check starts from the crate as it was proved, where target/ has that, and takes the modules that the edits leave alone from
-there. Every public function of a crate that has a folder `wrong` must be made wrong by two edits or more.
+there. Every public function of a crate with such edits must be made wrong by two or more; those in crates/NAME/must-fail that
+have a line `fails:` count, and are left to `rt`.
 
 Usage: wrong_answers.py [NAME...]. With no name, all crates that have a folder `wrong`. What they stand on has to be proved, as
 library.sh leaves it. target/wrong/NAME/K/log has what the prover said in a check.
@@ -104,8 +105,22 @@ def public(name):
             yield inside + function
 
 
-def too_few(name, edits):
+def own(name):
+    """The edits that are tried here."""
+    return [Edit(path) for path in sorted((ROOT / "crates" / name / "wrong").glob("*.edit"))]
+
+
+def left_to_rt(name):
+    """The must-fail edits that name the functions they make wrong."""
+    paths = sorted((ROOT / "crates" / name / "must-fail").glob("*.edit"))
+    return [Edit(path) for path in paths if "\nfails:" in path.read_text()]
+
+
+def too_few(name):
     """The public functions that fewer than two edits make wrong."""
+    edits = own(name) + left_to_rt(name)
+    if not edits:
+        return []
     count = {function: sum(function in edit.wrong for edit in edits) for function in public(name)}
     return [f"{name}::{function} is made wrong by {n} edits, and not by two" for function, n in count.items() if n < 2]
 
@@ -185,16 +200,15 @@ def try_group(prover, folder, name, number, group):
 
 def main():
     prover = Prover()
-    names = sys.argv[1:] or [n for n in prover.deps if (ROOT / "crates" / n / "wrong").is_dir()]
+    few = [line for n in sys.argv[1:] or prover.deps for line in too_few(n)]
+    names = sys.argv[1:] or [n for n in prover.deps if own(n)]
     missing = sorted({d for n in names for d in prover.deps[n] if d in prover.deps and not (RLIB / f"{d}.rlib").is_dir()})
     if missing:
         sys.exit("library.sh proves no such crate: " + " ".join(missing))
     shutil.rmtree(WORK, ignore_errors=True)
     began = time.time()
     folder = prover.folder(names[0])
-    edits = {n: [Edit(p) for p in sorted((ROOT / "crates" / n / "wrong").glob("*.edit"))] for n in names}
-    few = [line for n in names for line in too_few(n, edits[n])]
-    groups = {n: grouped(edits[n]) for n in names}
+    groups = {n: grouped(own(n)) for n in names}
     # The dear crates stand last in crates.txt: begun first, they leave no processor idle at the end.
     tasks = [(n, k, g) for n in reversed(names) for k, g in enumerate(groups[n])]
     with ThreadPoolExecutor(len(os.sched_getaffinity(0))) as pool:

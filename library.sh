@@ -1,11 +1,11 @@
 #!/usr/bin/env bash
 # Builds target/staticlib/libsirqobal.a. `rt staticlib` exports the functions of one crate, and the C surface
-# stands in six, so that a check of each is short: their archives are merged.
+# stands in two, that of the leaves and that of the layer: their archives are merged.
 set -euo pipefail
 cd "$(dirname "${BASH_SOURCE[0]}")"
 command -v ar >/dev/null || { echo "ar (binutils) is needed to merge the archives" >&2; exit 1; }
 
-crates="c_leaves c_claims c_memory c_sweeps c_answer c_queries"
+crates="c_leaves c_layer"
 terse() { grep -v '^library \|(unchanged since'; }
 
 # What they stand on first: `rt check` proves several crates at a time.

@@ -14,8 +14,8 @@ A check starts from the crate as it was proved, where target/ has that, and take
 there. Every public function of a crate with such edits must be made wrong by two or more; those in crates/NAME/must-fail that
 have a line `fails:` count, and are left to `rt`.
 
-Usage: wrong_answers.py [NAME...]. With no name, all crates that have a folder `wrong`. What they stand on has to be proved, as
-library.sh leaves it. target/wrong/NAME/K/log has what the prover said in a check.
+Usage: wrong_answers.py [NAME...]. With no name, all crates that have a folder `wrong`. What they stand on and library.sh
+has not proved is proved first. target/wrong/NAME/K/log has what the prover said in a check.
 """
 import os
 import re
@@ -105,6 +105,12 @@ def public(name):
             yield inside + function
 
 
+def promises(name):
+    """Whether the crate has public functions, and contracts."""
+    texts = [path.read_text() for path in (ROOT / "crates" / name / "src").rglob("*.rt")]
+    return any(public(name)) and any("ensures" in text for text in texts)
+
+
 def own(name):
     """The edits that are tried here."""
     return [Edit(path) for path in sorted((ROOT / "crates" / name / "wrong").glob("*.edit"))]
@@ -120,7 +126,8 @@ def too_few(name):
     """The public functions that fewer than two edits make wrong."""
     edits = own(name) + left_to_rt(name)
     if not edits:
-        return []
+        bare = promises(name) and not any((ROOT / "crates" / name / "must-fail").glob("*.edit"))
+        return [f"{name} has public functions with a contract, and no edit"] if bare else []
     count = {function: sum(function in edit.wrong for edit in edits) for function in public(name)}
     return [f"{name}::{function} is made wrong by {n} edits, and not by two" for function, n in count.items() if n < 2]
 
@@ -204,7 +211,9 @@ def main():
     names = sys.argv[1:] or [n for n in prover.deps if own(n)]
     missing = sorted({d for n in names for d in prover.deps[n] if d in prover.deps and not (RLIB / f"{d}.rlib").is_dir()})
     if missing:
-        sys.exit("library.sh proves no such crate: " + " ".join(missing))
+        proving = subprocess.run(["rt", "check", *missing], capture_output=True, text=True, check=False)
+        if proving.returncode:
+            sys.exit(proving.stdout + proving.stderr)
     shutil.rmtree(WORK, ignore_errors=True)
     began = time.time()
     folder = prover.folder(names[0])

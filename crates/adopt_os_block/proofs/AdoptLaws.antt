@@ -17,13 +17,13 @@ use Rattle.layer.specs.Step.{adopt, step}
 use Rattle.judge.specs.Scan.{hit, scanOf}
 use Rattle.registers.specs.Core.{storedAt, stampsWith}
 use Rattle.registers.proofs.DecisionLaws.{either}
-use Rattle.adopting.specs.Core.{adoptPasses, adoptCount, adoptAnswer, adoptId, adoptArena, adoptStamped}
-use Rattle.adopting.proofs.AdoptLaws.{adopts-not}
-use Rattle.register_laws.proofs.Around.{as-left, lent-stamps}
-use Rattle.register_laws.proofs.AdoptStep.{scan-facts, growing-fits, adopt-step}
-use Rattle.writing.specs.declared.Writing.{Writing}
-use Rattle.writing.specs.Places.{recordPlace}
-use Rattle.writing.proofs.WriteLaws.{wrote}
+use Rattle.registering.specs.Adopting.{adoptPasses, adoptCount, adoptAnswer, adoptId, adoptArena, adoptStamped}
+use Rattle.registering.proofs.adopting.AdoptLaws.{adopts-not}
+use Rattle.registering.proofs.Around.{as-left, lent-stamps}
+use Rattle.registering.proofs.AdoptStep.{scan-facts, growing-fits, adopt-step}
+use Rattle.entry.specs.declared.writing.Writing.{Writing}
+use Rattle.entry.specs.Places.{recordPlace}
+use Rattle.entry.proofs.writing.WriteLaws.{wrote}
 use Rattle.adopt_os_block.specs.Writes.{passes, adoptHit, growing, grown, AdoptWrites}
 
 stamped-below : (f : Found) (id : ℕ) → adoptStamped f id < 32 → id < 32

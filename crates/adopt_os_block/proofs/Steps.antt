@@ -38,17 +38,17 @@ use Rattle.judge.proofs.Query as Q
 use Rattle.registers.specs.declared.Registering.{Registering}
 use Rattle.registers.proofs.Registering as D
 use Rattle.registers.proofs.Registering.Laws as D′
-use Rattle.writing.specs.declared.Writing.{Writing}
-use Rattle.writing.specs.Places.{writingOf}
-use Rattle.writing.proofs.Writing as X
+use Rattle.entry.specs.declared.writing.Writing.{Writing}
+use Rattle.entry.specs.Places.{writingOf}
+use Rattle.entry.proofs.writing.Writing as X
 use Rattle.runs.specs.declared.Found.the-variants.{At}
 use Rattle.judge.specs.declared.Query.the-variants.{Meets as Meeting, Grows}
-use Rattle.adopting.specs.Core.{adoptCount, adoptAnswer, adoptId, adoptArena, adoptStamped}
+use Rattle.registering.specs.Adopting.{adoptCount, adoptAnswer, adoptId, adoptArena, adoptStamped}
 use Rattle.adopt_os_block.specs.Writes.{AdoptWrites}
-use Rattle.adopting.proofs.adopt_count as adopt-count′
-use Rattle.adopting.proofs.adopt_count.Symbol.{name as #adopting·adopt-count}
-use Rattle.adopting.proofs.adopt_core as adopt-core′
-use Rattle.adopting.proofs.adopt_core.Symbol.{name as #adopting·adopt-core}
+use Rattle.registering.proofs.adopting.adopt_count as adopt-count′
+use Rattle.registering.proofs.adopting.adopt_count.Symbol.{name as #adopting·adopt-count}
+use Rattle.registering.proofs.adopting.adopt_core as adopt-core′
+use Rattle.registering.proofs.adopting.adopt_core.Symbol.{name as #adopting·adopt-core}
 use Rattle.adopt_os_block.proofs.adopted as adopted′
 use Rattle.adopt_os_block.proofs.adopted.Symbol.{name as #adopt-os-block·adopted}
 use Rattle.adopt_os_block.proofs.adopt_writing as adopt-writing′

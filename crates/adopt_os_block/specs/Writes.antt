@@ -10,8 +10,8 @@ use Rattle.layer.specs.Table.{at, soundLent}
 use Rattle.judge.specs.declared.Query.the-variants.{Meets, Grows}
 use Rattle.judge.specs.Scan.{scanOf}
 use Rattle.registers.specs.Core.{storedAt}
-use Rattle.adopting.specs.Core.{adoptCount, adoptAnswer, adoptId, adoptArena, adoptStamped}
-use Rattle.writing.specs.declared.Writing.{Writing}
+use Rattle.registering.specs.Adopting.{adoptCount, adoptAnswer, adoptId, adoptArena, adoptStamped}
+use Rattle.entry.specs.declared.writing.Writing.{Writing}
 
 module _ (S : ℕ) (l : List Arena) (n : ℕ) (state : State) (page : ℕ) where
   abbrev pub passes : Bool

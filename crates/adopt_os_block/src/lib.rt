@@ -5,17 +5,17 @@ ghost use Prim.Native.Nat.{_/_, _<_};
 ghost use Rattle.judge.specs.declared.Query.the-variants.{Meets, Grows};
 ghost use Rattle.layer.specs.World.{worldOf, Leaves};
 ghost use Rattle.layer.specs.Step.{adopt, step};
-ghost use Rattle.adopting.specs.Core.{adoptStamped};
-ghost use Rattle.writing.specs.Places.{writingOf};
+ghost use Rattle.registering.specs.Adopting.{adoptStamped};
+ghost use Rattle.entry.specs.Places.{writingOf};
 ghost use Rattle.adopt_os_block.specs.Writes.{AdoptWrites};
 use arena::Arena;
+use entry::writing::Writing;
 use judge::Query;
 use layer::Reply;
 use layer::Settings;
 use layer::State;
 use registers::Registering;
 use runs::Found;
-use writing::Writing;
 
 // The bytes of a chunk.
 const CHUNK: u64 = 33554432;
@@ -24,7 +24,7 @@ const CHUNK: u64 = 33554432;
 fn adopted(growing: Found, d: Registering) -> Writing
     ensures { λ r. ⌜ r ≡ writingOf d (adoptStamped growing (d .id)) ⌝ }
 {
-    writing::as_written(d, adopting::adopt_stamped(growing, d.id))
+    entry::writing::as_written(d, registering::adopting::adopt_stamped(growing, d.id))
 }
 
 // What meets the block.
@@ -58,14 +58,14 @@ fn adopt_writing(
     ensures { λ r. ⌜ AdoptWrites 33554432 (now (records .entry)) stamps state page address size r ⌝ }
 {
     let ok = table::row_one(records, stamps, state, page, CHUNK);
-    let k = adopting::adopt_count(ok, state, address, size, CHUNK);
+    let k = registering::adopting::adopt_count(ok, state, address, size, CHUNK);
     let q = block_query(address, size);
     let met = table::scan(records, k, CHUNK, q);
     let g = growth_query(address, size, CHUNK);
     let growing = table::scan(records, k, CHUNK, g);
     let j = entry::stored_at(growing);
     let a = records::load_or(records, j);
-    let d = adopting::adopt_core(ok, state, address, size, met, growing, a, CHUNK);
+    let d = registering::adopting::adopt_core(ok, state, address, size, met, growing, a, CHUNK);
     adopted(growing, d)
 }
 
@@ -83,5 +83,5 @@ pub fn adopt_os_block(
 {
     let page = entry::page_of(settings);
     let w = adopt_writing(records, stamps.len(), state, page, address, size);
-    writing::write(records, stamps, w)
+    entry::writing::write(records, stamps, w)
 }

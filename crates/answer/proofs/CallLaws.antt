@@ -27,16 +27,16 @@ use Rattle.layer.specs.Table.{at, soundTable, soundLent}
 use Rattle.layer.specs.Answering.{isFor, counted, commitArena, commitReply, answerPurge, answerOf}
 use Rattle.layer.specs.Step.{answer, step}
 use Rattle.sweeps.specs.Core.{nextOf, stayArena, isAsked}
-use Rattle.question_kinds.specs.Gate.{gated}
-use Rattle.open_commit.specs.Asked.{committingId, committingStart, committingLength}
-use Rattle.open_commit.proofs.CommitLaws.{for-commit, commit-room}
-use Rattle.open_purge.proofs.PurgeLaws.{purge-stays}
+use Rattle.questions.specs.Gate.{gated}
+use Rattle.questions.specs.Commits.{committingId, committingStart, committingLength}
+use Rattle.questions.proofs.open_commit.CommitLaws.{for-commit, commit-room}
+use Rattle.questions.proofs.open_purge.PurgeLaws.{purge-stays}
 use Rattle.purge_due.proofs.CallLaws.{sweep-stamps}
 use Rattle.commit_answer.proofs.CommitLaws.{Room}
 use Rattle.purge_answer.specs.Part.{Purgeable, purgeLeft}
 use Rattle.purge_answer.proofs.PartLaws.{sound-purgeable}
 use Rattle.memory_answer.specs.Part.{Reservable, memoryLeft}
-use Rattle.answer_parts.specs.Parts.{goesFor, ownReply}
+use Rattle.questions.specs.Parts.{goesFor, ownReply}
 use Rattle.answer.specs.Call.{Answerable, answerOn}
 
 -- ---- what row 1 says of the table

@@ -41,29 +41,29 @@ use Rattle.layer.proofs.Reply as P
 use Rattle.layer.proofs.Reply.Laws as P′
 use Rattle.layer.proofs.Kind as J
 use Rattle.layer.proofs.Kind.Laws as J′
-use Rattle.question_kinds.specs.Gate.{gated}
-use Rattle.open_commit.specs.Asked.{committingId, committingStart, committingLength}
+use Rattle.questions.specs.Gate.{gated}
+use Rattle.questions.specs.Commits.{committingId, committingStart, committingLength}
 use Rattle.commit_answer.proofs.CommitLaws.{Room}
 use Rattle.purge_answer.specs.Part.{Purgeable, purgeLeft}
 use Rattle.memory_answer.specs.Part.{Reservable, memoryLeft}
-use Rattle.answer_parts.specs.Parts.{goesFor, ownReply}
+use Rattle.questions.specs.Parts.{goesFor, ownReply}
 use Rattle.answer.specs.Call.{Answerable, answerOn}
 use Rattle.records.proofs.Walk.{Loan, sliceOf, lent}
 use Rattle.records.proofs.Calls.{Site, plain-call, mut-call, mut2-call}
-use Rattle.answer_parts.proofs.goes_commit as goes-commit′
-use Rattle.answer_parts.proofs.goes_commit.Symbol.{name as #answer-parts·goes-commit}
-use Rattle.answer_parts.proofs.goes_purge as goes-purge′
-use Rattle.answer_parts.proofs.goes_purge.Symbol.{name as #answer-parts·goes-purge}
-use Rattle.answer_parts.proofs.goes_memory as goes-memory′
-use Rattle.answer_parts.proofs.goes_memory.Symbol.{name as #answer-parts·goes-memory}
+use Rattle.questions.proofs.answer_parts.goes_commit as goes-commit′
+use Rattle.questions.proofs.answer_parts.goes_commit.Symbol.{name as #answer-parts·goes-commit}
+use Rattle.questions.proofs.answer_parts.goes_purge as goes-purge′
+use Rattle.questions.proofs.answer_parts.goes_purge.Symbol.{name as #answer-parts·goes-purge}
+use Rattle.questions.proofs.answer_parts.goes_memory as goes-memory′
+use Rattle.questions.proofs.answer_parts.goes_memory.Symbol.{name as #answer-parts·goes-memory}
 use Rattle.commit_answer.proofs.commit_part as commit-part′
 use Rattle.commit_answer.proofs.commit_part.Symbol.{name as #commit-answer·commit-part}
 use Rattle.purge_answer.proofs.purge_part as purge-part′
 use Rattle.purge_answer.proofs.purge_part.Symbol.{name as #purge-answer·purge-part}
 use Rattle.memory_answer.proofs.memory_part as memory-part′
 use Rattle.memory_answer.proofs.memory_part.Symbol.{name as #memory-answer·memory-part}
-use Rattle.answer_parts.proofs.reply_for as reply-for′
-use Rattle.answer_parts.proofs.reply_for.Symbol.{name as #answer-parts·reply-for}
+use Rattle.questions.proofs.answer_parts.reply_for as reply-for′
+use Rattle.questions.proofs.answer_parts.reply_for.Symbol.{name as #answer-parts·reply-for}
 use Rattle.answer.proofs.answer_on as answer-on′
 use Rattle.answer.proofs.answer_on.Symbol.{name as #answer·answer-on}
 

@@ -11,7 +11,7 @@ use Rattle.layer.specs.declared.Kind.the-variants.{ForCommit, ForPurge}
 use Rattle.layer.specs.World.{Outcome, after, turnDown}
 use Rattle.layer.specs.Table.{at}
 use Rattle.layer.specs.Answering.{isFor, answerOf}
-use Rattle.open_commit.specs.Asked.{committingId, committingStart, committingLength}
+use Rattle.questions.specs.Commits.{committingId, committingStart, committingLength}
 use Rattle.commit_answer.proofs.CommitLaws.{Room}
 use Rattle.purge_answer.specs.Part.{Purgeable}
 use Rattle.memory_answer.specs.Part.{Reservable}

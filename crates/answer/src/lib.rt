@@ -29,13 +29,13 @@ fn answer_on(
     requires { ⌜ (0 < «chunk_size») × («chunk_size» ≤ 4294967296) × (ok ≡ true → Answerable «chunk_size» (now records) (now stamps) state) ⌝ }
     ensures { λ r. ⌜ Leaves (answerOn «chunk_size» (now (records .entry)) (now (stamps .entry)) ok state kind granted base) r (now (records .exit)) (now (stamps .exit)) ⌝ }
 {
-    let c = answer_parts::goes_commit(ok, state, kind);
-    let p = answer_parts::goes_purge(ok, state, kind);
-    let m = answer_parts::goes_memory(ok, state, kind);
+    let c = questions::answer_parts::goes_commit(ok, state, kind);
+    let p = questions::answer_parts::goes_purge(ok, state, kind);
+    let m = questions::answer_parts::goes_memory(ok, state, kind);
     let commit = commit_answer::commit_part(records, c, state, granted, chunk_size);
     let purge = purge_answer::purge_part(records, stamps, p, state, granted, chunk_size);
     let memory = memory_answer::memory_part(records, stamps, m, state, granted, base, chunk_size);
-    answer_parts::reply_for(ok, state, kind, commit, purge, memory)
+    questions::answer_parts::reply_for(ok, state, kind, commit, purge, memory)
 }
 
 // The host's answer to the question that is open. `base` is where the memory is that was asked for.

@@ -1,5 +1,8 @@
 // The record of one arena, and registering and growth by value. The other changes that a call makes to a
 // record stand in `arena_runs` and `arena_sweeps`. It knows no table, no other arena and no question.
+pub mod arena_runs;
+pub mod arena_sweeps;
+
 ghost use mathlib.Core.Path.{_≡_};
 ghost use Prim.Native.Nat.{_+_, _≤_};
 ghost use Rattle.arena.specs.Registering.{eachBit, newArena, reservedArena, managedArena, adoptedArena, grownArena};

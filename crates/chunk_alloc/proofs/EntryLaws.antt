@@ -17,7 +17,7 @@ use Rattle.runs.proofs.SearchLaws.{and-both}
 use Rattle.options.specs.Options.{arenaAllowed}
 use Rattle.arena.specs.declared.Arena.{Arena}
 use Rattle.arena.specs.Claiming.{findRun}
-use Rattle.arena_laws.proofs.Changes.{found-inside}
+use Rattle.lookup.proofs.Changes.{found-inside}
 use Rattle.lookup.specs.Soundness.{soundArena}
 use Rattle.lookup.proofs.SoundLaws.{SoundArena, arena-facts}
 use Rattle.layer.specs.declared.Settings.{Settings}
@@ -31,13 +31,13 @@ use Rattle.judge.specs.declared.Query.the-variants.{Serves}
 use Rattle.judge.specs.Scan.{hit, scanOf}
 use Rattle.claims.specs.Core.{claimCount, runReply, runArena, searchReply, searchArena, claimReply}
 use Rattle.claims.proofs.CallLaws.{count-in, count-broken}
-use Rattle.claim_laws.proofs.ClaimLaws.{hits, claim-step-set, found-sound}
+use Rattle.claims.proofs.ClaimLaws.{hits, claim-step-set, found-sound}
 use Rattle.registers.specs.Core.{isIdle, storedAt, gated}
 use Rattle.refusals.specs.declared.Refusal.the-variants.{Zero, ArenasOff}
 use Rattle.registers.proofs.WriteLaws.{sound-count}
-use Rattle.grant_parts.specs.declared.Grant.{Grant}
-use Rattle.grants.specs.Grants.{grantedReply, servedReply, claimAnswer}
-use Rattle.grant_parts.specs.Reads.{startOf, grantOf, placeOf}
+use Rattle.claims.specs.declared.grant_parts.Grant.{Grant}
+use Rattle.claims.specs.Grants.{grantedReply, servedReply, claimAnswer}
+use Rattle.claims.specs.Reads.{startOf, grantOf, placeOf}
 
 -- of a record that has a run of n: what is answered by what was read of it
 run-granted : (S : ℕ) (state : State) (i : ℕ) (a : Arena) (n : ℕ) (commits : Bool) → isAt (findRun a n) ≡ true

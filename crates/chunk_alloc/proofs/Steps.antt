@@ -52,23 +52,23 @@ use Rattle.arena.specs.Claiming.{findRun}
 use Rattle.layer.specs.World.{blank}
 use Rattle.layer.specs.Table.{isAt}
 use Rattle.layer.specs.Claiming.{grantArena}
-use Rattle.grant_parts.specs.declared.Grant.{Grant}
-use Rattle.grants.specs.Grants.{claimAnswer}
-use Rattle.grant_parts.specs.Reads.{startOf, grantOf, placeOf}
-use Rattle.grant_parts.proofs.Grant as N
-use Rattle.grant_parts.proofs.Grant.Laws as N′
+use Rattle.claims.specs.declared.grant_parts.Grant.{Grant}
+use Rattle.claims.specs.Grants.{claimAnswer}
+use Rattle.claims.specs.Reads.{startOf, grantOf, placeOf}
+use Rattle.claims.proofs.grant_parts.Grant as N
+use Rattle.claims.proofs.grant_parts.Grant.Laws as N′
 use Rattle.claims.specs.Core.{claimCount}
 use Rattle.layer.specs.World.{Leaves}
 use Rattle.claims.proofs.claim_count as count′
 use Rattle.claims.proofs.claim_count.Symbol.{name as #claims·claim-count}
 use Rattle.chunk_alloc.proofs.serves_query as query′
 use Rattle.chunk_alloc.proofs.serves_query.Symbol.{name as #chunk-alloc·serves-query}
-use Rattle.grant_parts.proofs.place_of as place′
-use Rattle.grant_parts.proofs.place_of.Symbol.{name as #grant-parts·place-of}
+use Rattle.claims.proofs.grant_parts.place_of as place′
+use Rattle.claims.proofs.grant_parts.place_of.Symbol.{name as #grant-parts·place-of}
 use Rattle.grant_at.proofs.grant_at as grant′
 use Rattle.grant_at.proofs.grant_at.Symbol.{name as #grant-at·grant-at}
-use Rattle.grants.proofs.claim_answer as answer′
-use Rattle.grants.proofs.claim_answer.Symbol.{name as #grants·claim-answer}
+use Rattle.claims.proofs.grants.claim_answer as answer′
+use Rattle.claims.proofs.grants.claim_answer.Symbol.{name as #grants·claim-answer}
 use Rattle.chunk_alloc.proofs.claim_at as claim′
 use Rattle.chunk_alloc.proofs.claim_at.Symbol.{name as #chunk-alloc·claim-at}
 use Rattle.records.proofs.Walk.{Loan, sliceOf, lent}

@@ -40,9 +40,9 @@ fn claim_at(
     let k = claims::claim_count(ok, state, settings, id, n);
     let q = serves_query(id, n);
     let f = table::scan(records, k, CHUNK, q);
-    let i = grant_parts::place_of(f);
+    let i = claims::grant_parts::place_of(f);
     let g = grant_at::grant_at(records, i, n, commits);
-    grants::claim_answer(ok, state, settings, id, n, commits, f, g, CHUNK)
+    claims::grants::claim_answer(ok, state, settings, id, n, commits, f, g, CHUNK)
 }
 
 // One chunk, committed.

@@ -25,8 +25,8 @@ use Rattle.judge.specs.Scan.{hit, scanOf}
 use Rattle.releases.specs.Core.{releaseCount, granted, releaseAnswer, recordsAfter, stampsAfter}
 use Rattle.registers.specs.Core.{storedAt}
 use Rattle.releases.proofs.ReleaseLaws.{inside, granted-at}
-use Rattle.release_laws.proofs.HeadLaws.{granted-headed, answer-headed, stamps-headed}
-use Rattle.release_laws.proofs.StepLaws.{release-step, found-facts}
+use Rattle.releases.proofs.HeadLaws.{granted-headed, answer-headed, stamps-headed}
+use Rattle.releases.proofs.StepLaws.{release-step, found-facts}
 
 module _ (S : ℕ) (l : List Arena) (stamps : List ℕ) (state : State) (settings : Settings) (address n : ℕ) where
   abbrev pub okOf : Bool

@@ -59,7 +59,7 @@ pub fn chunk_release(
     let s = releases::start_of(h, address, CHUNK);
     let ms = release_ms(ns);
     let delay = release_delay(settings);
-    release_at::release_if(records, on, i, s, n, told, pending, ms, delay);
+    records::release_at::release_if(records, on, i, s, n, told, pending, ms, delay);
     releases::release_stamps(stamps, address, n, pending, ms, f, h, CHUNK);
     releases::release_answer(ok, state, address, n, f, h, CHUNK)
 }

@@ -1,13 +1,18 @@
 // A claim by value: what it answers, and what it makes of the record that the scan found. It knows no
 // table: the scan and the stores stand above.
+pub mod claim_miss;
+pub mod grant_parts;
+pub mod granting;
+pub mod grants;
+
 ghost use mathlib.Core.Path.{_≡_};
 ghost use mathlib.Core.Bool.{true};
 ghost use Prim.Native.Nat.{ℕ, _<_, _≤_};
 ghost use Rattle.runs.specs.declared.Found.the-variants.{At};
 ghost use Rattle.lookup.specs.Soundness.{soundArena};
 ghost use Rattle.claims.specs.Core.{claimCount, searchArena, searchReply};
+use crate::granting::Served;
 use arena::Arena;
-use granting::Served;
 use layer::Reply;
 use layer::Settings;
 use layer::State;
@@ -37,10 +42,10 @@ pub fn search_end(
         Found::At(i) => {
             let run = judge::run_of(a, n);
             match run {
-                Found::At(s) => granting::grant(a, i, s, n, commits, k, mark, chunk_size),
+                Found::At(s) => crate::granting::grant(a, i, s, n, commits, k, mark, chunk_size),
                 Found::Nothing => Served {
                     arena: a,
-                    reply: claim_miss::refuse(Refusal::NoRun, k, mark),
+                    reply: crate::claim_miss::refuse(Refusal::NoRun, k, mark),
                 },
             }
         }

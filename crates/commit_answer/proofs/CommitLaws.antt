@@ -10,7 +10,7 @@ use Rattle.layer.specs.declared.Question.{Question}
 use Rattle.layer.specs.World.{blank}
 use Rattle.layer.specs.Table.{at}
 use Rattle.layer.specs.Answering.{commitArena, commitReply}
-use Rattle.open_commit.specs.Asked.{committingId, committingStart, committingLength}
+use Rattle.questions.specs.Commits.{committingId, committingStart, committingLength}
 use Rattle.commit_answer.specs.Run.{runId, runStart, runLength}
 
 -- past the end of a list nothing is set, and nothing stands there

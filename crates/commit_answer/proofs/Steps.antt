@@ -33,9 +33,9 @@ use Rattle.layer.proofs.State.Laws as Z′
 use Rattle.layer.specs.declared.Reply.{Reply}
 use Rattle.layer.proofs.Reply as Y
 use Rattle.layer.specs.Answering.{commitArena, commitReply}
-use Rattle.granting.specs.declared.Served.{Served}
-use Rattle.granting.proofs.Served as D
-use Rattle.granting.proofs.Served.Laws as D′
+use Rattle.claims.specs.declared.granting.Served.{Served}
+use Rattle.claims.proofs.granting.Served as D
+use Rattle.claims.proofs.granting.Served.Laws as D′
 use Rattle.records.proofs.Calls.{Site, plain-call}
 use Rattle.commit_answer.specs.Run.{runId, runStart, runLength}
 use Rattle.commit_answer.proofs.CommitLaws.{Room}

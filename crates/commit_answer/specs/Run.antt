@@ -2,7 +2,7 @@
 use mathlib.Core.Bool.{Bool, cond}
 use Prim.Native.Nat.{ℕ}
 use Rattle.layer.specs.declared.Question.{Question}
-use Rattle.open_commit.specs.Asked.{committingId, committingStart, committingLength}
+use Rattle.questions.specs.Commits.{committingId, committingStart, committingLength}
 
 abbrev pub runId : Bool → Question → ℕ
 runId go q = cond go (committingId q) 18446744073709551615

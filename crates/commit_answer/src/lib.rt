@@ -5,10 +5,10 @@ ghost use Prim.Native.Nat.{_+_, _*_, _^_, _<_, _≤_};
 ghost use lib.ListN.{set};
 ghost use Rattle.layer.specs.Table.{at};
 ghost use Rattle.layer.specs.Answering.{commitArena, commitReply};
-ghost use Rattle.open_commit.specs.Asked.{committingId, committingStart, committingLength};
+ghost use Rattle.questions.specs.Commits.{committingId, committingStart, committingLength};
 ghost use Rattle.commit_answer.specs.Run.{runId, runStart, runLength};
 use arena::Arena;
-use granting::Served;
+use claims::granting::Served;
 use layer::Question;
 use layer::Reply;
 use layer::State;
@@ -27,7 +27,7 @@ fn run_of(go: bool, q: Question) -> Run
     ensures { λ r. ⌜ (r .id ≡ runId go q) × (r .start ≡ runStart go q) × (r .n ≡ runLength go q) ⌝ }
 {
     if go {
-        let c = open_commit::committing(q);
+        let c = questions::open_commit::committing(q);
         return Run {
             id: c.id,
             start: c.start,
@@ -57,7 +57,7 @@ fn serve(a: Arena, go: bool, state: State, granted: bool, chunk_size: u64) -> Se
 {
     let q = state.question;
     let run = run_of(go, q);
-    open_commit::commit_core(
+    questions::open_commit::commit_core(
         a,
         run.start,
         run.n,

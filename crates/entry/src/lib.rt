@@ -1,4 +1,6 @@
 // What the entry points share: small parts by value, so that a walk over the lent table opens no record.
+pub mod writing;
+
 ghost use mathlib.Core.Path.{_≡_};
 ghost use Rattle.judge.specs.declared.Query.the-variants.{Holds};
 ghost use Rattle.registers.specs.Core.{storedAt};

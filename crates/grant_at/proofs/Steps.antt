@@ -38,31 +38,31 @@ use Rattle.layer.specs.Claiming.{grantArena}
 use Rattle.judge.specs.declared.Head.{Head}
 use Rattle.judge.proofs.Head as D
 use Rattle.judge.proofs.Head.Laws as D′
-use Rattle.grant_parts.specs.declared.Grant.{Grant}
-use Rattle.grant_parts.specs.Reads.{startOf, grantOf}
-use Rattle.grant_parts.proofs.Grant as N
+use Rattle.claims.specs.declared.grant_parts.Grant.{Grant}
+use Rattle.claims.specs.Reads.{startOf, grantOf}
+use Rattle.claims.proofs.grant_parts.Grant as N
 use Rattle.records.proofs.Walk.{Loan, sliceOf, lent}
 use Rattle.records.proofs.Calls.{Site, plain-call, shr-call, mut-call}
-use Rattle.map_changes.proofs.take_at as take′
-use Rattle.map_changes.proofs.take_at.Symbol.{name as #map-changes·take-at}
-use Rattle.map_changes.proofs.dirty_at as dirty′
-use Rattle.map_changes.proofs.dirty_at.Symbol.{name as #map-changes·dirty-at}
-use Rattle.maps.proofs.run_at as run′
-use Rattle.maps.proofs.run_at.Symbol.{name as #maps·run-at}
-use Rattle.run_maps.proofs.committed_at as committed′
-use Rattle.run_maps.proofs.committed_at.Symbol.{name as #run-maps·committed-at}
-use Rattle.run_maps.proofs.fresh_at as fresh′
-use Rattle.run_maps.proofs.fresh_at.Symbol.{name as #run-maps·fresh-at}
+use Rattle.records.proofs.map_changes.take_at as take′
+use Rattle.records.proofs.map_changes.take_at.Symbol.{name as #map-changes·take-at}
+use Rattle.records.proofs.map_changes.dirty_at as dirty′
+use Rattle.records.proofs.map_changes.dirty_at.Symbol.{name as #map-changes·dirty-at}
+use Rattle.records.proofs.maps.run_at as run′
+use Rattle.records.proofs.maps.run_at.Symbol.{name as #maps·run-at}
+use Rattle.records.proofs.run_maps.committed_at as committed′
+use Rattle.records.proofs.run_maps.committed_at.Symbol.{name as #run-maps·committed-at}
+use Rattle.records.proofs.run_maps.fresh_at as fresh′
+use Rattle.records.proofs.run_maps.fresh_at.Symbol.{name as #run-maps·fresh-at}
 use Rattle.judge.proofs.chunks_of as chunks′
 use Rattle.judge.proofs.chunks_of.Symbol.{name as #judge·chunks-of}
-use Rattle.grant_parts.proofs.start_of as start′
-use Rattle.grant_parts.proofs.start_of.Symbol.{name as #grant-parts·start-of}
-use Rattle.grant_parts.proofs.asks_commit as asks′
-use Rattle.grant_parts.proofs.asks_commit.Symbol.{name as #grant-parts·asks-commit}
-use Rattle.grant_parts.proofs.grant_of as grant′
-use Rattle.grant_parts.proofs.grant_of.Symbol.{name as #grant-parts·grant-of}
-use Rattle.grant_parts.proofs.no_grant as none′
-use Rattle.grant_parts.proofs.no_grant.Symbol.{name as #grant-parts·no-grant}
+use Rattle.claims.proofs.grant_parts.start_of as start′
+use Rattle.claims.proofs.grant_parts.start_of.Symbol.{name as #grant-parts·start-of}
+use Rattle.claims.proofs.grant_parts.asks_commit as asks′
+use Rattle.claims.proofs.grant_parts.asks_commit.Symbol.{name as #grant-parts·asks-commit}
+use Rattle.claims.proofs.grant_parts.grant_of as grant′
+use Rattle.claims.proofs.grant_parts.grant_of.Symbol.{name as #grant-parts·grant-of}
+use Rattle.claims.proofs.grant_parts.no_grant as none′
+use Rattle.claims.proofs.grant_parts.no_grant.Symbol.{name as #grant-parts·no-grant}
 use Rattle.grant_at.proofs.take_in as take-in′
 use Rattle.grant_at.proofs.take_in.Symbol.{name as #grant-at·take-in}
 use Rattle.grant_at.proofs.grant_in as grant-in′

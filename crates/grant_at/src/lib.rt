@@ -7,20 +7,20 @@ ghost use Rattle.arena.specs.Claiming.{findRun, takeRun, dirtyRun};
 ghost use Rattle.layer.specs.World.{blank};
 ghost use Rattle.layer.specs.Table.{isAt};
 ghost use Rattle.layer.specs.Claiming.{grantArena};
-ghost use Rattle.grant_parts.specs.Reads.{startOf, grantOf};
+ghost use Rattle.claims.specs.Reads.{startOf, grantOf};
 use arena::Arena;
-use grant_parts::Grant;
+use claims::grant_parts::Grant;
 
 // The run taken; dirty too, unless that waits for the host's yes.
 fn take_in(records: &mut [Arena], i: usize, s: usize, n: usize, waits: bool)
     requires { ⌜ (i < length (now records)) × (s + n ≤ 1024) ⌝ }
     ensures { λ _. ⌜ now (records .exit) ≡ set (now (records .entry)) i (cond waits (takeRun (getD (now (records .entry)) i blank) s n) (dirtyRun (takeRun (getD (now (records .entry)) i blank) s n) s n)) ⌝ }
 {
-    map_changes::take_at(records, i, s, n);
+    records::map_changes::take_at(records, i, s, n);
     if waits {
         return;
     }
-    map_changes::dirty_at(records, i, s, n);
+    records::map_changes::dirty_at(records, i, s, n);
 }
 
 // The lowest run of n of the record, which has one, taken; what was read of it.
@@ -30,13 +30,13 @@ fn grant_in(records: &mut [Arena], i: usize, n: usize, commits: bool) -> Grant
 {
     let h = table::head_or(records, i);
     let chunks = judge::chunks_of(h);
-    let run = maps::run_at(records, i, chunks, n);
-    let s = grant_parts::start_of(run);
-    let committed = run_maps::committed_at(records, i, s, n);
-    let fresh = run_maps::fresh_at(records, i, s, n);
-    let waits = grant_parts::asks_commit(commits, committed);
+    let run = records::maps::run_at(records, i, chunks, n);
+    let s = claims::grant_parts::start_of(run);
+    let committed = records::run_maps::committed_at(records, i, s, n);
+    let fresh = records::run_maps::fresh_at(records, i, s, n);
+    let waits = claims::grant_parts::asks_commit(commits, committed);
     take_in(records, i, s, n, waits);
-    grant_parts::grant_of(h, s, committed, fresh)
+    claims::grant_parts::grant_of(h, s, committed, fresh)
 }
 
 // The same at any id: past the end nothing is taken.
@@ -47,5 +47,5 @@ pub fn grant_at(records: &mut [Arena], i: usize, n: usize, commits: bool) -> Gra
     if i < records.len() {
         return grant_in(records, i, n, commits);
     }
-    grant_parts::no_grant()
+    claims::grant_parts::no_grant()
 }

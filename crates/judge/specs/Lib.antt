@@ -1,2 +1,4 @@
 pub mod Scan
 pub mod Heads
+pub mod Questions
+pub mod Spans

@@ -1,5 +1,12 @@
 // What is judged of one record, by value: the queries of a scan over the table.
 // The records may be any at all.
+pub mod heads;
+pub mod open_question;
+pub mod ranges;
+pub mod row_parts;
+pub mod serving;
+pub mod spans;
+
 ghost use mathlib.Core.Path.{_≡_};
 ghost use Prim.Native.Nat.{_≤_};
 ghost use Rattle.arena.specs.Claiming.{findRun};

@@ -17,7 +17,7 @@ use Rattle.runs.proofs.SearchLaws.{and-both}
 use Rattle.arena.specs.declared.Arena.{Arena}
 use Rattle.lookup.specs.Place.{bytesOf, endOf}
 use Rattle.lookup.proofs.SoundLaws.{SoundArena}
-use Rattle.arena_laws.specs.Rows.{Rows}
+use Rattle.lookup.specs.Rows.{Rows}
 use Rattle.layer.specs.declared.Question.{Question}
 use Rattle.layer.specs.declared.Question.the-variants.{Idle, Committing, Purging, Reserving, GivingBack}
 use Rattle.layer.specs.Table.{at, isAt, meets, overlaps, apart, askedId, soundQuestion}

@@ -31,8 +31,8 @@ use Rattle.arena.specs.Sweeping.{sweepDue, disarm, toAsk, young, nextAsked, bor
 use Rattle.lookup.specs.Place.{bytesOf, endOf, isInside}
 use Rattle.lookup.proofs.PlaceLaws.{Within, inside-facts}
 use Rattle.purge.specs.Stamps.{stampsOf}
-use Rattle.arena_laws.specs.Rows.{Rows}
-use Rattle.arena_laws.proofs.Changes.{found-inside, disarm-rows, return-rows, rearm-rows}
+use Rattle.lookup.specs.Rows.{Rows}
+use Rattle.lookup.proofs.Changes.{found-inside, disarm-rows, return-rows, rearm-rows}
 use Rattle.layer.specs.declared.Settings.{Settings}
 use Rattle.layer.specs.declared.Sweep.{Sweep}
 use Rattle.layer.specs.declared.Question.{Question}

@@ -21,10 +21,10 @@ use Rattle.arena.specs.Releasing.{tellRun, pendRun, releaseRun, stampRun}
 use Rattle.arena.specs.Sweeping.{sweepDue, toAsk, nextAsked, disarm, borrowChunk, unpendChunk, returnChunk, nextWait, rearmAt, rearm}
 use Rattle.lookup.proofs.SoundLaws.{SoundArena}
 use Rattle.purge.specs.Stamps.{stampsOf}
-use Rattle.arena_laws.specs.Rows.{Rows}
-use Rattle.arena_laws.proofs.RowLaws.{bit-in}
-use Rattle.arena_laws.proofs.Changes.{found-inside, take-rows, dirty-rows, release-rows, disarm-rows, borrow-rows, rearm-rows}
-use Rattle.arena_laws.proofs.Soundness.{take-sound, dirty-sound, release-sound, disarm-sound, borrow-sound, rearm-sound}
+use Rattle.lookup.specs.Rows.{Rows}
+use Rattle.lookup.proofs.RowLaws.{bit-in}
+use Rattle.lookup.proofs.Changes.{found-inside, take-rows, dirty-rows, release-rows, disarm-rows, borrow-rows, rearm-rows}
+use Rattle.lookup.proofs.StaysSound.{take-sound, dirty-sound, release-sound, disarm-sound, borrow-sound, rearm-sound}
 use Rattle.layer.specs.declared.Sweep.{Sweep}
 use Rattle.layer.specs.declared.Question.the-variants.{Committing}
 use Rattle.layer.specs.declared.Reply.{Reply}

@@ -28,7 +28,7 @@ use Rattle.lookup.specs.Soundness.{soundArena}
 use Rattle.lookup.proofs.SoundLaws.{never}
 use Rattle.lookup.proofs.PlaceLaws.{inside-test}
 use Rattle.purge.specs.Stamps.{stampsOf}
-use Rattle.arena_laws.proofs.Changes.{found-inside}
+use Rattle.lookup.proofs.Changes.{found-inside}
 use Rattle.layer.specs.declared.Settings.{Settings}
 use Rattle.layer.specs.declared.Sweep.{Sweep}
 use Rattle.layer.specs.declared.Question.{Question}

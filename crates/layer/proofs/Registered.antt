@@ -16,9 +16,9 @@ use Rattle.arena.specs.declared.Arena.{Arena}
 use Rattle.arena.specs.Registering.{newArena, reservedArena, managedArena, adoptedArena, grownArena}
 use Rattle.lookup.specs.Place.{bytesOf, endOf}
 use Rattle.lookup.proofs.SoundLaws.{SoundRange, SoundArena}
-use Rattle.arena_laws.specs.Rows.{Rows}
-use Rattle.arena_laws.proofs.Changes.{new-rows, grown-rows}
-use Rattle.arena_laws.proofs.Soundness.{new-sound, grown-sound}
+use Rattle.lookup.specs.Rows.{Rows}
+use Rattle.lookup.proofs.Changes.{new-rows, grown-rows}
+use Rattle.lookup.proofs.StaysSound.{new-sound, grown-sound}
 use Rattle.layer.specs.Table.{at, meets, badRange}
 use Rattle.layer.specs.Registering.{chunksFor, askMemory, badCount, withStamps, register, firstWhole, pastWhole, grows, reserveOf, manageOf, adoptOf}
 use Rattle.layer.proofs.Tools.{or-false, at-same, at-other, by-set}

@@ -19,9 +19,9 @@ use Rattle.arena.specs.Claiming.{giveBackRun, finishGrant}
 use Rattle.arena.specs.Sweeping.{returnChunk}
 use Rattle.lookup.specs.Soundness.{soundArena}
 use Rattle.lookup.proofs.SoundLaws.{SoundRange, arena-facts, arena-test}
-use Rattle.arena_laws.specs.Rows.{Rows}
-use Rattle.arena_laws.proofs.Changes.{finish-rows, give-back-rows, return-rows}
-use Rattle.arena_laws.proofs.Soundness.{finish-sound, give-back-sound, return-sound}
+use Rattle.lookup.specs.Rows.{Rows}
+use Rattle.lookup.proofs.Changes.{finish-rows, give-back-rows, return-rows}
+use Rattle.lookup.proofs.StaysSound.{finish-sound, give-back-sound, return-sound}
 use Rattle.layer.specs.declared.Settings.{Settings}
 use Rattle.layer.specs.declared.Sweep.{Sweep}
 use Rattle.layer.specs.declared.Question.{Question}

@@ -18,9 +18,9 @@ use Rattle.arena.specs.Registering.{noBits, eachBit, newArena, reservedArena, m
 use Rattle.arena.specs.Claiming.{runFresh, takeRun, giveBackRun, commitRun, dirtyRun, finishGrant}
 use Rattle.arena.specs.Releasing.{tellRun, pendRun, releaseRun}
 use Rattle.arena.specs.Sweeping.{disarm, borrowChunk, unpendChunk, returnChunk, nextWait, rearmAt, rearm}
-use Rattle.arena_laws.specs.Rows.{Rows}
-use Rattle.arena_laws.proofs.RowLaws.{bit-write, no-bits-row, no-bits}
-use Rattle.arena_laws.proofs.Changes.{take-used, dirty-dirty, finish-dirty, release-used, release-dirty}
+use Rattle.lookup.specs.Rows.{Rows}
+use Rattle.lookup.proofs.RowLaws.{bit-write, no-bits-row, no-bits}
+use Rattle.lookup.proofs.Changes.{take-used, dirty-dirty, finish-dirty, release-used, release-dirty}
 use Rattle.layer.specs.declared.Sweep.{Sweep}
 use Rattle.layer.specs.declared.Question.the-variants.{Committing, Purging}
 use Rattle.layer.proofs.Kept.{take-range, release-range}

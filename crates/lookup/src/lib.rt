@@ -1,5 +1,7 @@
 // What one arena's record says, by value: the lowest run of free chunks, where an address lies, and
 // whether the record is sound. It knows no table and no other arena.
+pub mod soundness;
+
 ghost use mathlib.Core.Path.{_≡_};
 ghost use Prim.Native.Nat.{_+_, _<_, _≤_};
 ghost use Rattle.arena.specs.Claiming.{findRun, runCommitted, runFresh};

@@ -18,13 +18,13 @@ use Rattle.layer.specs.Step.{manage, step}
 use Rattle.judge.specs.Scan.{hit, scanOf}
 use Rattle.registers.specs.Core.{recordsWith, stampsWith}
 use Rattle.registers.proofs.DecisionLaws.{either}
-use Rattle.managing.specs.Core.{managePasses, manageBytes, manageAnswer, manageId}
-use Rattle.managing.proofs.ManageLaws.{manages-not}
-use Rattle.register_laws.proofs.Around.{as-left, lent-stamps}
-use Rattle.register_laws.proofs.ManageStep.{manageMet, manage-met, manage-step}
-use Rattle.writing.specs.declared.Writing.{Writing}
-use Rattle.writing.specs.Places.{recordPlace}
-use Rattle.writing.proofs.WriteLaws.{wrote}
+use Rattle.registering.specs.Managing.{managePasses, manageBytes, manageAnswer, manageId}
+use Rattle.registering.proofs.managing.ManageLaws.{manages-not}
+use Rattle.registering.proofs.Around.{as-left, lent-stamps}
+use Rattle.registering.proofs.ManageStep.{manageMet, manage-met, manage-step}
+use Rattle.entry.specs.declared.writing.Writing.{Writing}
+use Rattle.entry.specs.Places.{recordPlace}
+use Rattle.entry.proofs.writing.WriteLaws.{wrote}
 use Rattle.manage_os_memory.specs.Writes.{passes, manageHit, ManageWrites}
 
 module _ (S : ℕ) (l : List Arena) (stamps : List ℕ) (state : State) (ns : ℕ) (settings : Settings) where

@@ -39,18 +39,18 @@ use Rattle.judge.proofs.Query as Q
 use Rattle.registers.specs.declared.Registering.{Registering}
 use Rattle.registers.proofs.Registering as D
 use Rattle.registers.proofs.Registering.Laws as D′
-use Rattle.writing.specs.declared.Writing.{Writing}
-use Rattle.writing.specs.Places.{writingOf}
-use Rattle.writing.proofs.Writing as X
+use Rattle.entry.specs.declared.writing.Writing.{Writing}
+use Rattle.entry.specs.Places.{writingOf}
+use Rattle.entry.proofs.writing.Writing as X
 use Rattle.judge.specs.declared.Query.the-variants.{Meets as Meeting}
 use Rattle.arena.specs.Registering.{managedArena}
 use Rattle.layer.specs.Registering.{firstWhole}
-use Rattle.managing.specs.Core.{manageCount, manageBytes, manageAnswer, manageId, manageBase, manageLength}
+use Rattle.registering.specs.Managing.{manageCount, manageBytes, manageAnswer, manageId, manageBase, manageLength}
 use Rattle.manage_os_memory.specs.Writes.{ManageWrites}
-use Rattle.managing.proofs.manage_count as manage-count′
-use Rattle.managing.proofs.manage_count.Symbol.{name as #managing·manage-count}
-use Rattle.managing.proofs.manage_core as manage-core′
-use Rattle.managing.proofs.manage_core.Symbol.{name as #managing·manage-core}
+use Rattle.registering.proofs.managing.manage_count as manage-count′
+use Rattle.registering.proofs.managing.manage_count.Symbol.{name as #managing·manage-count}
+use Rattle.registering.proofs.managing.manage_core as manage-core′
+use Rattle.registering.proofs.managing.manage_core.Symbol.{name as #managing·manage-core}
 use Rattle.manage_os_memory.proofs.managed as managed′
 use Rattle.manage_os_memory.proofs.managed.Symbol.{name as #manage-os-memory·managed}
 use Rattle.manage_os_memory.proofs.manage_writing as manage-writing′

@@ -12,8 +12,8 @@ use Rattle.layer.specs.Table.{soundLent}
 use Rattle.layer.specs.Registering.{firstWhole}
 use Rattle.judge.specs.declared.Query.the-variants.{Meets}
 use Rattle.judge.specs.Scan.{scanOf}
-use Rattle.managing.specs.Core.{manageCount, manageBytes, manageAnswer, manageId, manageBase, manageLength}
-use Rattle.writing.specs.declared.Writing.{Writing}
+use Rattle.registering.specs.Managing.{manageCount, manageBytes, manageAnswer, manageId, manageBase, manageLength}
+use Rattle.entry.specs.declared.writing.Writing.{Writing}
 
 module _ (S : ℕ) (l : List Arena) (n : ℕ) (state : State) (page : ℕ) where
   abbrev pub passes : Bool

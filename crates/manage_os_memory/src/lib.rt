@@ -5,16 +5,16 @@ ghost use Prim.Native.Nat.{_<_, _≤_};
 ghost use Rattle.judge.specs.declared.Query.the-variants.{Meets};
 ghost use Rattle.layer.specs.World.{worldOf, Leaves};
 ghost use Rattle.layer.specs.Step.{manage, step};
-ghost use Rattle.managing.specs.Core.{manageBase, manageLength};
-ghost use Rattle.writing.specs.Places.{writingOf};
+ghost use Rattle.registering.specs.Managing.{manageBase, manageLength};
+ghost use Rattle.entry.specs.Places.{writingOf};
 ghost use Rattle.manage_os_memory.specs.Writes.{ManageWrites};
 use arena::Arena;
+use entry::writing::Writing;
 use judge::Query;
 use layer::Reply;
 use layer::Settings;
 use layer::State;
 use registers::Registering;
-use writing::Writing;
 
 // The bytes of a chunk.
 const CHUNK: u64 = 33554432;
@@ -23,7 +23,7 @@ const CHUNK: u64 = 33554432;
 fn managed(d: Registering) -> Writing
     ensures { λ r. ⌜ r ≡ writingOf d (d .id) ⌝ }
 {
-    writing::as_written(d, d.id)
+    entry::writing::as_written(d, d.id)
 }
 
 // What meets the whole chunks inside the range.
@@ -31,8 +31,8 @@ fn manage_query(start: u64, size: u64, chunk_size: u64) -> Query
     requires { ⌜ (0 < «chunk_size») × («chunk_size» ≤ 4294967296) ⌝ }
     ensures { λ r. ⌜ r ≡ Meets (manageBase «chunk_size» start size) (manageLength «chunk_size» start size) ⌝ }
 {
-    let base = managing::manage_base(start, size, chunk_size);
-    let bytes = managing::manage_bytes(start, size, chunk_size);
+    let base = registering::managing::manage_base(start, size, chunk_size);
+    let bytes = registering::managing::manage_bytes(start, size, chunk_size);
     Query::Meets { base, bytes }
 }
 
@@ -52,10 +52,10 @@ fn manage_writing(
     ensures { λ r. ⌜ ManageWrites 33554432 (now (records .entry)) stamps state page start size exclusive node mapped reserved r ⌝ }
 {
     let ok = table::row_one(records, stamps, state, page, CHUNK);
-    let k = managing::manage_count(ok, state, start, size, mapped, reserved, CHUNK);
+    let k = registering::managing::manage_count(ok, state, start, size, mapped, reserved, CHUNK);
     let q = manage_query(start, size, CHUNK);
     let met = table::scan(records, k, CHUNK, q);
-    let d = managing::manage_core(
+    let d = registering::managing::manage_core(
         ok,
         state,
         start,
@@ -103,5 +103,5 @@ pub fn manage_os_memory_ex(
         mapped,
         reserved,
     );
-    writing::write(records, stamps, w)
+    entry::writing::write(records, stamps, w)
 }

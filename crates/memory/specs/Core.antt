@@ -4,7 +4,7 @@ use Prim.Native.Nat.{ℕ, suc}
 use Rattle.runs.specs.declared.Found.{Found}
 use Rattle.layer.specs.declared.Waiting.{Waiting}
 use Rattle.layer.specs.declared.Waiting.the-variants.{Reserve, Claim}
-use Rattle.memory_given.specs.Given.{memoryRegisters}
+use Rattle.memory.specs.Given.{memoryRegisters}
 
 -- the id that is registered; 32 for none
 unfoldable pub memoryId : ℕ → ℕ → ℕ → Bool → ℕ → Found → ℕ

@@ -1,1 +1,4 @@
 pub mod Core
+pub mod GivenBack
+pub mod Given
+pub mod Replies

@@ -1,11 +1,15 @@
 // The answer to a memory question by value: which record is registered where, what is answered, and how many
 // records the claim that waits looks at once more.
+pub mod given;
+pub mod given_back;
+pub mod replies;
+
 ghost use mathlib.Core.Path.{_≡_};
 ghost use mathlib.Core.Bool.{true};
 ghost use Prim.Native.Nat.{_<_, _≤_};
 ghost use Rattle.arena.specs.Registering.{reservedArena};
-ghost use Rattle.memory_given.specs.Given.{memoryRegisters};
-ghost use Rattle.memory_replies.specs.Replies.{memoryReply};
+ghost use Rattle.memory.specs.Given.{memoryRegisters};
+ghost use Rattle.memory.specs.Replies.{memoryReply};
 ghost use Rattle.memory.specs.Core.{memoryId, waitingCount, waitingN, waitingCommits, searchCount};
 use arena::Arena;
 use layer::Reply;
@@ -46,7 +50,7 @@ fn memory_id(
     requires { ⌜ 0 < «chunk_size» ⌝ }
     ensures { λ r. ⌜ r ≡ memoryId «chunk_size» count chunks granted base met ⌝ }
 {
-    if memory_given::memory_registers(count, chunks, granted, base, met, chunk_size) {
+    if crate::given::memory_registers(count, chunks, granted, base, met, chunk_size) {
         return count;
     }
     32
@@ -97,7 +101,7 @@ fn search_count(
     requires { ⌜ 0 < «chunk_size» ⌝ }
     ensures { λ r. ⌜ r ≡ searchCount «chunk_size» count chunks waiting granted base met ⌝ }
 {
-    if memory_given::memory_registers(count, chunks, granted, base, met, chunk_size) {
+    if crate::given::memory_registers(count, chunks, granted, base, met, chunk_size) {
         return waiting_count(count + 1, waiting);
     }
     0
@@ -124,7 +128,7 @@ pub fn memory_core(
 {
     let id = memory_id(count, chunks, granted, base, met, chunk_size);
     let arena = memory_arena(base, chunks, commit, exclusive);
-    let reply = memory_replies::memory_reply(
+    let reply = crate::replies::memory_reply(
         count,
         mark,
         chunks,

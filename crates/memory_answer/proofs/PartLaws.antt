@@ -24,15 +24,15 @@ use Rattle.judge.specs.Scan.{hit, scanOf}
 use Rattle.registers.specs.Core.{storedAt, recordsWith, stampsWith}
 use Rattle.registers.proofs.DecisionLaws.{either}
 use Rattle.claims.specs.Core.{searchReply, searchArena}
-use Rattle.claim_laws.proofs.ClaimLaws.{set-same, scan-hits}
+use Rattle.claims.proofs.ClaimLaws.{set-same, scan-hits}
 use Rattle.memory.specs.declared.Memory.{Memory}
-use Rattle.memory_given.specs.Given.{memoryRegisters}
-use Rattle.memory_replies.specs.Replies.{memoryReply}
+use Rattle.memory.specs.Given.{memoryRegisters}
+use Rattle.memory.specs.Replies.{memoryReply}
 use Rattle.memory.specs.Core.{memoryId, waitingN, waitingCommits, searchCount}
-use Rattle.memory_laws.proofs.MemoryLaws.{memoryMet, memory-answer}
-use Rattle.memory_laws.proofs.FoundLaws.{memory-sound, memory-hits}
-use Rattle.writing.specs.Places.{recordPlace}
-use Rattle.writing.proofs.WriteLaws.{record-placed}
+use Rattle.memory.proofs.MemoryLaws.{memoryMet, memory-answer}
+use Rattle.memory.proofs.FoundLaws.{memory-sound, memory-hits}
+use Rattle.entry.specs.Places.{recordPlace}
+use Rattle.entry.proofs.writing.WriteLaws.{record-placed}
 use Rattle.memory_answer.specs.declared.Reserved.{Reserved}
 use Rattle.memory_answer.specs.Part.{reservingOf, metOf, Decides, foundOf, foundArena, againReply, againRecords, Reservable, memoryLeft}
 

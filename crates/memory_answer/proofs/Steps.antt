@@ -46,18 +46,18 @@ use Rattle.judge.specs.declared.Query.the-variants.{Meets, Serves}
 use Rattle.judge.proofs.Query as Q
 use Rattle.records.proofs.Walk.{Loan, sliceOf, lent}
 use Rattle.records.proofs.Calls.{Site, plain-call, shr-call, mut-call}
-use Rattle.granting.specs.declared.Served.{Served}
+use Rattle.claims.specs.declared.granting.Served.{Served}
 use Rattle.claims.specs.Core.{searchArena, searchReply}
-use Rattle.granting.proofs.Served as D
-use Rattle.granting.proofs.Served.Laws as D′
+use Rattle.claims.proofs.granting.Served as D
+use Rattle.claims.proofs.granting.Served.Laws as D′
 use Rattle.memory.specs.declared.Memory.{Memory as Made}
-use Rattle.memory_given.specs.Given.{memoryBytes}
+use Rattle.memory.specs.Given.{memoryBytes}
 use Rattle.memory.proofs.Memory as X
 use Rattle.memory.proofs.Memory.Laws as X′
-use Rattle.writing.specs.declared.Writing.{Writing}
-use Rattle.writing.proofs.Writing as Y
+use Rattle.entry.specs.declared.writing.Writing.{Writing}
+use Rattle.entry.proofs.writing.Writing as Y
 use Rattle.memory_answer.specs.Part.{reservingOf, scanCount, metOf, Decides, againReply, againRecords}
-use Rattle.memory_parts.specs.Parts.{writingOf}
+use Rattle.memory_answer.specs.Parts.{writingOf}
 use Rattle.memory_answer.proofs.scan_count as scan-count′
 use Rattle.memory_answer.proofs.scan_count.Symbol.{name as #memory-answer·scan-count}
 use Rattle.memory_answer.proofs.range_query as range-query′
@@ -66,12 +66,12 @@ use Rattle.memory_answer.proofs.decide as decide′
 use Rattle.memory_answer.proofs.decide.Symbol.{name as #memory-answer·decide}
 use Rattle.memory_answer.proofs.memory_decided as memory-decided′
 use Rattle.memory_answer.proofs.memory_decided.Symbol.{name as #memory-answer·memory-decided}
-use Rattle.memory_parts.proofs.as_written as as-written′
-use Rattle.memory_parts.proofs.as_written.Symbol.{name as #memory-parts·as-written}
-use Rattle.memory_parts.proofs.search_of as search-of′
-use Rattle.memory_parts.proofs.search_of.Symbol.{name as #memory-parts·search-of}
-use Rattle.memory_parts.proofs.again_query as again-query′
-use Rattle.memory_parts.proofs.again_query.Symbol.{name as #memory-parts·again-query}
+use Rattle.memory_answer.proofs.parts.as_written as as-written′
+use Rattle.memory_answer.proofs.parts.as_written.Symbol.{name as #memory-parts·as-written}
+use Rattle.memory_answer.proofs.parts.search_of as search-of′
+use Rattle.memory_answer.proofs.parts.search_of.Symbol.{name as #memory-parts·search-of}
+use Rattle.memory_answer.proofs.parts.again_query as again-query′
+use Rattle.memory_answer.proofs.parts.again_query.Symbol.{name as #memory-parts·again-query}
 use Rattle.memory_answer.proofs.record_of as record-of′
 use Rattle.memory_answer.proofs.record_of.Symbol.{name as #memory-answer·record-of}
 use Rattle.memory_answer.proofs.reply_of as reply-of′

@@ -23,8 +23,8 @@ use Rattle.judge.specs.Scan.{scanOf}
 use Rattle.claims.specs.Core.{searchArena, searchReply}
 use Rattle.registers.specs.Core.{storedAt}
 use Rattle.memory.specs.declared.Memory.{Memory}
-use Rattle.memory_given.specs.Given.{memoryBytes, memoryCount, memoryRegisters}
-use Rattle.memory_replies.specs.Replies.{memoryReply}
+use Rattle.memory.specs.Given.{memoryBytes, memoryCount, memoryRegisters}
+use Rattle.memory.specs.Replies.{memoryReply}
 use Rattle.memory.specs.Core.{memoryId, waitingN, waitingCommits, searchCount}
 use Rattle.memory_answer.specs.declared.Reserved.{Reserved}
 

@@ -1,5 +1,7 @@
 // The answer to a memory question over the lent table: what is decided by a scan for overlaps, the record
 // and the stamps that are written, and the claim that waits, which searches once more.
+pub mod parts;
+
 ghost use mathlib.Core.Path.{_≡_};
 ghost use mathlib.Core.Bool.{true, cond};
 ghost use Prim.Native.Nat.{ℕ, _<_, _≤_};
@@ -10,10 +12,10 @@ ghost use Rattle.judge.specs.declared.Query.the-variants.{Meets};
 ghost use Rattle.layer.specs.World.{replyOf};
 ghost use Rattle.layer.specs.Table.{at};
 ghost use Rattle.claims.specs.Core.{searchArena, searchReply};
-ghost use Rattle.memory_given.specs.Given.{memoryBytes};
+ghost use Rattle.memory.specs.Given.{memoryBytes};
 ghost use Rattle.memory_answer.specs.Part.{noneReserved, reservingOf, scanCount, metOf, Decides, againReply, againRecords, Reservable, memoryLeft};
 use arena::Arena;
-use granting::Served;
+use claims::granting::Served;
 use judge::Query;
 use layer::Question;
 use layer::Reply;
@@ -75,7 +77,7 @@ fn scan_count(go: bool, state: State, granted: bool) -> usize
     ensures { λ r. ⌜ r ≡ scanCount go state granted ⌝ }
 {
     if go {
-        return memory_given::memory_count(state.count, granted);
+        return memory::given::memory_count(state.count, granted);
     }
     0
 }
@@ -87,7 +89,7 @@ fn range_query(state: State, base: u64, chunk_size: u64) -> Query
 {
     let q = state.question;
     let v = reserving(q);
-    let bytes = memory_given::memory_bytes(v.chunks, chunk_size);
+    let bytes = memory::given::memory_bytes(v.chunks, chunk_size);
     Query::Meets { base, bytes }
 }
 
@@ -112,7 +114,7 @@ fn decide(go: bool, state: State, granted: bool, base: u64, met: Found, chunk_si
         met,
         chunk_size,
     );
-    memory_parts::only_if(go, m)
+    crate::parts::only_if(go, m)
 }
 
 // The same by a scan of the lent records.
@@ -163,8 +165,8 @@ fn search_again(records: &mut [Arena], m: Memory, chunk_size: u64) -> Reply
     requires { ⌜ (0 < «chunk_size») × («chunk_size» ≤ 4294967296) × (all (λ i. soundArena «chunk_size» (at (now records) i)) 0 (m .search) ≡ true) ⌝ }
     ensures { λ r. ⌜ (r ≡ againReply «chunk_size» (now (records .entry)) m) × (now (records .exit) ≡ againRecords «chunk_size» (now (records .entry)) m) ⌝ }
 {
-    let k = memory_parts::search_of(m);
-    let q = memory_parts::again_query(m);
+    let k = crate::parts::search_of(m);
+    let q = crate::parts::again_query(m);
     let f = table::scan(records, k, chunk_size, q);
     let i = entry::stored_at(f);
     let a = records::load_or(records, i);
@@ -192,7 +194,7 @@ pub fn memory_part(
         × (now (stamps .exit) ≡ cond go (memoryLeft «chunk_size» (now (records .entry)) (now (stamps .entry)) state granted base .world .stamps) (now (stamps .entry))) ⌝ }
 {
     let m = memory_decided(records, go, state, granted, base, chunk_size);
-    let w = memory_parts::as_written(m);
-    writing::write(records, stamps, w);
+    let w = crate::parts::as_written(m);
+    entry::writing::write(records, stamps, w);
     search_again(records, m, chunk_size)
 }

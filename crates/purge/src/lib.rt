@@ -1,6 +1,9 @@
 // The sweep's work on the arena at an id: whether it is due, which of its chunks the host is asked about, and
 // when the next sweep is. And the stamps, which say since when each chunk is pending: one arena's are a part of
 // the lent slice of all.
+pub mod asks;
+pub mod waits;
+
 ghost use mathlib.Core.Path.{_≡_};
 ghost use mathlib.Core.Bool.{false};
 ghost use Prim.Native.Nat.{_+_, _*_, _<_, _≤_};
@@ -67,7 +70,7 @@ pub fn next_asked_of(
 {
     let lo = 1024 * id;
     let hi = lo + 1024;
-    purge_asks::next_asked(a, &stamps[lo..hi], force, ms, delay, from)
+    crate::asks::next_asked(a, &stamps[lo..hi], force, ms, delay, from)
 }
 
 // The arena `id` with its deadline armed anew.
@@ -77,5 +80,5 @@ pub fn rearm_of(a: Arena, stamps: &[u32], id: usize, force: bool, ms: u32, delay
 {
     let lo = 1024 * id;
     let hi = lo + 1024;
-    purge_waits::rearm_arena(a, &stamps[lo..hi], force, ms, delay)
+    crate::waits::rearm_arena(a, &stamps[lo..hi], force, ms, delay)
 }

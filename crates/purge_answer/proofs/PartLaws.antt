@@ -26,13 +26,13 @@ use Rattle.layer.proofs.Tools.{by-set}
 use Rattle.layer.proofs.Kept.{borrow-range, rearm-range}
 use Rattle.sweeps.specs.declared.Stay.{Stay}
 use Rattle.sweeps.specs.Core.{stayArena, stayReply, isAsked}
-use Rattle.open_purge.specs.Asked.{purgingId, purgingChunk, purgingSweep}
-use Rattle.open_purge.proofs.PurgeLaws.{return-range, for-purge, stayed, purge-stays, purge-room}
+use Rattle.questions.specs.Purges.{purgingId, purgingChunk, purgingSweep}
+use Rattle.questions.proofs.open_purge.PurgeLaws.{return-range, for-purge, stayed, purge-stays, purge-room}
 use Rattle.sweeping.specs.Going.{Ranged, nextPlace}
 use Rattle.sweeping.proofs.GoingLaws.{ended}
 use Rattle.sweeping.proofs.LentLaws.{sound-sweepable}
 use Rattle.purge_answer.specs.Part.{Fit, Purgeable, found, Stays, sweepFor, purgeLeft}
-use Rattle.purge_places.specs.Places.{placeOf, countOf}
+use Rattle.purge_answer.specs.Places.{placeOf, countOf}
 
 -- ---- ranges
 

@@ -38,24 +38,24 @@ use Rattle.layer.specs.declared.Sweep.{Sweep}
 use Rattle.layer.specs.declared.State.{State}
 use Rattle.layer.specs.declared.Reply.{Reply}
 use Rattle.sweeps.specs.declared.Stay.{Stay}
-use Rattle.open_purge.specs.Asked.{purgingId, purgingChunk, purgingSweep}
+use Rattle.questions.specs.Purges.{purgingId, purgingChunk, purgingSweep}
 use Rattle.sweeping.specs.Going.{nextPlace}
 use Rattle.purge_answer.specs.Part.{Fit, Stays, sweepFor}
-use Rattle.purge_places.specs.Places.{placeOf, countOf}
+use Rattle.purge_answer.specs.Places.{placeOf, countOf}
 use Rattle.records.proofs.Walk.{Loan, sliceOf, lent}
 use Rattle.records.proofs.Calls.{Site, plain-call, shr-call}
-use Rattle.purge_places.proofs.place_of as place′
-use Rattle.purge_places.proofs.place_of.Symbol.{name as #purge-places·place-of}
-use Rattle.purge_places.proofs.count_of as count′
-use Rattle.purge_places.proofs.count_of.Symbol.{name as #purge-places·count-of}
+use Rattle.purge_answer.proofs.places.place_of as place′
+use Rattle.purge_answer.proofs.places.place_of.Symbol.{name as #purge-places·place-of}
+use Rattle.purge_answer.proofs.places.count_of as count′
+use Rattle.purge_answer.proofs.places.count_of.Symbol.{name as #purge-places·count-of}
 use Rattle.purge_answer.proofs.sweep_for as for′
 use Rattle.purge_answer.proofs.sweep_for.Symbol.{name as #purge-answer·sweep-for}
 use Rattle.purge_answer.proofs.purge_at as at′
 use Rattle.purge_answer.proofs.purge_at.Symbol.{name as #purge-answer·purge-at}
-use Rattle.purge_places.proofs.rest_from as rest′
-use Rattle.purge_places.proofs.rest_from.Symbol.{name as #purge-places·rest-from}
-use Rattle.purge_places.proofs.pick as pick′
-use Rattle.purge_places.proofs.pick.Symbol.{name as #purge-places·pick}
+use Rattle.purge_answer.proofs.places.rest_from as rest′
+use Rattle.purge_answer.proofs.places.rest_from.Symbol.{name as #purge-places·rest-from}
+use Rattle.purge_answer.proofs.places.pick as pick′
+use Rattle.purge_answer.proofs.places.pick.Symbol.{name as #purge-places·pick}
 
 -- the contracts that the walk cites
 module _ {M : Type 1} (𝓤 : URA M) (H : Heap 𝓤) (A : Atoms 𝓤) (mem : Memory → SProp 𝓤) (run : Routine → Fun 𝓤) where

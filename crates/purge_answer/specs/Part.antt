@@ -15,7 +15,7 @@ use Rattle.layer.specs.Table.{at}
 use Rattle.layer.specs.Answering.{counted, answerPurge}
 use Rattle.sweeps.specs.declared.Stay.{Stay}
 use Rattle.sweeps.specs.Core.{nextOf, stayArena, stayReply, isAsked}
-use Rattle.open_purge.specs.Asked.{purgingId, purgingChunk, purgingSweep}
+use Rattle.questions.specs.Purges.{purgingId, purgingChunk, purgingSweep}
 use Rattle.sweeping.specs.Going.{Ranged}
 
 -- arena a, its id i and chunk j, and the sweep w are within bounds

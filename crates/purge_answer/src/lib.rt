@@ -1,9 +1,11 @@
 // The answer to a purge question over the lent table: the borrowed chunk comes back, and the sweep goes on.
+pub mod places;
+
 ghost use mathlib.Core.Path.{_≡_};
 ghost use mathlib.Core.Bool.{true, false, cond};
 ghost use Prim.Native.Nat.{_≤_};
 ghost use Rattle.layer.specs.World.{replyOf};
-ghost use Rattle.open_purge.specs.Asked.{purgingId, purgingChunk, purgingSweep};
+ghost use Rattle.questions.specs.Purges.{purgingId, purgingChunk, purgingSweep};
 ghost use Rattle.purge_answer.specs.Part.{Fit, Purgeable, Stays, sweepFor, purgeLeft};
 use arena::Arena;
 use layer::Reply;
@@ -17,9 +19,9 @@ fn sweep_for(go: bool, state: State, granted: bool) -> Sweep
     ensures { λ r. ⌜ r ≡ sweepFor go state granted ⌝ }
 {
     let q = state.question;
-    let p = open_purge::purging(q);
+    let p = questions::open_purge::purging(q);
     if go {
-        return open_purge::counted_sweep(p.sweep, granted);
+        return questions::open_purge::counted_sweep(p.sweep, granted);
     }
     p.sweep
 }
@@ -37,9 +39,9 @@ fn purge_at(
     ensures { λ r. ⌜ (go ≡ true → Stays «chunk_size» (now (stamps .entry)) (state .count) (state .mark) granted a r (purgingId (state .question)) (purgingChunk (state .question)) (purgingSweep (state .question))) × (go ≡ false → r .asked ≡ true) ⌝ }
 {
     let q = state.question;
-    let p = open_purge::purging(q);
+    let p = questions::open_purge::purging(q);
     if go {
-        return open_purge::purge_core(
+        return questions::open_purge::purge_core(
             a,
             stamps,
             p.id,
@@ -72,15 +74,15 @@ pub fn purge_part(
         × (now (records .exit) ≡ cond go (purgeLeft «chunk_size» (now (records .entry)) (now (stamps .entry)) state granted .world .records) (now (records .entry)))
         × (now (stamps .exit) ≡ now (stamps .entry)) ⌝ }
 {
-    let i = purge_places::place_of(go, state);
-    let count = purge_places::count_of(go, state);
+    let i = crate::places::place_of(go, state);
+    let count = crate::places::count_of(go, state);
     let v = sweep_for(go, state, granted);
     let a = records::load_or(records, i);
     let s = purge_at(stamps, go, state, a, granted, chunk_size);
     let left = sweeping::arena_left(s);
     records::store_if(records, i, left);
-    let from = purge_places::rest_from(i, s, count);
+    let from = crate::places::rest_from(i, s, count);
     let mark = sweeping::mark_of(state);
     let rest = sweeping::sweep_on(records, stamps, from, count, mark, v, chunk_size);
-    purge_places::pick(s, rest)
+    crate::places::pick(s, rest)
 }

@@ -23,7 +23,7 @@ use Rattle.sweeps.specs.Core.{isAsked, arriveFound, arriveArena}
 use Rattle.sweeps.proofs.SweepLaws.{sweep-arrives}
 use Rattle.sweeping.proofs.GoingLaws.{ended}
 use Rattle.sweeping.proofs.LentLaws.{Sweepable, none, sound-sweepable}
-use Rattle.sweep_start.specs.Start.{sweepCount}
+use Rattle.sweeps.specs.Start.{sweepCount}
 
 -- ---- what row 1 says of the arenas that are looked at
 

@@ -36,11 +36,11 @@ use Rattle.layer.specs.declared.State.{State}
 use Rattle.layer.specs.declared.Reply.{Reply}
 use Rattle.layer.specs.Step.{sweepOf}
 use Rattle.layer.proofs.Sweep as X
-use Rattle.sweep_start.specs.Start.{sweepCount}
-use Rattle.sweep_start.proofs.sweep_count as count′
-use Rattle.sweep_start.proofs.sweep_count.Symbol.{name as #sweep-start·sweep-count}
-use Rattle.sweep_start.proofs.sweep_of as of′
-use Rattle.sweep_start.proofs.sweep_of.Symbol.{name as #sweep-start·sweep-of}
+use Rattle.sweeps.specs.Start.{sweepCount}
+use Rattle.sweeps.proofs.start.sweep_count as count′
+use Rattle.sweeps.proofs.start.sweep_count.Symbol.{name as #sweep-start·sweep-count}
+use Rattle.sweeps.proofs.start.sweep_of as of′
+use Rattle.sweeps.proofs.start.sweep_of.Symbol.{name as #sweep-start·sweep-of}
 use Rattle.registers.specs.Core.{gated}
 use Rattle.registers.proofs.gate as gate′
 use Rattle.registers.proofs.gate.Symbol.{name as #registers·gate}

@@ -22,8 +22,8 @@ pub fn purge_due(
 {
     let page = entry::page_of(settings);
     let ok = table::row_one(records, stamps.len(), state, page, CHUNK);
-    let count = sweep_start::sweep_count(ok, state);
-    let w = sweep_start::sweep_of(force, ns, settings);
+    let count = sweeps::start::sweep_count(ok, state);
+    let w = sweeps::start::sweep_of(force, ns, settings);
     let mark = sweeping::mark_of(state);
     let own = sweeping::sweep_on(records, stamps, 0, count, mark, w, CHUNK);
     registers::gate(ok, state, own)

@@ -6,3 +6,7 @@ pub mod Frame
 pub mod Ends
 mod Leaf
 pub mod Steps
+pub mod Deadline
+pub mod Fields
+pub mod Looks
+pub mod MapFields

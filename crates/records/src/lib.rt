@@ -1,5 +1,11 @@
 // The lent slice of records: the few functions that read or write one of them, and what every walk over such a
 // slice needs (proofs/).
+pub mod map_changes;
+pub mod maps;
+pub mod release_at;
+pub mod release_rows;
+pub mod run_maps;
+
 ghost use mathlib.Core.Path.{_≡_};
 ghost use Prim.Native.Nat.{_<_};
 ghost use lib.ListN.{length, getD, set};

@@ -23,8 +23,8 @@ use Rattle.options.specs.Options.{pageSizeSound}
 use Rattle.arena.specs.declared.Arena.{Arena}
 use Rattle.arena.specs.Registering.{newArena, reservedArena}
 use Rattle.arena.specs.Claiming.{findRun, takeRun, giveBackRun}
-use Rattle.arena_laws.specs.Rows.{Rows}
-use Rattle.arena_laws.proofs.Changes.{grant-give-back}
+use Rattle.lookup.specs.Rows.{Rows}
+use Rattle.lookup.proofs.Changes.{grant-give-back}
 use Rattle.layer.specs.declared.Settings.{Settings}
 use Rattle.layer.specs.declared.Question.{Question}
 use Rattle.layer.specs.declared.Question.the-variants.{Idle, Committing, Purging, Reserving, GivingBack}

@@ -1,1 +1,3 @@
 pub mod ReleaseLaws
+pub mod StepLaws
+pub mod HeadLaws

@@ -1,5 +1,6 @@
 // A release by value: which arena the address lies in is the scan's to find; what is answered, whether and where
 // the run is released, and what becomes of its stamps, is decided here by the record's head.
+
 ghost use mathlib.Core.Path.{_≡_};
 ghost use mathlib.Core.Bool.{true, cond, _&&_};
 ghost use Prim.Native.Nat.{ℕ, _+_, _-_, _*_, _/_, _<_, _≤_};

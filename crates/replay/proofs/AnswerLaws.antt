@@ -4,7 +4,7 @@ use mathlib.Core.Bool.{Bool, true, false, cond}
 use mathlib.Core.List.{List}
 use Prim.Native.Nat.{ℕ}
 use lib.Dec.{eqb, leb}
-use Rattle.sample_lines.specs.declared.Line.{Line}
+use Rattle.samples.specs.declared.lines.Line.{Line}
 use Rattle.replay.specs.Answers.{ofNumbers, ofPool, leftPool, agreesOn, leaves}
 
 pub on-numbers : (l : Line) (w : List ℕ) → leb (l .kind) 6 ≡ true

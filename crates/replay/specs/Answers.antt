@@ -11,9 +11,9 @@ use Rattle.slice_pool.specs.declared.Allocated.the-variants.{Run, NotRun}
 use Rattle.slice_pool.specs.declared.Freed.{Freed}
 use Rattle.slice_pool.specs.declared.Freed.the-variants.{Done, NotDone}
 use Rattle.slice_pool.specs.Pool.{allocRun, freeRange}
-use Rattle.sample_lines.specs.declared.Line.{Line}
-use Rattle.sample_hash.specs.Hash.{withWords}
-use Rattle.sample_signed.specs.Signed.{signedOf}
+use Rattle.samples.specs.declared.lines.Line.{Line}
+use Rattle.samples.specs.Hash.{withWords}
+use Rattle.samples.specs.Signed.{signedOf}
 
 -- kinds 1 to 6, on numbers alone
 unfoldable pub ofNumbers : ℕ → ℕ → ℕ → ℕ

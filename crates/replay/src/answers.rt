@@ -3,10 +3,10 @@ ghost use mathlib.Core.Path.{_≡_};
 ghost use mathlib.Core.Bool.{cond};
 ghost use Prim.Native.Nat.{_%_};
 ghost use Rattle.clock.specs.Clock.{delayMs};
-ghost use Rattle.sample_signed.specs.Signed.{signedOf};
+ghost use Rattle.samples.specs.Signed.{signedOf};
 ghost use Rattle.replay.specs.Answers.{addressOf, doneOf, ofNumbers, ofPool, leftPool, agreesOn, leaves};
 use crate::pool;
-use sample_lines::Line;
+use samples::lines::Line;
 use slice_pool::Allocated;
 use slice_pool::Freed;
 
@@ -27,7 +27,7 @@ fn low(x: u64) -> u32
 fn delay_of(x: u64) -> u64
     ensures { λ r. ⌜ r ≡ delayMs (signedOf x) ⌝ }
 {
-    clock::delay_ms(sample_signed::wide(x)) as u64
+    clock::delay_ms(samples::signed::wide(x)) as u64
 }
 
 // Kinds 1 to 6, on numbers alone.

@@ -1,5 +1,5 @@
 // Replays recorded answers of the original Rust on our functions: standard input has a line of 53 bytes
-// for each (sample_lines), and what comes out is how many were replayed and how many differ.
+// for each (`samples::lines`), and what comes out is how many were replayed and how many differ.
 // No contract can say what is read or printed, so all that does either stands here, and nothing here is
 // public. What a line says, our answer to it and the count are fixed by the modules' contracts.
 mod answers;
@@ -7,9 +7,9 @@ mod known;
 mod pool;
 
 use libc::STDIN_FILENO;
-use sample_lines::Line;
-use sample_lines::Parsed;
-use sample_tally::Tally;
+use samples::lines::Line;
+use samples::lines::Parsed;
+use samples::tally::Tally;
 ghost use Prim.Native.Nat.{_+_, _≤_};
 ghost use lib.ListN.{length};
 
@@ -22,19 +22,19 @@ const LINE: usize = 53;
 fn replay_numbers(line: Line, words: &mut [u32], t: Tally) -> Tally {
     if known::is_known(line.kind, line.a, line.b) {
         let same = answers::agrees(line, words);
-        return sample_tally::answered(t, same);
+        return samples::tally::answered(t, same);
     }
-    sample_tally::malformed(t)
+    samples::tally::malformed(t)
 }
 
 // The line at `at`, replayed and counted.
 fn replay_line(text: &[u8], at: usize, words: &mut [u32], t: Tally) -> Tally
     requires { ⌜ at + 53 ≤ length (now text) ⌝ }
 {
-    let parsed = sample_lines::parse(text, at);
+    let parsed = samples::lines::parse(text, at);
     match parsed {
         Parsed::Whole(line) => replay_numbers(line, words, t),
-        Parsed::Malformed => sample_tally::malformed(t),
+        Parsed::Malformed => samples::tally::malformed(t),
     }
 }
 
@@ -47,7 +47,7 @@ fn replay_lines(text: &[u8], words: &mut [u32], start: Tally) -> Tally {
         at += LINE;
     }
     if at < text.len() {
-        t = sample_tally::malformed(t);
+        t = samples::tally::malformed(t);
     }
     t
 }
@@ -57,16 +57,16 @@ fn replay_block(words: &mut [u32], t: Tally) -> Tally {
     let mut buffer = [0u8; BLOCK];
     let n = io::read_full(STDIN_FILENO, &mut buffer);
     if n < BLOCK {
-        return sample_tally::ended(replay_lines(&buffer[..n], words, t));
+        return samples::tally::ended(replay_lines(&buffer[..n], words, t));
     }
     replay_lines(&buffer[..n], words, t)
 }
 
 // Nothing says that the input ends, so the blocks are counted down from a number that no run uses up.
 fn replay_all(words: &mut [u32]) -> Tally {
-    let mut t = sample_tally::none_yet();
+    let mut t = samples::tally::none_yet();
     let mut blocks = u64::MAX;
-    while blocks > 0 && sample_tally::goes_on(t) {
+    while blocks > 0 && samples::tally::goes_on(t) {
         t = replay_block(words, t);
         blocks -= 1;
     }

@@ -1,12 +1,12 @@
 // The replayed slice pool as a whole: the hash of its words, and all of them cleared.
 ghost use mathlib.Core.Path.{_≡_};
 ghost use lib.ListN.{length, replicate};
-ghost use Rattle.sample_hash.specs.Hash.{withWords};
+ghost use Rattle.samples.specs.Hash.{withWords};
 
 pub fn hash(words: &[u32]) -> u32
     ensures { λ r. ⌜ r ≡ withWords 2166136261 (now (words .entry)) 0 (length (now (words .entry))) ⌝ }
 {
-    sample_hash::with_words(sample_hash::START, words, 0, words.len())
+    samples::hash::with_words(samples::hash::START, words, 0, words.len())
 }
 
 pub fn clear(words: &mut [u32])

@@ -39,9 +39,9 @@ use Rattle.layer.proofs.State.Laws as Z′
 use Rattle.layer.proofs.Settings as Y
 use Rattle.layer.proofs.Reply as P
 use Rattle.layer.proofs.Reply.Laws as P′
-use Rattle.sample_lines.specs.declared.Line.{Line}
-use Rattle.sample_lines.proofs.Line as N
-use Rattle.sample_lines.proofs.Line.Laws as N′
+use Rattle.samples.specs.declared.lines.Line.{Line}
+use Rattle.samples.proofs.lines.Line as N
+use Rattle.samples.proofs.lines.Line.Laws as N′
 use Rattle.sample_made.specs.declared.Made.{Made}
 use Rattle.sample_made.proofs.Made as X
 use Rattle.sample_session.specs.declared.Call.{Call}

@@ -7,9 +7,9 @@
 use arena::Arena;
 use layer::Reply;
 use libc::STDIN_FILENO;
-use sample_lines::Line;
 use sample_session::Call;
 use sample_session::Session;
+use samples::lines::Line;
 
 // The next line. What is left at the end, shorter than a line, counts as a malformed one.
 fn read_line() -> Line {
@@ -21,7 +21,7 @@ fn read_line() -> Line {
     if n < 53 {
         return sample_session::bad();
     }
-    sample_session::line_of(sample_lines::parse(&text, 0))
+    sample_session::line_of(samples::lines::parse(&text, 0))
 }
 
 // A call made on the table.

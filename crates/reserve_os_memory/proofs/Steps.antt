@@ -27,9 +27,9 @@ use Rattle.layer.proofs.State as Z
 use Rattle.layer.proofs.State.Laws as Z′
 use Rattle.layer.specs.declared.Reply.{Reply}
 use Rattle.layer.proofs.Reply as Y
-use Rattle.reserving.specs.Core.{reserveAnswer}
-use Rattle.reserving.proofs.reserve_core as reserve-core′
-use Rattle.reserving.proofs.reserve_core.Symbol.{name as #reserving·reserve-core}
+use Rattle.registering.specs.Reserving.{reserveAnswer}
+use Rattle.registering.proofs.reserving.reserve_core as reserve-core′
+use Rattle.registering.proofs.reserving.reserve_core.Symbol.{name as #reserving·reserve-core}
 use Rattle.records.proofs.Calls.{Site, plain-call}
 
 -- the contracts that a walk cites

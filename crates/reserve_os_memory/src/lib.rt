@@ -26,5 +26,14 @@ pub fn reserve_os_memory_ex(
 {
     let page = entry::page_of(settings);
     let ok = table::row_one(records, stamps.len(), state, page, CHUNK);
-    reserving::reserve_core(ok, state, size, commit, allow_large, exclusive, page, CHUNK)
+    registering::reserving::reserve_core(
+        ok,
+        state,
+        size,
+        commit,
+        allow_large,
+        exclusive,
+        page,
+        CHUNK,
+    )
 }

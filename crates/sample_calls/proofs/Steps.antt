@@ -43,24 +43,24 @@ use Rattle.layer.proofs.Settings.Laws as Y′
 use Rattle.layer.proofs.Reply as P
 use Rattle.layer.specs.Step.{owns, area, step}
 use Rattle.sample_made.specs.declared.Made.{Made}
-use Rattle.sample_registers.specs.Registering.{registering}
-use Rattle.sample_claims.specs.Claiming.{claiming}
-use Rattle.sample_changes.specs.Changing.{changing}
-use Rattle.sample_asks.specs.Asking.{asking}
+use Rattle.sample_calls.specs.Registering.{registering}
+use Rattle.sample_calls.specs.Claiming.{claiming}
+use Rattle.sample_calls.specs.Changing.{changing}
+use Rattle.sample_calls.specs.Asking.{asking}
 use Rattle.sample_calls.specs.Calls.{callOf}
 use Rattle.sample_made.proofs.Made as X
 use Rattle.sample_made.proofs.Made.Laws as X′
 use Rattle.arena_area.proofs.Two.{ss-call}
 use Rattle.records.proofs.Walk.{Loan, lent, shared, sliceOf}
 use Rattle.records.proofs.Calls.{Site, mut2-call}
-use Rattle.sample_registers.proofs.registers as registers′
-use Rattle.sample_registers.proofs.registers.Symbol.{name as #sample-registers·registers}
-use Rattle.sample_claims.proofs.claims as claims′
-use Rattle.sample_claims.proofs.claims.Symbol.{name as #sample-claims·claims}
-use Rattle.sample_changes.proofs.changes as changes′
-use Rattle.sample_changes.proofs.changes.Symbol.{name as #sample-changes·changes}
-use Rattle.sample_asks.proofs.asks as asks′
-use Rattle.sample_asks.proofs.asks.Symbol.{name as #sample-asks·asks}
+use Rattle.sample_calls.proofs.registers.registers as registers′
+use Rattle.sample_calls.proofs.registers.registers.Symbol.{name as #sample-registers·registers}
+use Rattle.sample_calls.proofs.claims.claims as claims′
+use Rattle.sample_calls.proofs.claims.claims.Symbol.{name as #sample-claims·claims}
+use Rattle.sample_calls.proofs.changes.changes as changes′
+use Rattle.sample_calls.proofs.changes.changes.Symbol.{name as #sample-changes·changes}
+use Rattle.sample_calls.proofs.asks.asks as asks′
+use Rattle.sample_calls.proofs.asks.asks.Symbol.{name as #sample-asks·asks}
 use Rattle.sample_calls.proofs.call as call′
 use Rattle.sample_calls.proofs.call.Symbol.{name as #sample-calls·call}
 

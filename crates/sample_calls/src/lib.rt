@@ -1,4 +1,9 @@
 // A recorded call of the layer, made on a lent table by its entry point.
+pub mod asks;
+pub mod changes;
+pub mod claims;
+pub mod registers;
+
 ghost use Rattle.layer.specs.World.{worldOf, Leaves};
 ghost use Rattle.layer.specs.Step.{step};
 ghost use Rattle.sample_calls.specs.Calls.{callOf};
@@ -24,13 +29,13 @@ pub fn call(
     ensures { λ r. ⌜ Leaves (step 33554432 (worldOf (now (records .entry)) (now (stamps .entry)) state) ns settings (callOf told question c)) r (now (records .exit)) (now (stamps .exit)) ⌝ }
 {
     if c.kind < 7 {
-        return sample_registers::registers(records, stamps, state, ns, settings, c);
+        return crate::registers::registers(records, stamps, state, ns, settings, c);
     }
     if c.kind < 10 {
-        return sample_claims::claims(records, stamps, state, ns, settings, c);
+        return crate::claims::claims(records, stamps, state, ns, settings, c);
     }
     if c.kind < 13 {
-        return sample_changes::changes(records, stamps, state, ns, settings, told, question, c);
+        return crate::changes::changes(records, stamps, state, ns, settings, told, question, c);
     }
-    sample_asks::asks(records, stamps, state, ns, settings, c)
+    crate::asks::asks(records, stamps, state, ns, settings, c)
 }

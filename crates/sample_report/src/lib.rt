@@ -1,6 +1,6 @@
 // The count of a replayed sample, printed. No contract can say what is printed.
 use libc::STDOUT_FILENO;
-use sample_tally::Tally;
+use samples::tally::Tally;
 
 fn say(text: &[u8]) {
     io::write_all(STDOUT_FILENO, text);

@@ -9,16 +9,16 @@ use Rattle.layer.specs.declared.Question.the-variants.{Idle}
 use Rattle.layer.specs.declared.State.{State}
 use Rattle.layer.specs.declared.Reply.{Reply}
 use Rattle.layer.specs.World.{stateOf}
-use Rattle.surface_reply.specs.declared.ReplyNumbers.{ReplyNumbers}
+use Rattle.surface.specs.declared.reply.ReplyNumbers.{ReplyNumbers}
 use Rattle.surface.specs.Numbers.{flag, numbersOf}
-use Rattle.surface_told.specs.Told.{toldOf, kindOf}
-use Rattle.surface_reply.specs.Replies.{replyOf}
-use Rattle.sample_lines.specs.declared.Line.{Line}
-use Rattle.sample_lines.specs.declared.Parsed.{Parsed}
-use Rattle.sample_lines.specs.declared.Parsed.the-variants.{Whole, Malformed}
-use Rattle.sample_tally.specs.Counting.{afterAnswer, afterMalformed}
-use Rattle.sample_tally.specs.Counting as C
-use Rattle.sample_signed.specs.Signed.{signedOf, narrowOf}
+use Rattle.surface.specs.Told.{toldOf, kindOf}
+use Rattle.surface.specs.Replies.{replyOf}
+use Rattle.samples.specs.declared.lines.Line.{Line}
+use Rattle.samples.specs.declared.lines.Parsed.{Parsed}
+use Rattle.samples.specs.declared.lines.Parsed.the-variants.{Whole, Malformed}
+use Rattle.samples.specs.Counting.{afterAnswer, afterMalformed}
+use Rattle.samples.specs.Counting as C
+use Rattle.samples.specs.Signed.{signedOf, narrowOf}
 use Rattle.sample_made.specs.declared.Made.{Made}
 use Rattle.sample_session.specs.declared.Call.{Call}
 use Rattle.sample_session.specs.declared.Carried.{Carried}

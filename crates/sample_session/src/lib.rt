@@ -2,8 +2,8 @@
 ghost use mathlib.Core.Path.{_≡_};
 ghost use Prim.Native.Nat.{_<_, _%_};
 ghost use Rattle.words.specs.Bits.{bit};
-ghost use Rattle.sample_signed.specs.Signed.{narrowOf};
-ghost use Rattle.surface_told.specs.Told.{toldOf, kindOf};
+ghost use Rattle.samples.specs.Signed.{narrowOf};
+ghost use Rattle.surface.specs.Told.{toldOf, kindOf};
 ghost use Rattle.sample_session.specs.Session.{noLine, lineOf, isCall, isHash, none, flagsOf, idOf, madeFrom, madeOf, callOf, counted, skipped, wordOf, saidOf, numbersIn, calledOf, hashedOf, withClock, withSettings, withMore, carriedOf, stateAfter, carrying, saysSo, notedOf};
 use arena::Commitment;
 use layer::Kind;
@@ -11,11 +11,11 @@ use layer::Question;
 use layer::Reply;
 use layer::Settings;
 use layer::State;
-use sample_lines::Line;
-use sample_lines::Parsed;
 use sample_made::Made;
-use sample_tally::Tally;
-use surface_reply::ReplyNumbers;
+use samples::lines::Line;
+use samples::lines::Parsed;
+use samples::tally::Tally;
+use surface::reply::ReplyNumbers;
 
 // What the next call carries: clock, settings, two more numbers.
 pub struct Carried {
@@ -158,7 +158,7 @@ pub fn start() -> Session
     let state = empty();
     let carried = nothing_carried();
     let said = nothing_said();
-    let t = sample_tally::none_yet();
+    let t = samples::tally::none_yet();
     Session {
         state,
         carried,
@@ -240,7 +240,7 @@ fn made_of(s: Session, l: Line) -> Made
     ensures { λ r. ⌜ r ≡ madeOf s l ⌝ }
 {
     let f = flags_of(l.kind, l.a, l.b, s.carried.y);
-    let id = sample_signed::narrow(id_of(l.kind, l.a, l.b, s.carried.x));
+    let id = samples::signed::narrow(id_of(l.kind, l.a, l.b, s.carried.x));
     made_from(l, id, f)
 }
 
@@ -248,14 +248,14 @@ fn made_of(s: Session, l: Line) -> Made
 fn told_of(s: Session) -> Commitment
     ensures { λ r. ⌜ r ≡ toldOf (narrowOf (s .carried .x)) ⌝ }
 {
-    surface_told::told_of(sample_signed::narrow(s.carried.x))
+    surface::told::told_of(samples::signed::narrow(s.carried.x))
 }
 
 // The kind of question that is answered.
 fn question_of(l: Line) -> Kind
     ensures { λ r. ⌜ r ≡ kindOf (l .a % 256) ⌝ }
 {
-    surface_told::kind_of((l.a % 256) as u32)
+    surface::told::kind_of((l.a % 256) as u32)
 }
 
 // The call that a line is of.
@@ -321,7 +321,7 @@ fn counted(s: Session, same: bool) -> Session
     ensures { λ r. ⌜ r ≡ counted s same ⌝ }
 {
     let mut t = s;
-    let u = sample_tally::answered(s.tally, same);
+    let u = samples::tally::answered(s.tally, same);
     t.tally = u;
     t
 }
@@ -331,7 +331,7 @@ fn skipped(s: Session) -> Session
     ensures { λ r. ⌜ r ≡ skipped s ⌝ }
 {
     let mut t = s;
-    let u = sample_tally::malformed(s.tally);
+    let u = samples::tally::malformed(s.tally);
     t.tally = u;
     t
 }
@@ -384,7 +384,7 @@ fn in_numbers(r: Reply) -> ReplyNumbers
 {
     let state = r.state;
     let f = surface::numbers_of(state);
-    surface_reply::reply_of(true, f, r)
+    surface::reply::reply_of(true, f, r)
 }
 
 // After a call, whose number is held against the recorded one.
@@ -395,7 +395,7 @@ pub fn called(s: Session, l: Line, r: Reply) -> Session
     let said = said_of(x);
     let state = r.state;
     let carried = s.carried;
-    let t = sample_tally::answered(s.tally, x.number as u64 == l.r);
+    let t = samples::tally::answered(s.tally, x.number as u64 == l.r);
     Session {
         state,
         carried,
@@ -467,7 +467,7 @@ fn carried_after(c: Carried, l: Line) -> Carried
 {
     let kind = l.kind;
     if kind == 1 {
-        return with_clock(c, l.a, sample_signed::wide(l.b));
+        return with_clock(c, l.a, samples::signed::wide(l.b));
     }
     if kind == 2 {
         return with_settings(c, l.a, l.b);
@@ -494,7 +494,7 @@ fn carrying(s: Session, l: Line) -> Session
     let state = state_after(s.state, l);
     let carried = carried_after(s.carried, l);
     let said = s.said;
-    let t = sample_tally::answered(s.tally, l.r == 1);
+    let t = samples::tally::answered(s.tally, l.r == 1);
     Session {
         state,
         carried,

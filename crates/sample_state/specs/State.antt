@@ -8,7 +8,7 @@ use lib.ListN.{length, getD}
 use Rattle.arena.specs.declared.Arena.{Arena}
 use Rattle.layer.specs.declared.State.{State}
 use Rattle.layer.specs.World.{blank}
-use Rattle.sample_hash.specs.Hash.{withWord, withWords}
+use Rattle.samples.specs.Hash.{withWord, withWords}
 use Rattle.surface.specs.Numbers.{numbersOf}
 
 -- exclusive 1, owned 2

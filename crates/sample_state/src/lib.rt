@@ -42,9 +42,9 @@ fn node_word(node: i32) -> u32
 fn with_numbers(h: u32, base: u64, chunks: u64, own: u32, node: u32, deadline: u32) -> u32
     ensures { λ r. ⌜ r ≡ withNumbers h base chunks own node deadline ⌝ }
 {
-    let range = sample_hash::with_word(sample_hash::with_word(h, low(base)), high(base));
-    let size = sample_hash::with_word(sample_hash::with_word(range, low(chunks)), own);
-    sample_hash::with_word(sample_hash::with_word(size, node), deadline)
+    let range = samples::hash::with_word(samples::hash::with_word(h, low(base)), high(base));
+    let size = samples::hash::with_word(samples::hash::with_word(range, low(chunks)), own);
+    samples::hash::with_word(samples::hash::with_word(size, node), deadline)
 }
 
 fn with_head(h: u32, a: Arena) -> u32
@@ -58,10 +58,10 @@ fn with_head(h: u32, a: Arena) -> u32
 fn with_maps(h: u32, a: Arena) -> u32
     ensures { λ r. ⌜ r ≡ withMaps h a ⌝ }
 {
-    let used = sample_hash::with_words(h, &a.used, 0, 32);
-    let dirty = sample_hash::with_words(used, &a.dirty, 0, 32);
-    let committed = sample_hash::with_words(dirty, &a.committed, 0, 32);
-    sample_hash::with_words(committed, &a.pending, 0, 32)
+    let used = samples::hash::with_words(h, &a.used, 0, 32);
+    let dirty = samples::hash::with_words(used, &a.dirty, 0, 32);
+    let committed = samples::hash::with_words(dirty, &a.committed, 0, 32);
+    samples::hash::with_words(committed, &a.pending, 0, 32)
 }
 
 // The hash with the words of one record more.
@@ -76,7 +76,7 @@ fn with_stamps(stamps: &[u32], h: u32, id: usize) -> u32
     ensures { λ r. ⌜ r ≡ withStamps h (now (stamps .entry)) id ⌝ }
 {
     if id < stamps.len() / 1024 {
-        return sample_hash::with_words(h, stamps, id * 1024, 1024);
+        return samples::hash::with_words(h, stamps, id * 1024, 1024);
     }
     h
 }
@@ -85,8 +85,8 @@ fn of_state(s: State) -> u32
     ensures { λ r. ⌜ r ≡ ofState s ⌝ }
 {
     let n = surface::numbers_of(s);
-    let count = sample_hash::with_word(sample_hash::START, low(n.count as u64));
-    sample_hash::with_word(sample_hash::with_word(count, n.mark), n.question)
+    let count = samples::hash::with_word(samples::hash::START, low(n.count as u64));
+    samples::hash::with_word(samples::hash::with_word(count, n.mark), n.question)
 }
 
 fn count_of(s: State) -> usize

@@ -1,1 +1,4 @@
 mod Cases
+pub mod NumberLaws
+pub mod CallLaws
+pub mod Steps

@@ -1,5 +1,8 @@
 // The layer's state in numbers: what the C surface hands in and out, since an enum cannot be exported.
 // include/sirqobal.h declares the struct.
+pub mod reply;
+pub mod told;
+
 ghost use mathlib.Core.Path.{_≡_};
 ghost use Rattle.layer.specs.declared.Question.the-variants.{Purging};
 ghost use Rattle.surface.specs.Numbers.{flag, sweepOf, waitingOf, causeOf, questionOf, stateOf, stateNumbers, waits, waitingChunks, waitingCommits, causeNumber, questionNumbers, numbersOf, sameNumbers, isState};

@@ -19,8 +19,8 @@ use Rattle.arena.specs.Claiming.{takeRun, giveBackRun}
 use Rattle.arena.specs.Releasing.{tellRun}
 use Rattle.arena.specs.Sweeping.{sweepDue, toAsk, nextAsked, disarm, borrowChunk, unpendChunk, returnChunk, nextWait, rearmAt, rearm}
 use Rattle.purge.specs.Stamps.{stampsOf}
-use Rattle.arena_laws.specs.Rows.{Rows}
-use Rattle.arena_laws.proofs.RowLaws.{bit-in, bit-out}
+use Rattle.lookup.specs.Rows.{Rows}
+use Rattle.lookup.proofs.RowLaws.{bit-in, bit-out}
 use Rattle.layer.specs.declared.Sweep.{Sweep}
 use Rattle.layer.specs.declared.Question.the-variants.{Purging}
 use Rattle.layer.specs.declared.Ask.the-variants.{AskPurge}

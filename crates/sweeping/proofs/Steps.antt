@@ -52,7 +52,7 @@ use Rattle.sweeping.proofs.next_place as next′
 use Rattle.sweeping.proofs.next_place.Symbol.{name as #sweeping·next-place}
 use Rattle.sweeping.proofs.sweep_on as on′
 use Rattle.sweeping.proofs.sweep_on.Symbol.{name as #sweeping·sweep-on}
-use Rattle.record_fields.proofs.Looks.{field-look, look-part-call}
+use Rattle.records.proofs.Looks.{field-look, look-part-call}
 use Rattle.records.proofs.Walk.{Loan, sliceOf, lent, shared}
 use Rattle.records.proofs.Calls.{Site, plain-call, pass-call, shr-call, mut2-call}
 use Rattle.sweeping.proofs.arena_left as arena′

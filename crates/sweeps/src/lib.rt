@@ -1,4 +1,6 @@
 // A sweep's stay at one arena, by value.
+pub mod start;
+
 ghost use mathlib.Core.Path.{_≡_};
 ghost use Prim.Native.Nat.{ℕ, _+_, _*_, _^_, _<_, _≤_};
 ghost use lib.ListN.{length};
@@ -82,7 +84,7 @@ pub fn go_on(
     let f = purge::next_asked_of(a, stamps, id, w.force, w.now, w.delay, from);
     match f {
         Found::At(j) => Stay {
-            arena: arena_sweeps::borrow_chunk(a, j),
+            arena: arena::arena_sweeps::borrow_chunk(a, j),
             asked: true,
             reply: purge_reply(count, mark, w, id, a, j, chunk_size),
         },
@@ -109,7 +111,7 @@ pub fn arrive(
 {
     if purge::sweep_due(a, w.force, w.now) {
         return go_on(
-            arena_sweeps::disarm_arena(a),
+            arena::arena_sweeps::disarm_arena(a),
             stamps,
             id,
             w,

@@ -48,62 +48,62 @@ use Rattle.judge.specs.declared.Query.{Query}
 use Rattle.judge.specs.declared.Query.the-variants.{Unsound, Meets}
 use Rattle.judge.specs.declared.Head.{Head}
 use Rattle.judge.specs.Scan.{hit}
-use Rattle.open_question.specs.Questions.{aboutNone}
+use Rattle.judge.specs.Questions.{aboutNone}
 use Rattle.judge.specs.Heads.{headOf, runAsked, asksTails, headHit}
-use Rattle.spans.specs.Spans.{outside, Covers}
-use Rattle.spans.specs.declared.Span.{Span}
-use Rattle.spans.proofs.Span as P
-use Rattle.spans.proofs.Span.Laws as P′
+use Rattle.judge.specs.Spans.{outside, Covers}
+use Rattle.judge.specs.declared.spans.Span.{Span}
+use Rattle.judge.proofs.spans.Span as P
+use Rattle.judge.proofs.spans.Span.Laws as P′
 use Rattle.judge.proofs.Head as D
 use Rattle.judge.proofs.Head.Laws as D′
 use Rattle.judge.proofs.Query as Q
 use Rattle.judge.proofs.Query.Laws as Q′
-use Rattle.row_parts.proofs.found as found′
-use Rattle.row_parts.proofs.found.Symbol.{name as #row-parts·found}
-use Rattle.row_parts.proofs.nothing as nothing′
-use Rattle.row_parts.proofs.nothing.Symbol.{name as #row-parts·nothing}
-use Rattle.row_parts.proofs.is_at as is-at′
-use Rattle.row_parts.proofs.is_at.Symbol.{name as #row-parts·is-at}
-use Rattle.row_parts.proofs.range_query as range′
-use Rattle.row_parts.proofs.range_query.Symbol.{name as #row-parts·range-query}
-use Rattle.row_parts.proofs.unsound_query as unsound′
-use Rattle.row_parts.proofs.unsound_query.Symbol.{name as #row-parts·unsound-query}
-use Rattle.row_parts.proofs.lent_sound as lent′
-use Rattle.row_parts.proofs.lent_sound.Symbol.{name as #row-parts·lent-sound}
-use Rattle.open_question.proofs.is_about_none as about′
-use Rattle.open_question.proofs.is_about_none.Symbol.{name as #open-question·is-about-none}
-use Rattle.open_question.proofs.asked_id as asked′
-use Rattle.open_question.proofs.asked_id.Symbol.{name as #open-question·asked-id}
-use Rattle.open_question.proofs.question_sound as question′
-use Rattle.open_question.proofs.question_sound.Symbol.{name as #open-question·question-sound}
+use Rattle.judge.proofs.row_parts.found as found′
+use Rattle.judge.proofs.row_parts.found.Symbol.{name as #row-parts·found}
+use Rattle.judge.proofs.row_parts.nothing as nothing′
+use Rattle.judge.proofs.row_parts.nothing.Symbol.{name as #row-parts·nothing}
+use Rattle.judge.proofs.row_parts.is_at as is-at′
+use Rattle.judge.proofs.row_parts.is_at.Symbol.{name as #row-parts·is-at}
+use Rattle.judge.proofs.row_parts.range_query as range′
+use Rattle.judge.proofs.row_parts.range_query.Symbol.{name as #row-parts·range-query}
+use Rattle.judge.proofs.row_parts.unsound_query as unsound′
+use Rattle.judge.proofs.row_parts.unsound_query.Symbol.{name as #row-parts·unsound-query}
+use Rattle.judge.proofs.row_parts.lent_sound as lent′
+use Rattle.judge.proofs.row_parts.lent_sound.Symbol.{name as #row-parts·lent-sound}
+use Rattle.judge.proofs.open_question.is_about_none as about′
+use Rattle.judge.proofs.open_question.is_about_none.Symbol.{name as #open-question·is-about-none}
+use Rattle.judge.proofs.open_question.asked_id as asked′
+use Rattle.judge.proofs.open_question.asked_id.Symbol.{name as #open-question·asked-id}
+use Rattle.judge.proofs.open_question.question_sound as question′
+use Rattle.judge.proofs.open_question.question_sound.Symbol.{name as #open-question·question-sound}
 use Rattle.table.proofs.head_at as head-at′
 use Rattle.table.proofs.head_at.Symbol.{name as #table·head-at}
 use Rattle.table.proofs.no_head as no-head′
 use Rattle.table.proofs.no_head.Symbol.{name as #table·no-head}
 use Rattle.table.proofs.hits_at as hits-at′
 use Rattle.table.proofs.hits_at.Symbol.{name as #table·hits-at}
-use Rattle.row_parts.proofs.count_of as count-of′
-use Rattle.row_parts.proofs.count_of.Symbol.{name as #row-parts·count-of}
-use Rattle.row_parts.proofs.question_of as question-of′
-use Rattle.row_parts.proofs.question_of.Symbol.{name as #row-parts·question-of}
-use Rattle.heads.proofs.asks_tails as asks′
-use Rattle.heads.proofs.asks_tails.Symbol.{name as #heads·asks-tails}
-use Rattle.serving.proofs.run_asked as run-asked′
-use Rattle.serving.proofs.run_asked.Symbol.{name as #serving·run-asked}
+use Rattle.judge.proofs.row_parts.count_of as count-of′
+use Rattle.judge.proofs.row_parts.count_of.Symbol.{name as #row-parts·count-of}
+use Rattle.judge.proofs.row_parts.question_of as question-of′
+use Rattle.judge.proofs.row_parts.question_of.Symbol.{name as #row-parts·question-of}
+use Rattle.judge.proofs.heads.asks_tails as asks′
+use Rattle.judge.proofs.heads.asks_tails.Symbol.{name as #heads·asks-tails}
+use Rattle.judge.proofs.serving.run_asked as run-asked′
+use Rattle.judge.proofs.serving.run_asked.Symbol.{name as #serving·run-asked}
 use Rattle.judge.proofs.chunks_of as chunks-of′
 use Rattle.judge.proofs.chunks_of.Symbol.{name as #judge·chunks-of}
-use Rattle.heads.proofs.hit_head as hit-head′
-use Rattle.heads.proofs.hit_head.Symbol.{name as #heads·hit-head}
-use Rattle.row_parts.proofs.is_nothing as is-nothing′
-use Rattle.row_parts.proofs.is_nothing.Symbol.{name as #row-parts·is-nothing}
+use Rattle.judge.proofs.heads.hit_head as hit-head′
+use Rattle.judge.proofs.heads.hit_head.Symbol.{name as #heads·hit-head}
+use Rattle.judge.proofs.row_parts.is_nothing as is-nothing′
+use Rattle.judge.proofs.row_parts.is_nothing.Symbol.{name as #row-parts·is-nothing}
 use Rattle.table.proofs.meets_none as meets-none′
 use Rattle.table.proofs.meets_none.Symbol.{name as #table·meets-none}
-use Rattle.spans.proofs.is_outside as outside′
-use Rattle.spans.proofs.is_outside.Symbol.{name as #spans·is-outside}
-use Rattle.spans.proofs.no_span as no-span′
-use Rattle.spans.proofs.no_span.Symbol.{name as #spans·no-span}
-use Rattle.spans.proofs.span_with as span-with′
-use Rattle.spans.proofs.span_with.Symbol.{name as #spans·span-with}
+use Rattle.judge.proofs.spans.is_outside as outside′
+use Rattle.judge.proofs.spans.is_outside.Symbol.{name as #spans·is-outside}
+use Rattle.judge.proofs.spans.no_span as no-span′
+use Rattle.judge.proofs.spans.no_span.Symbol.{name as #spans·no-span}
+use Rattle.judge.proofs.spans.span_with as span-with′
+use Rattle.judge.proofs.spans.span_with.Symbol.{name as #spans·span-with}
 use Rattle.records.proofs.Walk.{Loan, sliceOf, shared}
 use Rattle.records.proofs.Calls.{Site, plain-call, pass-call}
 

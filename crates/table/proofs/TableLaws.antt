@@ -23,11 +23,11 @@ use Rattle.layer.specs.World.{blank}
 use Rattle.layer.specs.declared.State.{State}
 use Rattle.layer.specs.Table.{at, isAt, meets, overlaps, apart, askedId, soundQuestion, soundTable, soundLent}
 use Rattle.judge.specs.declared.Head.{Head}
-use Rattle.spans.specs.declared.Span.{Span}
+use Rattle.judge.specs.declared.spans.Span.{Span}
 use Rattle.judge.specs.declared.Query.the-variants.{Unsound, Meets}
 use Rattle.judge.specs.Scan.{hit, scanOf}
-use Rattle.spans.specs.Spans.{outside, Covers}
-use Rattle.ranges.proofs.RangeLaws.{no-meeting}
+use Rattle.judge.specs.Spans.{outside, Covers}
+use Rattle.judge.proofs.ranges.RangeLaws.{no-meeting}
 use Rattle.records.proofs.Ends.{past}
 
 -- a record that has a chunk is one of the lent

@@ -9,14 +9,14 @@ ghost use Rattle.lookup.specs.Soundness.{soundArena};
 ghost use Rattle.layer.specs.World.{blank};
 ghost use Rattle.layer.specs.Table.{at, overlaps, apart, soundLent};
 ghost use Rattle.judge.specs.Heads.{headOf};
-ghost use Rattle.spans.specs.Spans.{Covers};
+ghost use Rattle.judge.specs.Spans.{Covers};
 ghost use Rattle.judge.specs.Scan.{hit, scanOf};
 use arena::Arena;
 use judge::Head;
 use judge::Query;
+use judge::spans::Span;
 use layer::State;
 use runs::Found;
-use spans::Span;
 
 // The head of the record at an id of the table, read where it lies.
 fn head_at(records: &[Arena], i: usize) -> Head
@@ -62,15 +62,15 @@ fn hits_at(records: &[Arena], i: usize, q: Query, chunk_size: u64) -> bool
 {
     let h = head_or(records, i);
     let chunks = judge::chunks_of(h);
-    let n = serving::run_asked(q, i, h);
+    let n = judge::serving::run_asked(q, i, h);
     if 0 < n {
-        let f = maps::run_at(records, i, chunks, n);
-        return row_parts::is_at(f);
+        let f = records::maps::run_at(records, i, chunks, n);
+        return judge::row_parts::is_at(f);
     }
-    if heads::asks_tails(q, h, chunk_size) {
-        return !maps::tails_clear_at(records, i, chunks);
+    if judge::heads::asks_tails(q, h, chunk_size) {
+        return !records::maps::tails_clear_at(records, i, chunks);
     }
-    heads::hit_head(q, i, h, chunk_size)
+    judge::heads::hit_head(q, i, h, chunk_size)
 }
 
 // The lowest id below k whose record the query hits.
@@ -81,11 +81,11 @@ pub fn scan(records: &[Arena], k: usize, chunk_size: u64, q: Query) -> Found
     let mut i = 0;
     while i < k {
         if hits_at(records, i, q, chunk_size) {
-            return row_parts::found(i);
+            return judge::row_parts::found(i);
         }
         i = i + 1;
     }
-    row_parts::nothing()
+    judge::row_parts::nothing()
 }
 
 // ---- row 1
@@ -96,12 +96,12 @@ fn meets_none(records: &[Arena], j: usize, chunk_size: u64, s: Span, h: Head) ->
     requires { ⌜ (0 < «chunk_size») × («chunk_size» ≤ 4294967296) × (h .base + h .chunks * «chunk_size» < 2 ^ 64) × Covers «chunk_size» s (now records) j ⌝ }
     ensures { λ r. ⌜ r ≡ not (overlaps «chunk_size» (now (records .entry)) j (h .base) (h .chunks * «chunk_size»)) ⌝ }
 {
-    if spans::is_outside(s, h, chunk_size) {
+    if judge::spans::is_outside(s, h, chunk_size) {
         return true;
     }
-    let q = row_parts::range_query(h, chunk_size);
+    let q = judge::row_parts::range_query(h, chunk_size);
     let f = scan(records, j, chunk_size, q);
-    row_parts::is_nothing(f)
+    judge::row_parts::is_nothing(f)
 }
 
 // Whether the first k arenas, each sound by itself, share no address. Where they stand in ascending or in
@@ -110,14 +110,14 @@ pub fn apart_table(records: &[Arena], k: usize, chunk_size: u64) -> bool
     requires { ⌜ (0 < «chunk_size») × («chunk_size» ≤ 4294967296) × (all (λ i. soundArena «chunk_size» (at (now records) i)) 0 k ≡ true) ⌝ }
     ensures { λ r. ⌜ r ≡ apart «chunk_size» (now (records .entry)) k ⌝ }
 {
-    let mut s = spans::no_span();
+    let mut s = judge::spans::no_span();
     let mut j = 0;
     while j < k {
         let h = head_or(records, j);
         if !meets_none(records, j, chunk_size, s, h) {
             return false;
         }
-        s = spans::span_with(s, h, chunk_size);
+        s = judge::spans::span_with(s, h, chunk_size);
         j = j + 1;
     }
     true
@@ -128,23 +128,23 @@ pub fn row_one(records: &[Arena], stamps: usize, state: State, page: u64, chunk_
     requires { ⌜ (0 < «chunk_size») × («chunk_size» ≤ 4294967296) ⌝ }
     ensures { λ r. ⌜ r ≡ soundLent «chunk_size» (now (records .entry)) stamps state page ⌝ }
 {
-    let count = row_parts::count_of(state);
-    if !row_parts::lent_sound(records.len(), stamps, page, count) {
+    let count = judge::row_parts::count_of(state);
+    if !judge::row_parts::lent_sound(records.len(), stamps, page, count) {
         return false;
     }
-    let q = row_parts::unsound_query();
+    let q = judge::row_parts::unsound_query();
     let f = scan(records, count, chunk_size, q);
-    if row_parts::is_at(f) {
+    if judge::row_parts::is_at(f) {
         return false;
     }
     if !apart_table(records, count, chunk_size) {
         return false;
     }
-    let question = row_parts::question_of(state);
-    if open_question::is_about_none(question) {
+    let question = judge::row_parts::question_of(state);
+    if judge::open_question::is_about_none(question) {
         return true;
     }
-    let id = open_question::asked_id(question);
+    let id = judge::open_question::asked_id(question);
     let a = records::load_or(records, id);
-    open_question::question_sound(a, count, question)
+    judge::open_question::question_sound(a, count, question)
 }

@@ -40,8 +40,8 @@ use Rattle.layer.proofs.Reply.Laws as Y′
 use Rattle.layer.specs.declared.Settings.{Settings}
 use Rattle.layer.proofs.Settings as G
 use Rattle.layer.proofs.Settings.Laws as G′
-use Rattle.writing.proofs.Writing as X
-use Rattle.writing.proofs.Writing.Laws as X′
+use Rattle.entry.proofs.writing.Writing as X
+use Rattle.entry.proofs.writing.Writing.Laws as X′
 use Rattle.records.proofs.Walk.{Loan, Known, lent, sliceOf}
 use Rattle.records.proofs.Locals.{enters, used}
 use Rattle.records.proofs.Calls.{in-seq}
@@ -49,20 +49,20 @@ use Rattle.entry.proofs.EntrySteps.{Page, page-step}
 use Rattle.records.proofs.Frame.{Done2, finish2, mut2-meets}
 use Rattle.adopt_os_block.proofs.AdoptLaws.{adopt-stamps, adopt-done}
 use Rattle.adopt_os_block.proofs.Steps.{AdoptWriting, adopt-writing-step}
-use Rattle.writing.proofs.WriteSteps.{Write, write-step}
+use Rattle.entry.proofs.writing.WriteSteps.{Write, write-step}
 use Rattle.layer.specs.World.{worldOf, Leaves}
 use Rattle.layer.specs.Step.{adopt, step}
 use Rattle.registers.specs.Core.{stampsWith}
-use Rattle.writing.specs.Places.{recordPlace}
+use Rattle.entry.specs.Places.{recordPlace}
 use Rattle.entry.proofs.page_of.Symbol as page-def
 use Rattle.entry.proofs.page_of.Symbol.{name as #entry·page-of}
 use Rattle.entry.proofs.page_of.Met as page-thm
 use Rattle.adopt_os_block.proofs.adopt_writing.Symbol as adopt-writing-def
 use Rattle.adopt_os_block.proofs.adopt_writing.Symbol.{name as #adopt-os-block·adopt-writing}
 use Rattle.adopt_os_block.proofs.adopt_writing.Met as adopt-writing-thm
-use Rattle.writing.proofs.write.Symbol as write-def
-use Rattle.writing.proofs.write.Symbol.{name as #writing·write}
-use Rattle.writing.proofs.write.Met as write-thm
+use Rattle.entry.proofs.writing.write.Symbol as write-def
+use Rattle.entry.proofs.writing.write.Symbol.{name as #writing·write}
+use Rattle.entry.proofs.writing.write.Met as write-thm
 use Rattle.adopt_os_block.proofs.adopt_os_block.Key.{name as #adopt-os-block·adopt-os-block}
 use Rattle.adopt_os_block.proofs.adopt_os_block as adopt-os-block′
 use Rattle.adopt_os_block.proofs.adopt_os_block.Statement as stated
@@ -119,4 +119,4 @@ adopt-os-block-spec 𝓤 H 𝓜 𝓖 𝓡 =
     (adopt-os-block-meets 𝓤 H (𝓖 .A) (givenOf 𝓤 H 𝓜 𝓖) (𝓜 .mem) (𝓡 .run) (tablesOf 𝓤 H 𝓜 (tables 𝓤 H 𝓜 𝓡 code.env))
     (cited 𝓤 H (Page 𝓤 H (𝓖 .A) (𝓜 .mem) (𝓡 .run)) 𝓜 𝓡 code.env #entry·page-of page-def.routine code.calls-entry·page-of (page-thm.met 𝓤 H 𝓜 𝓖 𝓡))
     (cited 𝓤 H (AdoptWriting 𝓤 H (𝓖 .A) (𝓜 .mem) (𝓡 .run)) 𝓜 𝓡 code.env #adopt-os-block·adopt-writing adopt-writing-def.routine code.calls-adopt-os-block·adopt-writing (adopt-writing-thm.met 𝓤 H 𝓜 𝓖 𝓡))
-    (cited 𝓤 H (Write 𝓤 H (𝓖 .A) (𝓜 .mem) (𝓡 .run)) 𝓜 𝓡 code.env #writing·write write-def.routine code.calls-writing·write (write-thm.met 𝓤 H 𝓜 𝓖 𝓡)))
+    (cited 𝓤 H (Write 𝓤 H (𝓖 .A) (𝓜 .mem) (𝓡 .run)) 𝓜 𝓡 code.env #writing·write write-def.routine code.calls-entry·writing·write (write-thm.met 𝓤 H 𝓜 𝓖 𝓡)))

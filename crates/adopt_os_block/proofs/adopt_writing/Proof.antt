@@ -45,9 +45,9 @@ use Rattle.judge.proofs.Query as Q
 use Rattle.judge.proofs.Query.Laws as Q′
 use Rattle.registers.proofs.Registering as D
 use Rattle.registers.proofs.Registering.Laws as D′
-use Rattle.writing.specs.declared.Writing.{Writing}
-use Rattle.writing.proofs.Writing as X
-use Rattle.writing.proofs.Writing.Laws as X′
+use Rattle.entry.specs.declared.writing.Writing.{Writing}
+use Rattle.entry.proofs.writing.Writing as X
+use Rattle.entry.proofs.writing.Writing.Laws as X′
 use Rattle.records.proofs.Walk.{Loan, Known, shared, sliceOf}
 use Rattle.records.proofs.Locals.{enters, used}
 use Rattle.records.proofs.Calls.{in-seq}
@@ -64,15 +64,15 @@ use Rattle.judge.specs.Scan.{scanOf}
 use native.Mathlib.Omega.{arith}
 use Rattle.judge.specs.declared.Query.the-variants.{Meets as Meeting, Grows}
 use Rattle.registers.specs.Core.{storedAt}
-use Rattle.adopting.specs.Core.{adoptCount, adoptStamped}
-use Rattle.writing.specs.Places.{writingOf}
+use Rattle.registering.specs.Adopting.{adoptCount, adoptStamped}
+use Rattle.entry.specs.Places.{writingOf}
 use Rattle.adopt_os_block.specs.Writes.{AdoptWrites}
 use Rattle.table.proofs.row_one.Symbol as row-def
 use Rattle.table.proofs.row_one.Symbol.{name as #table·row-one}
 use Rattle.table.proofs.row_one.Met as row-thm
-use Rattle.adopting.proofs.adopt_count.Symbol as adopt-count-def
-use Rattle.adopting.proofs.adopt_count.Symbol.{name as #adopting·adopt-count}
-use Rattle.adopting.proofs.adopt_count.Met as adopt-count-thm
+use Rattle.registering.proofs.adopting.adopt_count.Symbol as adopt-count-def
+use Rattle.registering.proofs.adopting.adopt_count.Symbol.{name as #adopting·adopt-count}
+use Rattle.registering.proofs.adopting.adopt_count.Met as adopt-count-thm
 use Rattle.adopt_os_block.proofs.block_query.Symbol as block-query-def
 use Rattle.adopt_os_block.proofs.block_query.Symbol.{name as #adopt-os-block·block-query}
 use Rattle.adopt_os_block.proofs.block_query.Met as block-query-thm
@@ -88,9 +88,9 @@ use Rattle.entry.proofs.stored_at.Met as stored-thm
 use Rattle.records.proofs.load_or.Symbol as load-def
 use Rattle.records.proofs.load_or.Symbol.{name as #records·load-or}
 use Rattle.records.proofs.load_or.Met as load-thm
-use Rattle.adopting.proofs.adopt_core.Symbol as adopt-core-def
-use Rattle.adopting.proofs.adopt_core.Symbol.{name as #adopting·adopt-core}
-use Rattle.adopting.proofs.adopt_core.Met as adopt-core-thm
+use Rattle.registering.proofs.adopting.adopt_core.Symbol as adopt-core-def
+use Rattle.registering.proofs.adopting.adopt_core.Symbol.{name as #adopting·adopt-core}
+use Rattle.registering.proofs.adopting.adopt_core.Met as adopt-core-thm
 use Rattle.adopt_os_block.proofs.adopted.Symbol as adopted-def
 use Rattle.adopt_os_block.proofs.adopted.Symbol.{name as #adopt-os-block·adopted}
 use Rattle.adopt_os_block.proofs.adopted.Met as adopted-thm
@@ -180,11 +180,11 @@ adopt-writing-spec 𝓤 H 𝓜 𝓖 𝓡 =
     (tables 𝓤 H 𝓜 𝓡 code.env .C) (tables 𝓤 H 𝓜 𝓡 code.env .Λ) #adopt-os-block·adopt-writing code.function (code.unfolded 𝓤 H 𝓜 𝓡)
     (adopt-writing-meets 𝓤 H (𝓖 .A) (givenOf 𝓤 H 𝓜 𝓖) (𝓜 .mem) (𝓡 .run) (tablesOf 𝓤 H 𝓜 (tables 𝓤 H 𝓜 𝓡 code.env))
     (cited 𝓤 H (Row 𝓤 H (𝓖 .A) (𝓜 .mem) (𝓡 .run)) 𝓜 𝓡 code.env #table·row-one row-def.routine code.calls-table·row-one (row-thm.met 𝓤 H 𝓜 𝓖 𝓡))
-    (cited 𝓤 H (AdoptCount 𝓤 H (𝓖 .A) (𝓜 .mem) (𝓡 .run)) 𝓜 𝓡 code.env #adopting·adopt-count adopt-count-def.routine code.calls-adopting·adopt-count (adopt-count-thm.met 𝓤 H 𝓜 𝓖 𝓡))
+    (cited 𝓤 H (AdoptCount 𝓤 H (𝓖 .A) (𝓜 .mem) (𝓡 .run)) 𝓜 𝓡 code.env #adopting·adopt-count adopt-count-def.routine code.calls-registering·adopting·adopt-count (adopt-count-thm.met 𝓤 H 𝓜 𝓖 𝓡))
     (cited 𝓤 H (BlockQuery 𝓤 H (𝓖 .A) (𝓜 .mem) (𝓡 .run)) 𝓜 𝓡 code.env #adopt-os-block·block-query block-query-def.routine code.calls-adopt-os-block·block-query (block-query-thm.met 𝓤 H 𝓜 𝓖 𝓡))
     (cited 𝓤 H (Scan 𝓤 H (𝓖 .A) (𝓜 .mem) (𝓡 .run)) 𝓜 𝓡 code.env #table·scan scan-def.routine code.calls-table·scan (scan-thm.met 𝓤 H 𝓜 𝓖 𝓡))
     (cited 𝓤 H (GrowthQuery 𝓤 H (𝓖 .A) (𝓜 .mem) (𝓡 .run)) 𝓜 𝓡 code.env #adopt-os-block·growth-query growth-query-def.routine code.calls-adopt-os-block·growth-query (growth-query-thm.met 𝓤 H 𝓜 𝓖 𝓡))
     (cited 𝓤 H (Stored 𝓤 H (𝓖 .A) (𝓜 .mem) (𝓡 .run)) 𝓜 𝓡 code.env #entry·stored-at stored-def.routine code.calls-entry·stored-at (stored-thm.met 𝓤 H 𝓜 𝓖 𝓡))
     (cited 𝓤 H (LoadOr 𝓤 H (𝓖 .A) (𝓜 .mem) (𝓡 .run)) 𝓜 𝓡 code.env #records·load-or load-def.routine code.calls-records·load-or (load-thm.met 𝓤 H 𝓜 𝓖 𝓡))
-    (cited 𝓤 H (AdoptCore 𝓤 H (𝓖 .A) (𝓜 .mem) (𝓡 .run)) 𝓜 𝓡 code.env #adopting·adopt-core adopt-core-def.routine code.calls-adopting·adopt-core (adopt-core-thm.met 𝓤 H 𝓜 𝓖 𝓡))
+    (cited 𝓤 H (AdoptCore 𝓤 H (𝓖 .A) (𝓜 .mem) (𝓡 .run)) 𝓜 𝓡 code.env #adopting·adopt-core adopt-core-def.routine code.calls-registering·adopting·adopt-core (adopt-core-thm.met 𝓤 H 𝓜 𝓖 𝓡))
     (cited 𝓤 H (Adopted 𝓤 H (𝓖 .A) (𝓜 .mem) (𝓡 .run)) 𝓜 𝓡 code.env #adopt-os-block·adopted adopted-def.routine code.calls-adopt-os-block·adopted (adopted-thm.met 𝓤 H 𝓜 𝓖 𝓡)))

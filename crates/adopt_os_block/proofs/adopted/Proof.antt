@@ -1,7 +1,7 @@
 -- `adopt_os_block::adopted` meets its contract. Assumes nothing.
 use mathlib.Core.Path.{ap, _∙_}
 use borrow.Author.Needs.{needs}
-use Rattle.writing.specs.Places.{writingOf}
+use Rattle.entry.specs.Places.{writingOf}
 use Rattle.adopt_os_block.proofs.adopted.Statement.{statement}
 use Rattle.adopt_os_block.proofs.adopted.Tie as tie
 

@@ -44,8 +44,8 @@ use Rattle.layer.proofs.Reply as P
 use Rattle.layer.proofs.Reply.Laws as P′
 use Rattle.layer.proofs.Kind as J
 use Rattle.layer.proofs.Kind.Laws as J′
-use Rattle.question_kinds.specs.Gate.{gated}
-use Rattle.answer_parts.specs.Parts.{goesFor, ownReply}
+use Rattle.questions.specs.Gate.{gated}
+use Rattle.questions.specs.Parts.{goesFor, ownReply}
 use Rattle.answer.specs.Call.{Answerable, answerOn}
 use Rattle.records.proofs.Walk.{Loan, Known, lent, sliceOf}
 use Rattle.records.proofs.Locals.{enters, used}
@@ -53,15 +53,15 @@ use Rattle.records.proofs.Calls.{in-seq}
 use Rattle.records.proofs.Frame.{Done2, finish2, mut2-meets}
 use Rattle.answer.proofs.CallLaws.{first, second, third, thirdStamps, commit-fits, purge-fits, memory-fits, comes}
 use Rattle.answer.proofs.Steps.{GoesCommit, GoesPurge, GoesMemory, CommitPart, PurgePart, MemoryPart, ReplyFor, goes-commit-step, goes-purge-step, goes-memory-step, commit-part-step, purge-part-step, memory-part-step, reply-for-step}
-use Rattle.answer_parts.proofs.goes_commit.Symbol as goes-commit-def
-use Rattle.answer_parts.proofs.goes_commit.Symbol.{name as #answer-parts·goes-commit}
-use Rattle.answer_parts.proofs.goes_commit.Met as goes-commit-thm
-use Rattle.answer_parts.proofs.goes_purge.Symbol as goes-purge-def
-use Rattle.answer_parts.proofs.goes_purge.Symbol.{name as #answer-parts·goes-purge}
-use Rattle.answer_parts.proofs.goes_purge.Met as goes-purge-thm
-use Rattle.answer_parts.proofs.goes_memory.Symbol as goes-memory-def
-use Rattle.answer_parts.proofs.goes_memory.Symbol.{name as #answer-parts·goes-memory}
-use Rattle.answer_parts.proofs.goes_memory.Met as goes-memory-thm
+use Rattle.questions.proofs.answer_parts.goes_commit.Symbol as goes-commit-def
+use Rattle.questions.proofs.answer_parts.goes_commit.Symbol.{name as #answer-parts·goes-commit}
+use Rattle.questions.proofs.answer_parts.goes_commit.Met as goes-commit-thm
+use Rattle.questions.proofs.answer_parts.goes_purge.Symbol as goes-purge-def
+use Rattle.questions.proofs.answer_parts.goes_purge.Symbol.{name as #answer-parts·goes-purge}
+use Rattle.questions.proofs.answer_parts.goes_purge.Met as goes-purge-thm
+use Rattle.questions.proofs.answer_parts.goes_memory.Symbol as goes-memory-def
+use Rattle.questions.proofs.answer_parts.goes_memory.Symbol.{name as #answer-parts·goes-memory}
+use Rattle.questions.proofs.answer_parts.goes_memory.Met as goes-memory-thm
 use Rattle.commit_answer.proofs.commit_part.Symbol as commit-part-def
 use Rattle.commit_answer.proofs.commit_part.Symbol.{name as #commit-answer·commit-part}
 use Rattle.commit_answer.proofs.commit_part.Met as commit-part-thm
@@ -71,9 +71,9 @@ use Rattle.purge_answer.proofs.purge_part.Met as purge-part-thm
 use Rattle.memory_answer.proofs.memory_part.Symbol as memory-part-def
 use Rattle.memory_answer.proofs.memory_part.Symbol.{name as #memory-answer·memory-part}
 use Rattle.memory_answer.proofs.memory_part.Met as memory-part-thm
-use Rattle.answer_parts.proofs.reply_for.Symbol as reply-for-def
-use Rattle.answer_parts.proofs.reply_for.Symbol.{name as #answer-parts·reply-for}
-use Rattle.answer_parts.proofs.reply_for.Met as reply-for-thm
+use Rattle.questions.proofs.answer_parts.reply_for.Symbol as reply-for-def
+use Rattle.questions.proofs.answer_parts.reply_for.Symbol.{name as #answer-parts·reply-for}
+use Rattle.questions.proofs.answer_parts.reply_for.Met as reply-for-thm
 use Rattle.answer.proofs.answer_on.Key.{name as #answer·answer-on}
 use Rattle.answer.proofs.answer_on as answer-on′
 use Rattle.answer.proofs.answer_on.Statement as stated
@@ -165,10 +165,10 @@ answer-on-spec 𝓤 H 𝓜 𝓖 𝓡 =
     entered 𝓤 H (tripleOf 𝓤 H (𝓖 .A) answer-on′.signature (answer-on′.spec 𝓤 H (𝓖 .A) (𝓜 .mem) (𝓡 .run)))
     (tables 𝓤 H 𝓜 𝓡 code.env .C) (tables 𝓤 H 𝓜 𝓡 code.env .Λ) #answer·answer-on code.function (code.unfolded 𝓤 H 𝓜 𝓡)
     (answer-on-meets 𝓤 H (𝓖 .A) (givenOf 𝓤 H 𝓜 𝓖) (𝓜 .mem) (𝓡 .run) (tablesOf 𝓤 H 𝓜 (tables 𝓤 H 𝓜 𝓡 code.env))
-    (cited 𝓤 H (GoesCommit 𝓤 H (𝓖 .A) (𝓜 .mem) (𝓡 .run)) 𝓜 𝓡 code.env #answer-parts·goes-commit goes-commit-def.routine code.calls-answer-parts·goes-commit (goes-commit-thm.met 𝓤 H 𝓜 𝓖 𝓡))
-    (cited 𝓤 H (GoesPurge 𝓤 H (𝓖 .A) (𝓜 .mem) (𝓡 .run)) 𝓜 𝓡 code.env #answer-parts·goes-purge goes-purge-def.routine code.calls-answer-parts·goes-purge (goes-purge-thm.met 𝓤 H 𝓜 𝓖 𝓡))
-    (cited 𝓤 H (GoesMemory 𝓤 H (𝓖 .A) (𝓜 .mem) (𝓡 .run)) 𝓜 𝓡 code.env #answer-parts·goes-memory goes-memory-def.routine code.calls-answer-parts·goes-memory (goes-memory-thm.met 𝓤 H 𝓜 𝓖 𝓡))
+    (cited 𝓤 H (GoesCommit 𝓤 H (𝓖 .A) (𝓜 .mem) (𝓡 .run)) 𝓜 𝓡 code.env #answer-parts·goes-commit goes-commit-def.routine code.calls-questions·answer-parts·goes-commit (goes-commit-thm.met 𝓤 H 𝓜 𝓖 𝓡))
+    (cited 𝓤 H (GoesPurge 𝓤 H (𝓖 .A) (𝓜 .mem) (𝓡 .run)) 𝓜 𝓡 code.env #answer-parts·goes-purge goes-purge-def.routine code.calls-questions·answer-parts·goes-purge (goes-purge-thm.met 𝓤 H 𝓜 𝓖 𝓡))
+    (cited 𝓤 H (GoesMemory 𝓤 H (𝓖 .A) (𝓜 .mem) (𝓡 .run)) 𝓜 𝓡 code.env #answer-parts·goes-memory goes-memory-def.routine code.calls-questions·answer-parts·goes-memory (goes-memory-thm.met 𝓤 H 𝓜 𝓖 𝓡))
     (cited 𝓤 H (CommitPart 𝓤 H (𝓖 .A) (𝓜 .mem) (𝓡 .run)) 𝓜 𝓡 code.env #commit-answer·commit-part commit-part-def.routine code.calls-commit-answer·commit-part (commit-part-thm.met 𝓤 H 𝓜 𝓖 𝓡))
     (cited 𝓤 H (PurgePart 𝓤 H (𝓖 .A) (𝓜 .mem) (𝓡 .run)) 𝓜 𝓡 code.env #purge-answer·purge-part purge-part-def.routine code.calls-purge-answer·purge-part (purge-part-thm.met 𝓤 H 𝓜 𝓖 𝓡))
     (cited 𝓤 H (MemoryPart 𝓤 H (𝓖 .A) (𝓜 .mem) (𝓡 .run)) 𝓜 𝓡 code.env #memory-answer·memory-part memory-part-def.routine code.calls-memory-answer·memory-part (memory-part-thm.met 𝓤 H 𝓜 𝓖 𝓡))
-    (cited 𝓤 H (ReplyFor 𝓤 H (𝓖 .A) (𝓜 .mem) (𝓡 .run)) 𝓜 𝓡 code.env #answer-parts·reply-for reply-for-def.routine code.calls-answer-parts·reply-for (reply-for-thm.met 𝓤 H 𝓜 𝓖 𝓡)))
+    (cited 𝓤 H (ReplyFor 𝓤 H (𝓖 .A) (𝓜 .mem) (𝓡 .run)) 𝓜 𝓡 code.env #answer-parts·reply-for reply-for-def.routine code.calls-questions·answer-parts·reply-for (reply-for-thm.met 𝓤 H 𝓜 𝓖 𝓡)))

@@ -58,10 +58,10 @@ use Rattle.judge.proofs.Query.Laws as Q′
 use Rattle.claims.specs.Core.{claimCount}
 use Rattle.arena.specs.Claiming.{findRun}
 use Rattle.layer.specs.Claiming.{grantArena}
-use Rattle.grants.specs.Grants.{claimAnswer}
-use Rattle.grant_parts.specs.Reads.{startOf, placeOf}
-use Rattle.grant_parts.proofs.Grant as N
-use Rattle.grant_parts.proofs.Grant.Laws as N′
+use Rattle.claims.specs.Grants.{claimAnswer}
+use Rattle.claims.specs.Reads.{startOf, placeOf}
+use Rattle.claims.proofs.grant_parts.Grant as N
+use Rattle.claims.proofs.grant_parts.Grant.Laws as N′
 use Rattle.records.proofs.Walk.{Loan, Known, lent, sliceOf}
 use Rattle.records.proofs.Locals.{enters, used}
 use Rattle.records.proofs.Frame.{Done2, finish2, mut2-meets}
@@ -87,15 +87,15 @@ use Rattle.chunk_alloc.proofs.serves_query.Met as query-thm
 use Rattle.table.proofs.scan.Symbol as scan-def
 use Rattle.table.proofs.scan.Symbol.{name as #table·scan}
 use Rattle.table.proofs.scan.Met as scan-thm
-use Rattle.grant_parts.proofs.place_of.Symbol as place-def
-use Rattle.grant_parts.proofs.place_of.Symbol.{name as #grant-parts·place-of}
-use Rattle.grant_parts.proofs.place_of.Met as place-thm
+use Rattle.claims.proofs.grant_parts.place_of.Symbol as place-def
+use Rattle.claims.proofs.grant_parts.place_of.Symbol.{name as #grant-parts·place-of}
+use Rattle.claims.proofs.grant_parts.place_of.Met as place-thm
 use Rattle.grant_at.proofs.grant_at.Symbol as grant-def
 use Rattle.grant_at.proofs.grant_at.Symbol.{name as #grant-at·grant-at}
 use Rattle.grant_at.proofs.grant_at.Met as grant-thm
-use Rattle.grants.proofs.claim_answer.Symbol as answer-def
-use Rattle.grants.proofs.claim_answer.Symbol.{name as #grants·claim-answer}
-use Rattle.grants.proofs.claim_answer.Met as answer-thm
+use Rattle.claims.proofs.grants.claim_answer.Symbol as answer-def
+use Rattle.claims.proofs.grants.claim_answer.Symbol.{name as #grants·claim-answer}
+use Rattle.claims.proofs.grants.claim_answer.Met as answer-thm
 use Rattle.chunk_alloc.proofs.claim_at.Key.{name as #chunk-alloc·claim-at}
 use Rattle.chunk_alloc.proofs.claim_at as claim′
 use Rattle.chunk_alloc.proofs.claim_at.Statement as stated
@@ -192,6 +192,6 @@ claim-at-spec 𝓤 H 𝓜 𝓖 𝓡 =
     (cited 𝓤 H (Count 𝓤 H (𝓖 .A) (𝓜 .mem) (𝓡 .run)) 𝓜 𝓡 code.env #claims·claim-count count-def.routine code.calls-claims·claim-count (count-thm.met 𝓤 H 𝓜 𝓖 𝓡))
     (cited 𝓤 H (Asks 𝓤 H (𝓖 .A) (𝓜 .mem) (𝓡 .run)) 𝓜 𝓡 code.env #chunk-alloc·serves-query query-def.routine code.calls-chunk-alloc·serves-query (query-thm.met 𝓤 H 𝓜 𝓖 𝓡))
     (cited 𝓤 H (Scan 𝓤 H (𝓖 .A) (𝓜 .mem) (𝓡 .run)) 𝓜 𝓡 code.env #table·scan scan-def.routine code.calls-table·scan (scan-thm.met 𝓤 H 𝓜 𝓖 𝓡))
-    (cited 𝓤 H (Place 𝓤 H (𝓖 .A) (𝓜 .mem) (𝓡 .run)) 𝓜 𝓡 code.env #grant-parts·place-of place-def.routine code.calls-grant-parts·place-of (place-thm.met 𝓤 H 𝓜 𝓖 𝓡))
+    (cited 𝓤 H (Place 𝓤 H (𝓖 .A) (𝓜 .mem) (𝓡 .run)) 𝓜 𝓡 code.env #grant-parts·place-of place-def.routine code.calls-claims·grant-parts·place-of (place-thm.met 𝓤 H 𝓜 𝓖 𝓡))
     (cited 𝓤 H (GrantAt 𝓤 H (𝓖 .A) (𝓜 .mem) (𝓡 .run)) 𝓜 𝓡 code.env #grant-at·grant-at grant-def.routine code.calls-grant-at·grant-at (grant-thm.met 𝓤 H 𝓜 𝓖 𝓡))
-    (cited 𝓤 H (Answers 𝓤 H (𝓖 .A) (𝓜 .mem) (𝓡 .run)) 𝓜 𝓡 code.env #grants·claim-answer answer-def.routine code.calls-grants·claim-answer (answer-thm.met 𝓤 H 𝓜 𝓖 𝓡)))
+    (cited 𝓤 H (Answers 𝓤 H (𝓖 .A) (𝓜 .mem) (𝓡 .run)) 𝓜 𝓡 code.env #grants·claim-answer answer-def.routine code.calls-claims·grants·claim-answer (answer-thm.met 𝓤 H 𝓜 𝓖 𝓡)))

@@ -62,7 +62,7 @@ use Rattle.records.proofs.Locals.{enters, used}
 use Rattle.records.proofs.Frame.{Done2, finish2, mut2-meets}
 use Rattle.records.proofs.Calls.{in-seq, swaps}
 use Rattle.table.proofs.Steps.{Row, Scan, HeadOr, row-step, scan-step, head-or-step}
-use Rattle.release_at.proofs.Steps.{ReleaseIf, release-if-step}
+use Rattle.records.proofs.release_at.Steps.{ReleaseIf, release-if-step}
 use Rattle.registers.specs.Core.{storedAt}
 use Rattle.entry.proofs.page_of.Symbol as page-def
 use Rattle.entry.proofs.page_of.Symbol.{name as #entry·page-of}
@@ -97,9 +97,9 @@ use Rattle.chunk_release.proofs.release_ms.Met as ms-thm
 use Rattle.chunk_release.proofs.release_delay.Symbol as delay-def
 use Rattle.chunk_release.proofs.release_delay.Symbol.{name as #chunk-release·release-delay}
 use Rattle.chunk_release.proofs.release_delay.Met as delay-thm
-use Rattle.release_at.proofs.release_if.Symbol as if-def
-use Rattle.release_at.proofs.release_if.Symbol.{name as #release-at·release-if}
-use Rattle.release_at.proofs.release_if.Met as if-thm
+use Rattle.records.proofs.release_at.release_if.Symbol as if-def
+use Rattle.records.proofs.release_at.release_if.Symbol.{name as #release-at·release-if}
+use Rattle.records.proofs.release_at.release_if.Met as if-thm
 use Rattle.releases.proofs.release_stamps.Symbol as stamps-def
 use Rattle.releases.proofs.release_stamps.Symbol.{name as #releases·release-stamps}
 use Rattle.releases.proofs.release_stamps.Met as stamps-thm
@@ -261,6 +261,6 @@ chunk-release-spec 𝓤 H 𝓜 𝓖 𝓡 =
     (cited 𝓤 H (Start 𝓤 H (𝓖 .A) (𝓜 .mem) (𝓡 .run)) 𝓜 𝓡 code.env #releases·start-of start-def.routine code.calls-releases·start-of (start-thm.met 𝓤 H 𝓜 𝓖 𝓡))
     (cited 𝓤 H (Ms 𝓤 H (𝓖 .A) (𝓜 .mem) (𝓡 .run)) 𝓜 𝓡 code.env #chunk-release·release-ms ms-def.routine code.calls-chunk-release·release-ms (ms-thm.met 𝓤 H 𝓜 𝓖 𝓡))
     (cited 𝓤 H (Delay 𝓤 H (𝓖 .A) (𝓜 .mem) (𝓡 .run)) 𝓜 𝓡 code.env #chunk-release·release-delay delay-def.routine code.calls-chunk-release·release-delay (delay-thm.met 𝓤 H 𝓜 𝓖 𝓡))
-    (cited 𝓤 H (ReleaseIf 𝓤 H (𝓖 .A) (𝓜 .mem) (𝓡 .run)) 𝓜 𝓡 code.env #release-at·release-if if-def.routine code.calls-release-at·release-if (if-thm.met 𝓤 H 𝓜 𝓖 𝓡))
+    (cited 𝓤 H (ReleaseIf 𝓤 H (𝓖 .A) (𝓜 .mem) (𝓡 .run)) 𝓜 𝓡 code.env #release-at·release-if if-def.routine code.calls-records·release-at·release-if (if-thm.met 𝓤 H 𝓜 𝓖 𝓡))
     (cited 𝓤 H (StampsOf 𝓤 H (𝓖 .A) (𝓜 .mem) (𝓡 .run)) 𝓜 𝓡 code.env #releases·release-stamps stamps-def.routine code.calls-releases·release-stamps (stamps-thm.met 𝓤 H 𝓜 𝓖 𝓡))
     (cited 𝓤 H (AnswerOf 𝓤 H (𝓖 .A) (𝓜 .mem) (𝓡 .run)) 𝓜 𝓡 code.env #releases·release-answer answer-def.routine code.calls-releases·release-answer (answer-thm.met 𝓤 H 𝓜 𝓖 𝓡)))

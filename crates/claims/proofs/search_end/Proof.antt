@@ -2,7 +2,7 @@
 use mathlib.Core.Path.{_≡_, sym, ap, _∙_}
 use borrow.Author.Needs.{needs}
 use Rattle.lookup.proofs.SoundLaws.{SoundArena, arena-facts}
-use Rattle.arena_laws.proofs.Changes.{found-inside}
+use Rattle.lookup.proofs.Changes.{found-inside}
 use Rattle.claims.specs.Core.{searchReply, searchArena}
 use Rattle.claims.proofs.CallLaws.{found-arena, found-reply}
 use Rattle.claims.proofs.search_end.Statement.{statement}

@@ -41,9 +41,9 @@ use Rattle.layer.proofs.Reply as Y
 use Rattle.layer.proofs.Reply.Laws as Y′
 use Rattle.layer.specs.Table.{at}
 use Rattle.layer.specs.Answering.{commitArena, commitReply}
-use Rattle.granting.proofs.Served as D
-use Rattle.granting.proofs.Served.Laws as D′
-use Rattle.open_commit.specs.Asked.{committingId, committingStart, committingLength}
+use Rattle.claims.proofs.granting.Served as D
+use Rattle.claims.proofs.granting.Served.Laws as D′
+use Rattle.questions.specs.Commits.{committingId, committingStart, committingLength}
 use Rattle.records.proofs.Walk.{Loan, Known, lent, sliceOf}
 use Rattle.records.proofs.Locals.{enters, used}
 use Rattle.records.proofs.Calls.{in-seq}

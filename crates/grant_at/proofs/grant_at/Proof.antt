@@ -38,10 +38,10 @@ use Rattle.arena.proofs.Arena as T
 use Rattle.layer.specs.World.{blank}
 use Rattle.layer.specs.Table.{isAt}
 use Rattle.layer.specs.Claiming.{grantArena}
-use Rattle.grant_parts.specs.declared.Grant.{Grant}
-use Rattle.grant_parts.specs.Reads.{startOf, grantOf}
-use Rattle.grant_parts.proofs.Grant as N
-use Rattle.grant_parts.proofs.Grant.Laws as N′
+use Rattle.claims.specs.declared.grant_parts.Grant.{Grant}
+use Rattle.claims.specs.Reads.{startOf, grantOf}
+use Rattle.claims.proofs.grant_parts.Grant as N
+use Rattle.claims.proofs.grant_parts.Grant.Laws as N′
 use Rattle.records.proofs.Walk.{Loan, Known, lent, sliceOf}
 use Rattle.records.proofs.Locals.{enters, used, room, if-else}
 use Rattle.records.proofs.Calls.{in-seq}
@@ -50,9 +50,9 @@ use Rattle.grant_at.proofs.Steps.{GrantIn, NoGrant, grant-in-step, none
 use Rattle.grant_at.proofs.grant_in.Symbol as grant-def
 use Rattle.grant_at.proofs.grant_in.Symbol.{name as #grant-at·grant-in}
 use Rattle.grant_at.proofs.grant_in.Met as grant-thm
-use Rattle.grant_parts.proofs.no_grant.Symbol as none-def
-use Rattle.grant_parts.proofs.no_grant.Symbol.{name as #grant-parts·no-grant}
-use Rattle.grant_parts.proofs.no_grant.Met as none-thm
+use Rattle.claims.proofs.grant_parts.no_grant.Symbol as none-def
+use Rattle.claims.proofs.grant_parts.no_grant.Symbol.{name as #grant-parts·no-grant}
+use Rattle.claims.proofs.grant_parts.no_grant.Met as none-thm
 use Rattle.grant_at.proofs.grant_at.Key.{name as #grant-at·grant-at}
 use Rattle.grant_at.proofs.grant_at as this′
 use Rattle.grant_at.proofs.grant_at.Statement as stated
@@ -114,4 +114,4 @@ grant-at-spec 𝓤 H 𝓜 𝓖 𝓡 =
     (tables 𝓤 H 𝓜 𝓡 code.env .C) (tables 𝓤 H 𝓜 𝓡 code.env .Λ) #grant-at·grant-at code.function (code.unfolded 𝓤 H 𝓜 𝓡)
     (this-meets 𝓤 H (𝓖 .A) (givenOf 𝓤 H 𝓜 𝓖) (𝓜 .mem) (𝓡 .run) (tablesOf 𝓤 H 𝓜 (tables 𝓤 H 𝓜 𝓡 code.env))
     (cited 𝓤 H (GrantIn 𝓤 H (𝓖 .A) (𝓜 .mem) (𝓡 .run)) 𝓜 𝓡 code.env #grant-at·grant-in grant-def.routine code.calls-grant-at·grant-in (grant-thm.met 𝓤 H 𝓜 𝓖 𝓡))
-    (cited 𝓤 H (NoGrant 𝓤 H (𝓖 .A) (𝓜 .mem) (𝓡 .run)) 𝓜 𝓡 code.env #grant-parts·no-grant none-def.routine code.calls-grant-parts·no-grant (none-thm.met 𝓤 H 𝓜 𝓖 𝓡)))
+    (cited 𝓤 H (NoGrant 𝓤 H (𝓖 .A) (𝓜 .mem) (𝓡 .run)) 𝓜 𝓡 code.env #grant-parts·no-grant none-def.routine code.calls-claims·grant-parts·no-grant (none-thm.met 𝓤 H 𝓜 𝓖 𝓡)))

@@ -38,17 +38,17 @@ use Rattle.runs.proofs.Found.Laws as F′
 use Rattle.arena.specs.declared.Arena.{Arena}
 use Rattle.arena.specs.Claiming.{findRun, runCommitted, runFresh, takeRun, dirtyRun}
 use Rattle.arena.proofs.Arena as T
-use Rattle.arena_laws.proofs.Changes.{found-inside}
+use Rattle.lookup.proofs.Changes.{found-inside}
 use Rattle.layer.specs.World.{blank}
 use Rattle.layer.specs.Table.{isAt}
 use Rattle.layer.specs.Claiming.{asksCommit, grantArena}
 use Rattle.judge.specs.Heads.{headOf}
 use Rattle.judge.proofs.Head as D
 use Rattle.judge.proofs.Head.Laws as D′
-use Rattle.grant_parts.specs.declared.Grant.{Grant}
-use Rattle.grant_parts.specs.Reads.{startOf, grantOf}
-use Rattle.grant_parts.proofs.Grant as N
-use Rattle.grant_parts.proofs.Grant.Laws as N′
+use Rattle.claims.specs.declared.grant_parts.Grant.{Grant}
+use Rattle.claims.specs.Reads.{startOf, grantOf}
+use Rattle.claims.proofs.grant_parts.Grant as N
+use Rattle.claims.proofs.grant_parts.Grant.Laws as N′
 use Rattle.records.proofs.Walk.{Loan, Known, lent, sliceOf}
 use Rattle.records.proofs.Locals.{enters, used}
 use Rattle.records.proofs.Calls.{in-seq}
@@ -61,27 +61,27 @@ use Rattle.table.proofs.head_or.Met as head-thm
 use Rattle.judge.proofs.chunks_of.Symbol as chunks-def
 use Rattle.judge.proofs.chunks_of.Symbol.{name as #judge·chunks-of}
 use Rattle.judge.proofs.chunks_of.Met as chunks-thm
-use Rattle.maps.proofs.run_at.Symbol as run-def
-use Rattle.maps.proofs.run_at.Symbol.{name as #maps·run-at}
-use Rattle.maps.proofs.run_at.Met as run-thm
-use Rattle.grant_parts.proofs.start_of.Symbol as start-def
-use Rattle.grant_parts.proofs.start_of.Symbol.{name as #grant-parts·start-of}
-use Rattle.grant_parts.proofs.start_of.Met as start-thm
-use Rattle.run_maps.proofs.committed_at.Symbol as committed-def
-use Rattle.run_maps.proofs.committed_at.Symbol.{name as #run-maps·committed-at}
-use Rattle.run_maps.proofs.committed_at.Met as committed-thm
-use Rattle.run_maps.proofs.fresh_at.Symbol as fresh-def
-use Rattle.run_maps.proofs.fresh_at.Symbol.{name as #run-maps·fresh-at}
-use Rattle.run_maps.proofs.fresh_at.Met as fresh-thm
-use Rattle.grant_parts.proofs.asks_commit.Symbol as asks-def
-use Rattle.grant_parts.proofs.asks_commit.Symbol.{name as #grant-parts·asks-commit}
-use Rattle.grant_parts.proofs.asks_commit.Met as asks-thm
+use Rattle.records.proofs.maps.run_at.Symbol as run-def
+use Rattle.records.proofs.maps.run_at.Symbol.{name as #maps·run-at}
+use Rattle.records.proofs.maps.run_at.Met as run-thm
+use Rattle.claims.proofs.grant_parts.start_of.Symbol as start-def
+use Rattle.claims.proofs.grant_parts.start_of.Symbol.{name as #grant-parts·start-of}
+use Rattle.claims.proofs.grant_parts.start_of.Met as start-thm
+use Rattle.records.proofs.run_maps.committed_at.Symbol as committed-def
+use Rattle.records.proofs.run_maps.committed_at.Symbol.{name as #run-maps·committed-at}
+use Rattle.records.proofs.run_maps.committed_at.Met as committed-thm
+use Rattle.records.proofs.run_maps.fresh_at.Symbol as fresh-def
+use Rattle.records.proofs.run_maps.fresh_at.Symbol.{name as #run-maps·fresh-at}
+use Rattle.records.proofs.run_maps.fresh_at.Met as fresh-thm
+use Rattle.claims.proofs.grant_parts.asks_commit.Symbol as asks-def
+use Rattle.claims.proofs.grant_parts.asks_commit.Symbol.{name as #grant-parts·asks-commit}
+use Rattle.claims.proofs.grant_parts.asks_commit.Met as asks-thm
 use Rattle.grant_at.proofs.take_in.Symbol as take-def
 use Rattle.grant_at.proofs.take_in.Symbol.{name as #grant-at·take-in}
 use Rattle.grant_at.proofs.take_in.Met as take-thm
-use Rattle.grant_parts.proofs.grant_of.Symbol as grant-def
-use Rattle.grant_parts.proofs.grant_of.Symbol.{name as #grant-parts·grant-of}
-use Rattle.grant_parts.proofs.grant_of.Met as grant-thm
+use Rattle.claims.proofs.grant_parts.grant_of.Symbol as grant-def
+use Rattle.claims.proofs.grant_parts.grant_of.Symbol.{name as #grant-parts·grant-of}
+use Rattle.claims.proofs.grant_parts.grant_of.Met as grant-thm
 use Rattle.grant_at.proofs.grant_in.Key.{name as #grant-at·grant-in}
 use Rattle.grant_at.proofs.grant_in as this′
 use Rattle.grant_at.proofs.grant_in.Statement as stated
@@ -182,10 +182,10 @@ grant-in-spec 𝓤 H 𝓜 𝓖 𝓡 =
     (this-meets 𝓤 H (𝓖 .A) (givenOf 𝓤 H 𝓜 𝓖) (𝓜 .mem) (𝓡 .run) (tablesOf 𝓤 H 𝓜 (tables 𝓤 H 𝓜 𝓡 code.env))
     (cited 𝓤 H (HeadOr 𝓤 H (𝓖 .A) (𝓜 .mem) (𝓡 .run)) 𝓜 𝓡 code.env #table·head-or head-def.routine code.calls-table·head-or (head-thm.met 𝓤 H 𝓜 𝓖 𝓡))
     (cited 𝓤 H (Chunks 𝓤 H (𝓖 .A) (𝓜 .mem) (𝓡 .run)) 𝓜 𝓡 code.env #judge·chunks-of chunks-def.routine code.calls-judge·chunks-of (chunks-thm.met 𝓤 H 𝓜 𝓖 𝓡))
-    (cited 𝓤 H (RunAt 𝓤 H (𝓖 .A) (𝓜 .mem) (𝓡 .run)) 𝓜 𝓡 code.env #maps·run-at run-def.routine code.calls-maps·run-at (run-thm.met 𝓤 H 𝓜 𝓖 𝓡))
-    (cited 𝓤 H (Start 𝓤 H (𝓖 .A) (𝓜 .mem) (𝓡 .run)) 𝓜 𝓡 code.env #grant-parts·start-of start-def.routine code.calls-grant-parts·start-of (start-thm.met 𝓤 H 𝓜 𝓖 𝓡))
-    (cited 𝓤 H (CommittedAt 𝓤 H (𝓖 .A) (𝓜 .mem) (𝓡 .run)) 𝓜 𝓡 code.env #run-maps·committed-at committed-def.routine code.calls-run-maps·committed-at (committed-thm.met 𝓤 H 𝓜 𝓖 𝓡))
-    (cited 𝓤 H (FreshAt 𝓤 H (𝓖 .A) (𝓜 .mem) (𝓡 .run)) 𝓜 𝓡 code.env #run-maps·fresh-at fresh-def.routine code.calls-run-maps·fresh-at (fresh-thm.met 𝓤 H 𝓜 𝓖 𝓡))
-    (cited 𝓤 H (Asks 𝓤 H (𝓖 .A) (𝓜 .mem) (𝓡 .run)) 𝓜 𝓡 code.env #grant-parts·asks-commit asks-def.routine code.calls-grant-parts·asks-commit (asks-thm.met 𝓤 H 𝓜 𝓖 𝓡))
+    (cited 𝓤 H (RunAt 𝓤 H (𝓖 .A) (𝓜 .mem) (𝓡 .run)) 𝓜 𝓡 code.env #maps·run-at run-def.routine code.calls-records·maps·run-at (run-thm.met 𝓤 H 𝓜 𝓖 𝓡))
+    (cited 𝓤 H (Start 𝓤 H (𝓖 .A) (𝓜 .mem) (𝓡 .run)) 𝓜 𝓡 code.env #grant-parts·start-of start-def.routine code.calls-claims·grant-parts·start-of (start-thm.met 𝓤 H 𝓜 𝓖 𝓡))
+    (cited 𝓤 H (CommittedAt 𝓤 H (𝓖 .A) (𝓜 .mem) (𝓡 .run)) 𝓜 𝓡 code.env #run-maps·committed-at committed-def.routine code.calls-records·run-maps·committed-at (committed-thm.met 𝓤 H 𝓜 𝓖 𝓡))
+    (cited 𝓤 H (FreshAt 𝓤 H (𝓖 .A) (𝓜 .mem) (𝓡 .run)) 𝓜 𝓡 code.env #run-maps·fresh-at fresh-def.routine code.calls-records·run-maps·fresh-at (fresh-thm.met 𝓤 H 𝓜 𝓖 𝓡))
+    (cited 𝓤 H (Asks 𝓤 H (𝓖 .A) (𝓜 .mem) (𝓡 .run)) 𝓜 𝓡 code.env #grant-parts·asks-commit asks-def.routine code.calls-claims·grant-parts·asks-commit (asks-thm.met 𝓤 H 𝓜 𝓖 𝓡))
     (cited 𝓤 H (TakeIn 𝓤 H (𝓖 .A) (𝓜 .mem) (𝓡 .run)) 𝓜 𝓡 code.env #grant-at·take-in take-def.routine code.calls-grant-at·take-in (take-thm.met 𝓤 H 𝓜 𝓖 𝓡))
-    (cited 𝓤 H (GrantOf 𝓤 H (𝓖 .A) (𝓜 .mem) (𝓡 .run)) 𝓜 𝓡 code.env #grant-parts·grant-of grant-def.routine code.calls-grant-parts·grant-of (grant-thm.met 𝓤 H 𝓜 𝓖 𝓡)))
+    (cited 𝓤 H (GrantOf 𝓤 H (𝓖 .A) (𝓜 .mem) (𝓡 .run)) 𝓜 𝓡 code.env #grant-parts·grant-of grant-def.routine code.calls-claims·grant-parts·grant-of (grant-thm.met 𝓤 H 𝓜 𝓖 𝓡)))

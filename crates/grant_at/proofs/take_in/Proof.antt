@@ -39,12 +39,12 @@ use Rattle.records.proofs.Locals.{enters, used, room, if-else}
 use Rattle.records.proofs.Calls.{in-seq}
 use Rattle.records.proofs.Frame.{Done, finish, mut-meets}
 use Rattle.grant_at.proofs.Steps.{Take, Dirty, take-step, dirty-step}
-use Rattle.map_changes.proofs.take_at.Symbol as take-def
-use Rattle.map_changes.proofs.take_at.Symbol.{name as #map-changes·take-at}
-use Rattle.map_changes.proofs.take_at.Met as take-thm
-use Rattle.map_changes.proofs.dirty_at.Symbol as dirty-def
-use Rattle.map_changes.proofs.dirty_at.Symbol.{name as #map-changes·dirty-at}
-use Rattle.map_changes.proofs.dirty_at.Met as dirty-thm
+use Rattle.records.proofs.map_changes.take_at.Symbol as take-def
+use Rattle.records.proofs.map_changes.take_at.Symbol.{name as #map-changes·take-at}
+use Rattle.records.proofs.map_changes.take_at.Met as take-thm
+use Rattle.records.proofs.map_changes.dirty_at.Symbol as dirty-def
+use Rattle.records.proofs.map_changes.dirty_at.Symbol.{name as #map-changes·dirty-at}
+use Rattle.records.proofs.map_changes.dirty_at.Met as dirty-thm
 use Rattle.grant_at.proofs.take_in.Key.{name as #grant-at·take-in}
 use Rattle.grant_at.proofs.take_in as this′
 use Rattle.grant_at.proofs.take_in.Statement as stated
@@ -132,5 +132,5 @@ take-in-spec 𝓤 H 𝓜 𝓖 𝓡 =
     entered 𝓤 H (tripleOf 𝓤 H (𝓖 .A) this′.signature (this′.spec 𝓤 H (𝓖 .A) (𝓜 .mem) (𝓡 .run)))
     (tables 𝓤 H 𝓜 𝓡 code.env .C) (tables 𝓤 H 𝓜 𝓡 code.env .Λ) #grant-at·take-in code.function (code.unfolded 𝓤 H 𝓜 𝓡)
     (this-meets 𝓤 H (𝓖 .A) (givenOf 𝓤 H 𝓜 𝓖) (𝓜 .mem) (𝓡 .run) (tablesOf 𝓤 H 𝓜 (tables 𝓤 H 𝓜 𝓡 code.env))
-    (cited 𝓤 H (Take 𝓤 H (𝓖 .A) (𝓜 .mem) (𝓡 .run)) 𝓜 𝓡 code.env #map-changes·take-at take-def.routine code.calls-map-changes·take-at (take-thm.met 𝓤 H 𝓜 𝓖 𝓡))
-    (cited 𝓤 H (Dirty 𝓤 H (𝓖 .A) (𝓜 .mem) (𝓡 .run)) 𝓜 𝓡 code.env #map-changes·dirty-at dirty-def.routine code.calls-map-changes·dirty-at (dirty-thm.met 𝓤 H 𝓜 𝓖 𝓡)))
+    (cited 𝓤 H (Take 𝓤 H (𝓖 .A) (𝓜 .mem) (𝓡 .run)) 𝓜 𝓡 code.env #map-changes·take-at take-def.routine code.calls-records·map-changes·take-at (take-thm.met 𝓤 H 𝓜 𝓖 𝓡))
+    (cited 𝓤 H (Dirty 𝓤 H (𝓖 .A) (𝓜 .mem) (𝓡 .run)) 𝓜 𝓡 code.env #map-changes·dirty-at dirty-def.routine code.calls-records·map-changes·dirty-at (dirty-thm.met 𝓤 H 𝓜 𝓖 𝓡)))

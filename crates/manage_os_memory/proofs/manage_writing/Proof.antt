@@ -46,9 +46,9 @@ use Rattle.judge.proofs.Query as Q
 use Rattle.judge.proofs.Query.Laws as Q′
 use Rattle.registers.proofs.Registering as D
 use Rattle.registers.proofs.Registering.Laws as D′
-use Rattle.writing.specs.declared.Writing.{Writing}
-use Rattle.writing.proofs.Writing as X
-use Rattle.writing.proofs.Writing.Laws as X′
+use Rattle.entry.specs.declared.writing.Writing.{Writing}
+use Rattle.entry.proofs.writing.Writing as X
+use Rattle.entry.proofs.writing.Writing.Laws as X′
 use Rattle.records.proofs.Walk.{Loan, Known, shared, sliceOf}
 use Rattle.records.proofs.Locals.{enters, used}
 use Rattle.records.proofs.Calls.{in-seq}
@@ -60,24 +60,24 @@ use Rattle.manage_os_memory.proofs.Steps.{ManageCount, ManageCore, Mana
 use Rattle.judge.specs.Scan.{scanOf}
 use native.Mathlib.Omega.{arith}
 use Rattle.judge.specs.declared.Query.the-variants.{Meets as Meeting}
-use Rattle.managing.specs.Core.{manageCount, manageBase, manageLength}
-use Rattle.writing.specs.Places.{writingOf}
+use Rattle.registering.specs.Managing.{manageCount, manageBase, manageLength}
+use Rattle.entry.specs.Places.{writingOf}
 use Rattle.manage_os_memory.specs.Writes.{ManageWrites}
 use Rattle.table.proofs.row_one.Symbol as row-def
 use Rattle.table.proofs.row_one.Symbol.{name as #table·row-one}
 use Rattle.table.proofs.row_one.Met as row-thm
-use Rattle.managing.proofs.manage_count.Symbol as manage-count-def
-use Rattle.managing.proofs.manage_count.Symbol.{name as #managing·manage-count}
-use Rattle.managing.proofs.manage_count.Met as manage-count-thm
+use Rattle.registering.proofs.managing.manage_count.Symbol as manage-count-def
+use Rattle.registering.proofs.managing.manage_count.Symbol.{name as #managing·manage-count}
+use Rattle.registering.proofs.managing.manage_count.Met as manage-count-thm
 use Rattle.manage_os_memory.proofs.manage_query.Symbol as manage-query-def
 use Rattle.manage_os_memory.proofs.manage_query.Symbol.{name as #manage-os-memory·manage-query}
 use Rattle.manage_os_memory.proofs.manage_query.Met as manage-query-thm
 use Rattle.table.proofs.scan.Symbol as scan-def
 use Rattle.table.proofs.scan.Symbol.{name as #table·scan}
 use Rattle.table.proofs.scan.Met as scan-thm
-use Rattle.managing.proofs.manage_core.Symbol as manage-core-def
-use Rattle.managing.proofs.manage_core.Symbol.{name as #managing·manage-core}
-use Rattle.managing.proofs.manage_core.Met as manage-core-thm
+use Rattle.registering.proofs.managing.manage_core.Symbol as manage-core-def
+use Rattle.registering.proofs.managing.manage_core.Symbol.{name as #managing·manage-core}
+use Rattle.registering.proofs.managing.manage_core.Met as manage-core-thm
 use Rattle.manage_os_memory.proofs.managed.Symbol as managed-def
 use Rattle.manage_os_memory.proofs.managed.Symbol.{name as #manage-os-memory·managed}
 use Rattle.manage_os_memory.proofs.managed.Met as managed-thm
@@ -150,8 +150,8 @@ manage-writing-spec 𝓤 H 𝓜 𝓖 𝓡 =
     (tables 𝓤 H 𝓜 𝓡 code.env .C) (tables 𝓤 H 𝓜 𝓡 code.env .Λ) #manage-os-memory·manage-writing code.function (code.unfolded 𝓤 H 𝓜 𝓡)
     (manage-writing-meets 𝓤 H (𝓖 .A) (givenOf 𝓤 H 𝓜 𝓖) (𝓜 .mem) (𝓡 .run) (tablesOf 𝓤 H 𝓜 (tables 𝓤 H 𝓜 𝓡 code.env))
     (cited 𝓤 H (Row 𝓤 H (𝓖 .A) (𝓜 .mem) (𝓡 .run)) 𝓜 𝓡 code.env #table·row-one row-def.routine code.calls-table·row-one (row-thm.met 𝓤 H 𝓜 𝓖 𝓡))
-    (cited 𝓤 H (ManageCount 𝓤 H (𝓖 .A) (𝓜 .mem) (𝓡 .run)) 𝓜 𝓡 code.env #managing·manage-count manage-count-def.routine code.calls-managing·manage-count (manage-count-thm.met 𝓤 H 𝓜 𝓖 𝓡))
+    (cited 𝓤 H (ManageCount 𝓤 H (𝓖 .A) (𝓜 .mem) (𝓡 .run)) 𝓜 𝓡 code.env #managing·manage-count manage-count-def.routine code.calls-registering·managing·manage-count (manage-count-thm.met 𝓤 H 𝓜 𝓖 𝓡))
     (cited 𝓤 H (ManageQuery 𝓤 H (𝓖 .A) (𝓜 .mem) (𝓡 .run)) 𝓜 𝓡 code.env #manage-os-memory·manage-query manage-query-def.routine code.calls-manage-os-memory·manage-query (manage-query-thm.met 𝓤 H 𝓜 𝓖 𝓡))
     (cited 𝓤 H (Scan 𝓤 H (𝓖 .A) (𝓜 .mem) (𝓡 .run)) 𝓜 𝓡 code.env #table·scan scan-def.routine code.calls-table·scan (scan-thm.met 𝓤 H 𝓜 𝓖 𝓡))
-    (cited 𝓤 H (ManageCore 𝓤 H (𝓖 .A) (𝓜 .mem) (𝓡 .run)) 𝓜 𝓡 code.env #managing·manage-core manage-core-def.routine code.calls-managing·manage-core (manage-core-thm.met 𝓤 H 𝓜 𝓖 𝓡))
+    (cited 𝓤 H (ManageCore 𝓤 H (𝓖 .A) (𝓜 .mem) (𝓡 .run)) 𝓜 𝓡 code.env #managing·manage-core manage-core-def.routine code.calls-registering·managing·manage-core (manage-core-thm.met 𝓤 H 𝓜 𝓖 𝓡))
     (cited 𝓤 H (Managed 𝓤 H (𝓖 .A) (𝓜 .mem) (𝓡 .run)) 𝓜 𝓡 code.env #manage-os-memory·managed managed-def.routine code.calls-manage-os-memory·managed (managed-thm.met 𝓤 H 𝓜 𝓖 𝓡)))

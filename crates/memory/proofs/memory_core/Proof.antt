@@ -1,5 +1,5 @@
 -- `memory::memory_core` meets its contract. Assumes nothing.
-use Rattle.memory_given.proofs.DecisionLaws.{registers-few}
+use Rattle.memory.proofs.given.DecisionLaws.{registers-few}
 use borrow.Author.Needs.{needs}
 use Rattle.memory.proofs.memory_core.Statement.{statement}
 use Rattle.memory.proofs.memory_core.Tie as tie

@@ -5,7 +5,7 @@ use native.Mathlib.Omega.{arith}
 use Prim.Native.Nat.{ℕ}
 use Rattle.words.proofs.Tests.{when, unless}
 use Rattle.memory.specs.Core.{waitingCount, searchCount}
-use Rattle.memory_given.proofs.DecisionLaws.{registers-room}
+use Rattle.memory.proofs.given.DecisionLaws.{registers-room}
 use borrow.Author.Needs.{needs}
 use Rattle.memory.proofs.search_count.Statement.{statement}
 use Rattle.memory.proofs.search_count.Tie as tie

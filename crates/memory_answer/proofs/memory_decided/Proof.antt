@@ -43,7 +43,7 @@ use Rattle.judge.specs.declared.Query.the-variants.{Meets as Meeting}
 use Rattle.judge.proofs.Query as Q
 use Rattle.judge.proofs.Query.Laws as Q′
 use Rattle.memory.specs.declared.Memory.{Memory as Made}
-use Rattle.memory_given.specs.Given.{memoryBytes}
+use Rattle.memory.specs.Given.{memoryBytes}
 use Rattle.memory.proofs.Memory as X
 use Rattle.memory.proofs.Memory.Laws as X′
 use Rattle.memory_answer.specs.Part.{reservingOf, scanCount, metOf, Decides}

@@ -43,10 +43,10 @@ use Rattle.registers.specs.Core.{storedAt}
 use Rattle.registers.specs.Core.{stampsWith}
 use Rattle.memory.proofs.Memory as X
 use Rattle.memory.proofs.Memory.Laws as X′
-use Rattle.writing.proofs.Writing as Y
-use Rattle.writing.proofs.Writing.Laws as Y′
-use Rattle.writing.proofs.WriteSteps.{Write, write-step}
-use Rattle.memory_parts.specs.Parts.{writingOf}
+use Rattle.entry.proofs.writing.Writing as Y
+use Rattle.entry.proofs.writing.Writing.Laws as Y′
+use Rattle.entry.proofs.writing.WriteSteps.{Write, write-step}
+use Rattle.memory_answer.specs.Parts.{writingOf}
 use Rattle.memory_answer.specs.Part.{foundOf, againReply, againRecords, Reservable, memoryLeft}
 use Rattle.records.proofs.Walk.{Loan, Known, lent, sliceOf}
 use Rattle.records.proofs.Locals.{enters, used}
@@ -57,12 +57,12 @@ use Rattle.memory_answer.proofs.Steps.{MemoryDecided, AsWritten, Search
 use Rattle.memory_answer.proofs.memory_decided.Symbol as memory-decided-def
 use Rattle.memory_answer.proofs.memory_decided.Symbol.{name as #memory-answer·memory-decided}
 use Rattle.memory_answer.proofs.memory_decided.Met as memory-decided-thm
-use Rattle.memory_parts.proofs.as_written.Symbol as as-written-def
-use Rattle.memory_parts.proofs.as_written.Symbol.{name as #memory-parts·as-written}
-use Rattle.memory_parts.proofs.as_written.Met as as-written-thm
-use Rattle.writing.proofs.write.Symbol as write-def
-use Rattle.writing.proofs.write.Symbol.{name as #writing·write}
-use Rattle.writing.proofs.write.Met as write-thm
+use Rattle.memory_answer.proofs.parts.as_written.Symbol as as-written-def
+use Rattle.memory_answer.proofs.parts.as_written.Symbol.{name as #memory-parts·as-written}
+use Rattle.memory_answer.proofs.parts.as_written.Met as as-written-thm
+use Rattle.entry.proofs.writing.write.Symbol as write-def
+use Rattle.entry.proofs.writing.write.Symbol.{name as #writing·write}
+use Rattle.entry.proofs.writing.write.Met as write-thm
 use Rattle.memory_answer.proofs.search_again.Symbol as search-again-def
 use Rattle.memory_answer.proofs.search_again.Symbol.{name as #memory-answer·search-again}
 use Rattle.memory_answer.proofs.search_again.Met as search-again-thm
@@ -138,6 +138,6 @@ memory-part-spec 𝓤 H 𝓜 𝓖 𝓡 =
     (tables 𝓤 H 𝓜 𝓡 code.env .C) (tables 𝓤 H 𝓜 𝓡 code.env .Λ) #memory-answer·memory-part code.function (code.unfolded 𝓤 H 𝓜 𝓡)
     (memory-part-meets 𝓤 H (𝓖 .A) (givenOf 𝓤 H 𝓜 𝓖) (𝓜 .mem) (𝓡 .run) (tablesOf 𝓤 H 𝓜 (tables 𝓤 H 𝓜 𝓡 code.env))
     (cited 𝓤 H (MemoryDecided 𝓤 H (𝓖 .A) (𝓜 .mem) (𝓡 .run)) 𝓜 𝓡 code.env #memory-answer·memory-decided memory-decided-def.routine code.calls-memory-answer·memory-decided (memory-decided-thm.met 𝓤 H 𝓜 𝓖 𝓡))
-    (cited 𝓤 H (AsWritten 𝓤 H (𝓖 .A) (𝓜 .mem) (𝓡 .run)) 𝓜 𝓡 code.env #memory-parts·as-written as-written-def.routine code.calls-memory-parts·as-written (as-written-thm.met 𝓤 H 𝓜 𝓖 𝓡))
-    (cited 𝓤 H (Write 𝓤 H (𝓖 .A) (𝓜 .mem) (𝓡 .run)) 𝓜 𝓡 code.env #writing·write write-def.routine code.calls-writing·write (write-thm.met 𝓤 H 𝓜 𝓖 𝓡))
+    (cited 𝓤 H (AsWritten 𝓤 H (𝓖 .A) (𝓜 .mem) (𝓡 .run)) 𝓜 𝓡 code.env #memory-parts·as-written as-written-def.routine code.calls-memory-answer·parts·as-written (as-written-thm.met 𝓤 H 𝓜 𝓖 𝓡))
+    (cited 𝓤 H (Write 𝓤 H (𝓖 .A) (𝓜 .mem) (𝓡 .run)) 𝓜 𝓡 code.env #writing·write write-def.routine code.calls-entry·writing·write (write-thm.met 𝓤 H 𝓜 𝓖 𝓡))
     (cited 𝓤 H (SearchAgain 𝓤 H (𝓖 .A) (𝓜 .mem) (𝓡 .run)) 𝓜 𝓡 code.env #memory-answer·search-again search-again-def.routine code.calls-memory-answer·search-again (search-again-thm.met 𝓤 H 𝓜 𝓖 𝓡)))

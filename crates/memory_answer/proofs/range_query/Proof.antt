@@ -2,7 +2,7 @@
 use mathlib.Core.Path.{ap, _∙_}
 use Prim.Native.Nat.{ℕ}
 use Rattle.judge.specs.declared.Query.the-variants.{Meets}
-use Rattle.memory_given.specs.Given.{memoryBytes}
+use Rattle.memory.specs.Given.{memoryBytes}
 use Rattle.memory_answer.specs.declared.Reserved.{Reserved}
 use borrow.Author.Needs.{needs}
 use Rattle.memory_answer.proofs.range_query.Statement.{statement}

@@ -47,8 +47,8 @@ use Rattle.layer.proofs.Reply.Laws as P′
 use Rattle.judge.specs.declared.Query.the-variants.{Serves}
 use Rattle.judge.proofs.Query as Q
 use Rattle.judge.proofs.Query.Laws as Q′
-use Rattle.granting.proofs.Served as D
-use Rattle.granting.proofs.Served.Laws as D′
+use Rattle.claims.proofs.granting.Served as D
+use Rattle.claims.proofs.granting.Served.Laws as D′
 use Rattle.registers.specs.Core.{storedAt}
 use Rattle.memory.specs.declared.Memory.{Memory as Made}
 use Rattle.memory.proofs.Memory as X
@@ -63,12 +63,12 @@ use Rattle.table.proofs.Steps.{Scan, scan-step}
 use Rattle.entry.proofs.EntrySteps.{Stored, stored-step}
 use Rattle.memory_answer.proofs.PartLaws.{again-found}
 use Rattle.memory_answer.proofs.Steps.{AgainQuery, SearchOf, RecordOf, ReplyOf, Ended, again-query-step, search-of-step, record-of-step, reply-of-step, ended-step}
-use Rattle.memory_parts.proofs.search_of.Symbol as search-of-def
-use Rattle.memory_parts.proofs.search_of.Symbol.{name as #memory-parts·search-of}
-use Rattle.memory_parts.proofs.search_of.Met as search-of-thm
-use Rattle.memory_parts.proofs.again_query.Symbol as again-query-def
-use Rattle.memory_parts.proofs.again_query.Symbol.{name as #memory-parts·again-query}
-use Rattle.memory_parts.proofs.again_query.Met as again-query-thm
+use Rattle.memory_answer.proofs.parts.search_of.Symbol as search-of-def
+use Rattle.memory_answer.proofs.parts.search_of.Symbol.{name as #memory-parts·search-of}
+use Rattle.memory_answer.proofs.parts.search_of.Met as search-of-thm
+use Rattle.memory_answer.proofs.parts.again_query.Symbol as again-query-def
+use Rattle.memory_answer.proofs.parts.again_query.Symbol.{name as #memory-parts·again-query}
+use Rattle.memory_answer.proofs.parts.again_query.Met as again-query-thm
 use Rattle.table.proofs.scan.Symbol as scan-def
 use Rattle.table.proofs.scan.Symbol.{name as #table·scan}
 use Rattle.table.proofs.scan.Met as scan-thm
@@ -177,8 +177,8 @@ search-again-spec 𝓤 H 𝓜 𝓖 𝓡 =
     entered 𝓤 H (tripleOf 𝓤 H (𝓖 .A) search-again′.signature (search-again′.spec 𝓤 H (𝓖 .A) (𝓜 .mem) (𝓡 .run)))
     (tables 𝓤 H 𝓜 𝓡 code.env .C) (tables 𝓤 H 𝓜 𝓡 code.env .Λ) #memory-answer·search-again code.function (code.unfolded 𝓤 H 𝓜 𝓡)
     (search-again-meets 𝓤 H (𝓖 .A) (givenOf 𝓤 H 𝓜 𝓖) (𝓜 .mem) (𝓡 .run) (tablesOf 𝓤 H 𝓜 (tables 𝓤 H 𝓜 𝓡 code.env))
-    (cited 𝓤 H (SearchOf 𝓤 H (𝓖 .A) (𝓜 .mem) (𝓡 .run)) 𝓜 𝓡 code.env #memory-parts·search-of search-of-def.routine code.calls-memory-parts·search-of (search-of-thm.met 𝓤 H 𝓜 𝓖 𝓡))
-    (cited 𝓤 H (AgainQuery 𝓤 H (𝓖 .A) (𝓜 .mem) (𝓡 .run)) 𝓜 𝓡 code.env #memory-parts·again-query again-query-def.routine code.calls-memory-parts·again-query (again-query-thm.met 𝓤 H 𝓜 𝓖 𝓡))
+    (cited 𝓤 H (SearchOf 𝓤 H (𝓖 .A) (𝓜 .mem) (𝓡 .run)) 𝓜 𝓡 code.env #memory-parts·search-of search-of-def.routine code.calls-memory-answer·parts·search-of (search-of-thm.met 𝓤 H 𝓜 𝓖 𝓡))
+    (cited 𝓤 H (AgainQuery 𝓤 H (𝓖 .A) (𝓜 .mem) (𝓡 .run)) 𝓜 𝓡 code.env #memory-parts·again-query again-query-def.routine code.calls-memory-answer·parts·again-query (again-query-thm.met 𝓤 H 𝓜 𝓖 𝓡))
     (cited 𝓤 H (Scan 𝓤 H (𝓖 .A) (𝓜 .mem) (𝓡 .run)) 𝓜 𝓡 code.env #table·scan scan-def.routine code.calls-table·scan (scan-thm.met 𝓤 H 𝓜 𝓖 𝓡))
     (cited 𝓤 H (Stored 𝓤 H (𝓖 .A) (𝓜 .mem) (𝓡 .run)) 𝓜 𝓡 code.env #entry·stored-at stored-at-def.routine code.calls-entry·stored-at (stored-at-thm.met 𝓤 H 𝓜 𝓖 𝓡))
     (cited 𝓤 H (LoadOr 𝓤 H (𝓖 .A) (𝓜 .mem) (𝓡 .run)) 𝓜 𝓡 code.env #records·load-or load-or-def.routine code.calls-records·load-or (load-or-thm.met 𝓤 H 𝓜 𝓖 𝓡))

@@ -4,7 +4,7 @@ use mathlib.Core.Bool.{true≢false}
 use Prim.Native.Nat.{ℕ}
 use borrow.Author.Needs.{needs}
 use Rattle.layer.specs.declared.Sweep.{Sweep}
-use Rattle.open_purge.specs.Asked.{purgingId, purgingChunk, purgingSweep}
+use Rattle.questions.specs.Purges.{purgingId, purgingChunk, purgingSweep}
 use Rattle.purge_answer.specs.Part.{Fit, Stays}
 use Rattle.purge_answer.proofs.purge_at.Statement.{statement}
 use Rattle.purge_answer.proofs.purge_at.Tie as tie

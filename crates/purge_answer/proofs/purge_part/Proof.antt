@@ -68,27 +68,27 @@ use Rattle.sweeping.proofs.sweep_on.Symbol as on-def
 use Rattle.sweeping.proofs.sweep_on.Symbol.{name as #sweeping·sweep-on}
 use Rattle.sweeping.proofs.sweep_on.Met as on-thm
 use Rattle.purge_answer.specs.Part.{Purgeable, sweepFor, purgeLeft}
-use Rattle.purge_places.specs.Places.{placeOf, countOf}
+use Rattle.purge_answer.specs.Places.{placeOf, countOf}
 use Rattle.purge_answer.proofs.PartLaws.{rest, at-fits, purged-fits, near, few, long, stays-ranged, comes}
 use Rattle.purge_answer.proofs.Steps.{Places, Counts, Begins, Ats, Rests, Picks, place-step, count-step, for-step, at-step, rest-step, pick-step}
-use Rattle.purge_places.proofs.place_of.Symbol as place-def
-use Rattle.purge_places.proofs.place_of.Symbol.{name as #purge-places·place-of}
-use Rattle.purge_places.proofs.place_of.Met as place-thm
-use Rattle.purge_places.proofs.count_of.Symbol as count-def
-use Rattle.purge_places.proofs.count_of.Symbol.{name as #purge-places·count-of}
-use Rattle.purge_places.proofs.count_of.Met as count-thm
+use Rattle.purge_answer.proofs.places.place_of.Symbol as place-def
+use Rattle.purge_answer.proofs.places.place_of.Symbol.{name as #purge-places·place-of}
+use Rattle.purge_answer.proofs.places.place_of.Met as place-thm
+use Rattle.purge_answer.proofs.places.count_of.Symbol as count-def
+use Rattle.purge_answer.proofs.places.count_of.Symbol.{name as #purge-places·count-of}
+use Rattle.purge_answer.proofs.places.count_of.Met as count-thm
 use Rattle.purge_answer.proofs.sweep_for.Symbol as for-def
 use Rattle.purge_answer.proofs.sweep_for.Symbol.{name as #purge-answer·sweep-for}
 use Rattle.purge_answer.proofs.sweep_for.Met as for-thm
 use Rattle.purge_answer.proofs.purge_at.Symbol as at-def
 use Rattle.purge_answer.proofs.purge_at.Symbol.{name as #purge-answer·purge-at}
 use Rattle.purge_answer.proofs.purge_at.Met as at-thm
-use Rattle.purge_places.proofs.rest_from.Symbol as rest-def
-use Rattle.purge_places.proofs.rest_from.Symbol.{name as #purge-places·rest-from}
-use Rattle.purge_places.proofs.rest_from.Met as rest-thm
-use Rattle.purge_places.proofs.pick.Symbol as pick-def
-use Rattle.purge_places.proofs.pick.Symbol.{name as #purge-places·pick}
-use Rattle.purge_places.proofs.pick.Met as pick-thm
+use Rattle.purge_answer.proofs.places.rest_from.Symbol as rest-def
+use Rattle.purge_answer.proofs.places.rest_from.Symbol.{name as #purge-places·rest-from}
+use Rattle.purge_answer.proofs.places.rest_from.Met as rest-thm
+use Rattle.purge_answer.proofs.places.pick.Symbol as pick-def
+use Rattle.purge_answer.proofs.places.pick.Symbol.{name as #purge-places·pick}
+use Rattle.purge_answer.proofs.places.pick.Met as pick-thm
 use Rattle.purge_answer.proofs.purge_part.Key.{name as #purge-answer·purge-part}
 use Rattle.purge_answer.proofs.purge_part as part′
 use Rattle.purge_answer.proofs.purge_part.Statement as stated
@@ -183,9 +183,9 @@ purge-part-spec 𝓤 H 𝓜 𝓖 𝓡 =
     (cited 𝓤 H (LoadOr 𝓤 H (𝓖 .A) (𝓜 .mem) (𝓡 .run)) 𝓜 𝓡 code.env #records·load-or load-def.routine code.calls-records·load-or (load-thm.met 𝓤 H 𝓜 𝓖 𝓡))
     (cited 𝓤 H (StoreIf 𝓤 H (𝓖 .A) (𝓜 .mem) (𝓡 .run)) 𝓜 𝓡 code.env #records·store-if store-def.routine code.calls-records·store-if (store-thm.met 𝓤 H 𝓜 𝓖 𝓡))
     (cited 𝓤 H (On 𝓤 H (𝓖 .A) (𝓜 .mem) (𝓡 .run)) 𝓜 𝓡 code.env #sweeping·sweep-on on-def.routine code.calls-sweeping·sweep-on (on-thm.met 𝓤 H 𝓜 𝓖 𝓡))
-    (cited 𝓤 H (Places 𝓤 H (𝓖 .A) (𝓜 .mem) (𝓡 .run)) 𝓜 𝓡 code.env #purge-places·place-of place-def.routine code.calls-purge-places·place-of (place-thm.met 𝓤 H 𝓜 𝓖 𝓡))
-    (cited 𝓤 H (Counts 𝓤 H (𝓖 .A) (𝓜 .mem) (𝓡 .run)) 𝓜 𝓡 code.env #purge-places·count-of count-def.routine code.calls-purge-places·count-of (count-thm.met 𝓤 H 𝓜 𝓖 𝓡))
+    (cited 𝓤 H (Places 𝓤 H (𝓖 .A) (𝓜 .mem) (𝓡 .run)) 𝓜 𝓡 code.env #purge-places·place-of place-def.routine code.calls-purge-answer·places·place-of (place-thm.met 𝓤 H 𝓜 𝓖 𝓡))
+    (cited 𝓤 H (Counts 𝓤 H (𝓖 .A) (𝓜 .mem) (𝓡 .run)) 𝓜 𝓡 code.env #purge-places·count-of count-def.routine code.calls-purge-answer·places·count-of (count-thm.met 𝓤 H 𝓜 𝓖 𝓡))
     (cited 𝓤 H (Begins 𝓤 H (𝓖 .A) (𝓜 .mem) (𝓡 .run)) 𝓜 𝓡 code.env #purge-answer·sweep-for for-def.routine code.calls-purge-answer·sweep-for (for-thm.met 𝓤 H 𝓜 𝓖 𝓡))
     (cited 𝓤 H (Ats 𝓤 H (𝓖 .A) (𝓜 .mem) (𝓡 .run)) 𝓜 𝓡 code.env #purge-answer·purge-at at-def.routine code.calls-purge-answer·purge-at (at-thm.met 𝓤 H 𝓜 𝓖 𝓡))
-    (cited 𝓤 H (Rests 𝓤 H (𝓖 .A) (𝓜 .mem) (𝓡 .run)) 𝓜 𝓡 code.env #purge-places·rest-from rest-def.routine code.calls-purge-places·rest-from (rest-thm.met 𝓤 H 𝓜 𝓖 𝓡))
-    (cited 𝓤 H (Picks 𝓤 H (𝓖 .A) (𝓜 .mem) (𝓡 .run)) 𝓜 𝓡 code.env #purge-places·pick pick-def.routine code.calls-purge-places·pick (pick-thm.met 𝓤 H 𝓜 𝓖 𝓡)))
+    (cited 𝓤 H (Rests 𝓤 H (𝓖 .A) (𝓜 .mem) (𝓡 .run)) 𝓜 𝓡 code.env #purge-places·rest-from rest-def.routine code.calls-purge-answer·places·rest-from (rest-thm.met 𝓤 H 𝓜 𝓖 𝓡))
+    (cited 𝓤 H (Picks 𝓤 H (𝓖 .A) (𝓜 .mem) (𝓡 .run)) 𝓜 𝓡 code.env #purge-places·pick pick-def.routine code.calls-purge-answer·places·pick (pick-thm.met 𝓤 H 𝓜 𝓖 𝓡)))

@@ -60,7 +60,7 @@ use Rattle.table.proofs.Steps.{Row, row-step}
 use Rattle.table.proofs.row_one.Symbol as row-def
 use Rattle.table.proofs.row_one.Symbol.{name as #table·row-one}
 use Rattle.table.proofs.row_one.Met as row-thm
-use Rattle.sweep_start.specs.Start.{sweepCount}
+use Rattle.sweeps.specs.Start.{sweepCount}
 use Rattle.purge_due.proofs.CallLaws.{sweepable, swept, comes}
 use Rattle.records.proofs.Big.{big-lit}
 use Rattle.entry.proofs.EntrySteps.{Page, page-step}
@@ -73,12 +73,12 @@ use Rattle.entry.proofs.page_of.Met as page-thm
 use Rattle.sweeping.proofs.mark_of.Symbol as mark-def
 use Rattle.sweeping.proofs.mark_of.Symbol.{name as #sweeping·mark-of}
 use Rattle.sweeping.proofs.mark_of.Met as mark-thm
-use Rattle.sweep_start.proofs.sweep_count.Symbol as count-def
-use Rattle.sweep_start.proofs.sweep_count.Symbol.{name as #sweep-start·sweep-count}
-use Rattle.sweep_start.proofs.sweep_count.Met as count-thm
-use Rattle.sweep_start.proofs.sweep_of.Symbol as of-def
-use Rattle.sweep_start.proofs.sweep_of.Symbol.{name as #sweep-start·sweep-of}
-use Rattle.sweep_start.proofs.sweep_of.Met as of-thm
+use Rattle.sweeps.proofs.start.sweep_count.Symbol as count-def
+use Rattle.sweeps.proofs.start.sweep_count.Symbol.{name as #sweep-start·sweep-count}
+use Rattle.sweeps.proofs.start.sweep_count.Met as count-thm
+use Rattle.sweeps.proofs.start.sweep_of.Symbol as of-def
+use Rattle.sweeps.proofs.start.sweep_of.Symbol.{name as #sweep-start·sweep-of}
+use Rattle.sweeps.proofs.start.sweep_of.Met as of-thm
 use Rattle.sweeping.proofs.sweep_on.Symbol as on-def
 use Rattle.sweeping.proofs.sweep_on.Symbol.{name as #sweeping·sweep-on}
 use Rattle.sweeping.proofs.sweep_on.Met as on-thm
@@ -164,7 +164,7 @@ purge-due-spec 𝓤 H 𝓜 𝓖 𝓡 =
     (cited 𝓤 H (Page 𝓤 H (𝓖 .A) (𝓜 .mem) (𝓡 .run)) 𝓜 𝓡 code.env #entry·page-of page-def.routine code.calls-entry·page-of (page-thm.met 𝓤 H 𝓜 𝓖 𝓡))
     (cited 𝓤 H (Marks 𝓤 H (𝓖 .A) (𝓜 .mem) (𝓡 .run)) 𝓜 𝓡 code.env #sweeping·mark-of mark-def.routine code.calls-sweeping·mark-of (mark-thm.met 𝓤 H 𝓜 𝓖 𝓡))
     (cited 𝓤 H (Row 𝓤 H (𝓖 .A) (𝓜 .mem) (𝓡 .run)) 𝓜 𝓡 code.env #table·row-one row-def.routine code.calls-table·row-one (row-thm.met 𝓤 H 𝓜 𝓖 𝓡))
-    (cited 𝓤 H (Counts 𝓤 H (𝓖 .A) (𝓜 .mem) (𝓡 .run)) 𝓜 𝓡 code.env #sweep-start·sweep-count count-def.routine code.calls-sweep-start·sweep-count (count-thm.met 𝓤 H 𝓜 𝓖 𝓡))
-    (cited 𝓤 H (Begins 𝓤 H (𝓖 .A) (𝓜 .mem) (𝓡 .run)) 𝓜 𝓡 code.env #sweep-start·sweep-of of-def.routine code.calls-sweep-start·sweep-of (of-thm.met 𝓤 H 𝓜 𝓖 𝓡))
+    (cited 𝓤 H (Counts 𝓤 H (𝓖 .A) (𝓜 .mem) (𝓡 .run)) 𝓜 𝓡 code.env #sweep-start·sweep-count count-def.routine code.calls-sweeps·start·sweep-count (count-thm.met 𝓤 H 𝓜 𝓖 𝓡))
+    (cited 𝓤 H (Begins 𝓤 H (𝓖 .A) (𝓜 .mem) (𝓡 .run)) 𝓜 𝓡 code.env #sweep-start·sweep-of of-def.routine code.calls-sweeps·start·sweep-of (of-thm.met 𝓤 H 𝓜 𝓖 𝓡))
     (cited 𝓤 H (On 𝓤 H (𝓖 .A) (𝓜 .mem) (𝓡 .run)) 𝓜 𝓡 code.env #sweeping·sweep-on on-def.routine code.calls-sweeping·sweep-on (on-thm.met 𝓤 H 𝓜 𝓖 𝓡))
     (cited 𝓤 H (Gate 𝓤 H (𝓖 .A) (𝓜 .mem) (𝓡 .run)) 𝓜 𝓡 code.env #registers·gate gate-def.routine code.calls-registers·gate (gate-thm.met 𝓤 H 𝓜 𝓖 𝓡)))

@@ -29,9 +29,9 @@ use types.Kit.{Given, Sq, prop, ‵, _⊛_, _$_, ! }
 use types.Run.{look, init, stop, from, load, and-then, no-more, land, returns, params1, pass1, pass0, free0}
 use Rattle.layer.proofs.State as Z
 use Rattle.layer.proofs.State.Laws as Z′
-use Rattle.sample_lines.specs.declared.Line.{Line}
-use Rattle.sample_lines.proofs.Line as N
-use Rattle.sample_lines.proofs.Line.Laws as N′
+use Rattle.samples.specs.declared.lines.Line.{Line}
+use Rattle.samples.proofs.lines.Line as N
+use Rattle.samples.proofs.lines.Line.Laws as N′
 use Rattle.sample_session.specs.declared.Session.{Session}
 use Rattle.sample_session.proofs.Session as S
 use Rattle.sample_session.proofs.Session.Laws as S′

@@ -34,9 +34,9 @@ use types.Run.{look, init, store, forget, again, exec, Below, stop, from, load, 
 use denote.Plain.{uint-vals, uint-tells, uint-makes, uint-lawful}
 use Rattle.arena.proofs.Arena.Laws as T′
 use Rattle.layer.specs.World.{blank}
-use Rattle.sample_lines.specs.declared.Line.{Line}
-use Rattle.sample_lines.proofs.Line as N
-use Rattle.sample_lines.proofs.Line.Laws as N′
+use Rattle.samples.specs.declared.lines.Line.{Line}
+use Rattle.samples.proofs.lines.Line as N
+use Rattle.samples.proofs.lines.Line.Laws as N′
 use Rattle.records.proofs.Big.{big-lit}
 use Rattle.records.proofs.Walk.{Loan, lent}
 use Rattle.records.proofs.Locals.{Blocks, envOf, rooms, enters, used, room, tests, whiles}

@@ -31,9 +31,9 @@ use types.Run.{look, init, stop, hop, fld, from, load, addr, and-then, no-more, 
 use Rattle.layer.specs.declared.Reply.{Reply}
 use Rattle.layer.proofs.Reply as P
 use Rattle.layer.proofs.Reply.Laws as P′
-use Rattle.sample_lines.specs.declared.Line.{Line}
-use Rattle.sample_lines.proofs.Line as N
-use Rattle.sample_lines.proofs.Line.Laws as N′
+use Rattle.samples.specs.declared.lines.Line.{Line}
+use Rattle.samples.proofs.lines.Line as N
+use Rattle.samples.proofs.lines.Line.Laws as N′
 use Rattle.sample_session.proofs.Call as F
 use Rattle.sample_session.proofs.Call.Laws as F′
 use Rattle.sample_session.specs.declared.Session.{Session}

@@ -49,23 +49,23 @@ use Rattle.entry.proofs.EntrySteps.{Page, page-step}
 use Rattle.records.proofs.Frame.{Done2, finish2, mut2-meets}
 use Rattle.table.proofs.Steps.{Row, row-step}
 use Rattle.records.proofs.Big.{big-lit}
-use Rattle.register_laws.proofs.Around.{as-left}
-use Rattle.register_laws.proofs.ReserveStep.{reserve-step as reserve-law}
+use Rattle.registering.proofs.Around.{as-left}
+use Rattle.registering.proofs.ReserveStep.{reserve-step as reserve-law}
 use Rattle.layer.specs.Table.{soundLent}
 use Rattle.reserve_os_memory.proofs.Steps.{ReserveCore, reserve-core-step}
 use Rattle.layer.specs.World.{worldOf, Leaves}
 use Rattle.layer.specs.Step.{reserve, step}
 use native.Mathlib.Omega.{arith}
-use Rattle.reserving.specs.Core.{reserveAnswer}
+use Rattle.registering.specs.Reserving.{reserveAnswer}
 use Rattle.entry.proofs.page_of.Symbol as page-def
 use Rattle.entry.proofs.page_of.Symbol.{name as #entry·page-of}
 use Rattle.entry.proofs.page_of.Met as page-thm
 use Rattle.table.proofs.row_one.Symbol as row-def
 use Rattle.table.proofs.row_one.Symbol.{name as #table·row-one}
 use Rattle.table.proofs.row_one.Met as row-thm
-use Rattle.reserving.proofs.reserve_core.Symbol as reserve-core-def
-use Rattle.reserving.proofs.reserve_core.Symbol.{name as #reserving·reserve-core}
-use Rattle.reserving.proofs.reserve_core.Met as reserve-core-thm
+use Rattle.registering.proofs.reserving.reserve_core.Symbol as reserve-core-def
+use Rattle.registering.proofs.reserving.reserve_core.Symbol.{name as #reserving·reserve-core}
+use Rattle.registering.proofs.reserving.reserve_core.Met as reserve-core-thm
 use Rattle.reserve_os_memory.proofs.reserve_os_memory_ex.Key.{name as #reserve-os-memory·reserve-os-memory-ex}
 use Rattle.reserve_os_memory.proofs.reserve_os_memory_ex as reserve-os-memory-ex′
 use Rattle.reserve_os_memory.proofs.reserve_os_memory_ex.Statement as stated
@@ -127,4 +127,4 @@ reserve-os-memory-ex-spec 𝓤 H 𝓜 𝓖 𝓡 =
     (reserve-os-memory-ex-meets 𝓤 H (𝓖 .A) (givenOf 𝓤 H 𝓜 𝓖) (𝓜 .mem) (𝓡 .run) (tablesOf 𝓤 H 𝓜 (tables 𝓤 H 𝓜 𝓡 code.env))
     (cited 𝓤 H (Page 𝓤 H (𝓖 .A) (𝓜 .mem) (𝓡 .run)) 𝓜 𝓡 code.env #entry·page-of page-def.routine code.calls-entry·page-of (page-thm.met 𝓤 H 𝓜 𝓖 𝓡))
     (cited 𝓤 H (Row 𝓤 H (𝓖 .A) (𝓜 .mem) (𝓡 .run)) 𝓜 𝓡 code.env #table·row-one row-def.routine code.calls-table·row-one (row-thm.met 𝓤 H 𝓜 𝓖 𝓡))
-    (cited 𝓤 H (ReserveCore 𝓤 H (𝓖 .A) (𝓜 .mem) (𝓡 .run)) 𝓜 𝓡 code.env #reserving·reserve-core reserve-core-def.routine code.calls-reserving·reserve-core (reserve-core-thm.met 𝓤 H 𝓜 𝓖 𝓡)))
+    (cited 𝓤 H (ReserveCore 𝓤 H (𝓖 .A) (𝓜 .mem) (𝓡 .run)) 𝓜 𝓡 code.env #reserving·reserve-core reserve-core-def.routine code.calls-registering·reserving·reserve-core (reserve-core-thm.met 𝓤 H 𝓜 𝓖 𝓡)))

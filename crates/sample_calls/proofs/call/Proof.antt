@@ -58,21 +58,21 @@ use Rattle.sample_calls.specs.Calls.{callOf}
 use Rattle.sample_made.proofs.Made as X
 use Rattle.sample_made.proofs.Made.Laws as X′
 use Rattle.sample_made.proofs.Choices.{taken, passed}
-use Rattle.sample_asks.proofs.AskLaws.{asking-leaves}
+use Rattle.sample_calls.proofs.asks.AskLaws.{asking-leaves}
 use Rattle.sample_calls.proofs.Shares.{shrLoan, shares-both, unshares-both}
 use Rattle.sample_calls.proofs.Steps.{Registers, Claims, Changes, Asks, registers-step, claims-step, changes-step, asks-step}
-use Rattle.sample_registers.proofs.registers.Symbol as registers-def
-use Rattle.sample_registers.proofs.registers.Symbol.{name as #sample-registers·registers}
-use Rattle.sample_registers.proofs.registers.Met as registers-thm
-use Rattle.sample_claims.proofs.claims.Symbol as claims-def
-use Rattle.sample_claims.proofs.claims.Symbol.{name as #sample-claims·claims}
-use Rattle.sample_claims.proofs.claims.Met as claims-thm
-use Rattle.sample_changes.proofs.changes.Symbol as changes-def
-use Rattle.sample_changes.proofs.changes.Symbol.{name as #sample-changes·changes}
-use Rattle.sample_changes.proofs.changes.Met as changes-thm
-use Rattle.sample_asks.proofs.asks.Symbol as asks-def
-use Rattle.sample_asks.proofs.asks.Symbol.{name as #sample-asks·asks}
-use Rattle.sample_asks.proofs.asks.Met as asks-thm
+use Rattle.sample_calls.proofs.registers.registers.Symbol as registers-def
+use Rattle.sample_calls.proofs.registers.registers.Symbol.{name as #sample-registers·registers}
+use Rattle.sample_calls.proofs.registers.registers.Met as registers-thm
+use Rattle.sample_calls.proofs.claims.claims.Symbol as claims-def
+use Rattle.sample_calls.proofs.claims.claims.Symbol.{name as #sample-claims·claims}
+use Rattle.sample_calls.proofs.claims.claims.Met as claims-thm
+use Rattle.sample_calls.proofs.changes.changes.Symbol as changes-def
+use Rattle.sample_calls.proofs.changes.changes.Symbol.{name as #sample-changes·changes}
+use Rattle.sample_calls.proofs.changes.changes.Met as changes-thm
+use Rattle.sample_calls.proofs.asks.asks.Symbol as asks-def
+use Rattle.sample_calls.proofs.asks.asks.Symbol.{name as #sample-asks·asks}
+use Rattle.sample_calls.proofs.asks.asks.Met as asks-thm
 use Rattle.sample_calls.proofs.call.Key.{name as #sample-calls·call}
 use Rattle.sample_calls.proofs.call as call′
 use Rattle.sample_calls.proofs.call.Statement as stated
@@ -178,7 +178,7 @@ call-spec 𝓤 H 𝓜 𝓖 𝓡 =
     entered 𝓤 H (tripleOf 𝓤 H (𝓖 .A) call′.signature (call′.spec 𝓤 H (𝓖 .A) (𝓜 .mem) (𝓡 .run)))
     (tables 𝓤 H 𝓜 𝓡 code.env .C) (tables 𝓤 H 𝓜 𝓡 code.env .Λ) #sample-calls·call code.function (code.unfolded 𝓤 H 𝓜 𝓡)
     (call-meets 𝓤 H (𝓖 .A) (givenOf 𝓤 H 𝓜 𝓖) (𝓜 .mem) (𝓡 .run) (tablesOf 𝓤 H 𝓜 (tables 𝓤 H 𝓜 𝓡 code.env))
-    (cited 𝓤 H (Registers 𝓤 H (𝓖 .A) (𝓜 .mem) (𝓡 .run)) 𝓜 𝓡 code.env #sample-registers·registers registers-def.routine code.calls-sample-registers·registers (registers-thm.met 𝓤 H 𝓜 𝓖 𝓡))
-    (cited 𝓤 H (Claims 𝓤 H (𝓖 .A) (𝓜 .mem) (𝓡 .run)) 𝓜 𝓡 code.env #sample-claims·claims claims-def.routine code.calls-sample-claims·claims (claims-thm.met 𝓤 H 𝓜 𝓖 𝓡))
-    (cited 𝓤 H (Changes 𝓤 H (𝓖 .A) (𝓜 .mem) (𝓡 .run)) 𝓜 𝓡 code.env #sample-changes·changes changes-def.routine code.calls-sample-changes·changes (changes-thm.met 𝓤 H 𝓜 𝓖 𝓡))
-    (cited 𝓤 H (Asks 𝓤 H (𝓖 .A) (𝓜 .mem) (𝓡 .run)) 𝓜 𝓡 code.env #sample-asks·asks asks-def.routine code.calls-sample-asks·asks (asks-thm.met 𝓤 H 𝓜 𝓖 𝓡)))
+    (cited 𝓤 H (Registers 𝓤 H (𝓖 .A) (𝓜 .mem) (𝓡 .run)) 𝓜 𝓡 code.env #sample-registers·registers registers-def.routine code.calls-sample-calls·registers·registers (registers-thm.met 𝓤 H 𝓜 𝓖 𝓡))
+    (cited 𝓤 H (Claims 𝓤 H (𝓖 .A) (𝓜 .mem) (𝓡 .run)) 𝓜 𝓡 code.env #sample-claims·claims claims-def.routine code.calls-sample-calls·claims·claims (claims-thm.met 𝓤 H 𝓜 𝓖 𝓡))
+    (cited 𝓤 H (Changes 𝓤 H (𝓖 .A) (𝓜 .mem) (𝓡 .run)) 𝓜 𝓡 code.env #sample-changes·changes changes-def.routine code.calls-sample-calls·changes·changes (changes-thm.met 𝓤 H 𝓜 𝓖 𝓡))
+    (cited 𝓤 H (Asks 𝓤 H (𝓖 .A) (𝓜 .mem) (𝓡 .run)) 𝓜 𝓡 code.env #sample-asks·asks asks-def.routine code.calls-sample-calls·asks·asks (asks-thm.met 𝓤 H 𝓜 𝓖 𝓡)))

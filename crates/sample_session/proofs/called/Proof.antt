@@ -1,8 +1,8 @@
 -- `sample_session::called` meets its contract. Assumes nothing.
 use mathlib.Core.Path.{ap, _∙_}
 use lib.Dec.{eqb}
-use Rattle.surface_reply.specs.declared.ReplyNumbers.{ReplyNumbers}
-use Rattle.sample_tally.specs.Counting.{afterAnswer}
+use Rattle.surface.specs.declared.reply.ReplyNumbers.{ReplyNumbers}
+use Rattle.samples.specs.Counting.{afterAnswer}
 use Rattle.sample_session.specs.Session.{calledOf, saidOf}
 use borrow.Author.Needs.{needs}
 use Rattle.sample_session.proofs.called.Statement.{statement}

@@ -2,7 +2,7 @@
 use mathlib.Core.Bool.{true}
 use mathlib.Core.Path.{ap, _∙_}
 use Rattle.surface.specs.declared.StateNumbers.{StateNumbers}
-use Rattle.surface_reply.specs.Replies.{replyOf}
+use Rattle.surface.specs.Replies.{replyOf}
 use Rattle.sample_session.specs.Session.{numbersIn}
 use Rattle.sample_session.proofs.in_numbers.Statement.{statement}
 use Rattle.sample_session.proofs.in_numbers.Tie as tie

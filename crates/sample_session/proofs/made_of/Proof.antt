@@ -5,7 +5,7 @@ use Prim.Native.Nat.{ℕ}
 use lib.IntN.{ℤ}
 use mir.Syntax.{w32}
 use mir.Facts.{toZ-ofZ}
-use Rattle.sample_signed.specs.Signed.{narrowOf}
+use Rattle.samples.specs.Signed.{narrowOf}
 use Rattle.sample_session.specs.Session.{madeOf, madeFrom}
 use Rattle.sample_session.proofs.made_of.Statement.{statement}
 use Rattle.sample_session.proofs.made_of.Tie as tie

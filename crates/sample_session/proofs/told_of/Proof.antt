@@ -3,7 +3,7 @@ use borrow.Author.Needs.{needs}
 use mathlib.Core.Path.{ap, _∙_}
 use mir.Syntax.{w32}
 use mir.Facts.{toZ-ofZ}
-use Rattle.surface_told.specs.Told.{toldOf}
+use Rattle.surface.specs.Told.{toldOf}
 use Rattle.sample_session.proofs.told_of.Statement.{statement}
 use Rattle.sample_session.proofs.told_of.Tie as tie
 

@@ -2,7 +2,7 @@
 use mathlib.Core.Path.{ap, _∙_}
 use Prim.Native.Nat.{ℕ, _%_}
 use Rattle.surface.specs.declared.StateNumbers.{StateNumbers}
-use Rattle.sample_hash.specs.Hash.{withWord}
+use Rattle.samples.specs.Hash.{withWord}
 use Rattle.sample_state.specs.State.{ofState}
 use Rattle.sample_state.proofs.of_state.Statement.{statement}
 use Rattle.sample_state.proofs.of_state.Tie as tie

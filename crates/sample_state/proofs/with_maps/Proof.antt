@@ -2,7 +2,7 @@
 use borrow.Author.Needs.{needs}
 use mathlib.Core.Path.{ap, _∙_}
 use Prim.Native.Nat.{ℕ}
-use Rattle.sample_hash.specs.Hash.{withWords}
+use Rattle.samples.specs.Hash.{withWords}
 use Rattle.sample_state.specs.State.{withMaps}
 use Rattle.sample_state.proofs.with_maps.Statement.{statement}
 use Rattle.sample_state.proofs.with_maps.Tie as tie

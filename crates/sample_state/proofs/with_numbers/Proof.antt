@@ -1,7 +1,7 @@
 -- `sample_state::with_numbers` meets its contract. Assumes nothing.
 use mathlib.Core.Path.{ap, ap₂, _∙_}
 use Prim.Native.Nat.{ℕ}
-use Rattle.sample_hash.specs.Hash.{withWord}
+use Rattle.samples.specs.Hash.{withWord}
 use Rattle.sample_state.specs.State.{withNumbers}
 use Rattle.sample_state.proofs.with_numbers.Statement.{statement}
 use Rattle.sample_state.proofs.with_numbers.Tie as tie

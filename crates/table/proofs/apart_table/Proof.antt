@@ -40,13 +40,13 @@ use Rattle.arena.proofs.Arena as T
 use Rattle.lookup.specs.Soundness.{soundArena}
 use Rattle.layer.specs.Table.{at, apart}
 use Rattle.judge.specs.declared.Head.{Head}
-use Rattle.spans.specs.declared.Span.{Span}
+use Rattle.judge.specs.declared.spans.Span.{Span}
 use Rattle.judge.specs.Heads.{headOf}
-use Rattle.spans.specs.Spans.{Covers}
+use Rattle.judge.specs.Spans.{Covers}
 use Rattle.judge.proofs.Head as D
 use Rattle.judge.proofs.Head.Laws as D′
-use Rattle.spans.proofs.Span as P
-use Rattle.spans.proofs.Span.Laws as P′
+use Rattle.judge.proofs.spans.Span as P
+use Rattle.judge.proofs.spans.Span.Laws as P′
 use Rattle.records.proofs.Walk.{Loan, Known, shared, sliceOf}
 use Rattle.records.proofs.Locals.{Blocks, envOf, rooms, enters, used, room, if-else, tests, whiles}
 use Rattle.records.proofs.Calls.{in-seq}
@@ -54,18 +54,18 @@ use Rattle.records.proofs.Frame.{DoneS, finishS, shr-meets}
 use Rattle.table.proofs.TableLaws.{ends-at, alone, apart-is, covers-none, covers-more}
 use Rattle.table.proofs.Leaf.{NoSpan, MeetsNone, SpanWith, no-span-step, meets-none-pass, span-step}
 use Rattle.table.proofs.Steps.{HeadOr, head-or-pass}
-use Rattle.spans.proofs.no_span.Symbol as span-def
-use Rattle.spans.proofs.no_span.Symbol.{name as #spans·no-span}
-use Rattle.spans.proofs.no_span.Met as span-thm
+use Rattle.judge.proofs.spans.no_span.Symbol as span-def
+use Rattle.judge.proofs.spans.no_span.Symbol.{name as #spans·no-span}
+use Rattle.judge.proofs.spans.no_span.Met as span-thm
 use Rattle.table.proofs.head_or.Symbol as head-def
 use Rattle.table.proofs.head_or.Symbol.{name as #table·head-or}
 use Rattle.table.proofs.head_or.Met as head-thm
 use Rattle.table.proofs.meets_none.Symbol as none-def
 use Rattle.table.proofs.meets_none.Symbol.{name as #table·meets-none}
 use Rattle.table.proofs.meets_none.Met as none-thm
-use Rattle.spans.proofs.span_with.Symbol as with-def
-use Rattle.spans.proofs.span_with.Symbol.{name as #spans·span-with}
-use Rattle.spans.proofs.span_with.Met as with-thm
+use Rattle.judge.proofs.spans.span_with.Symbol as with-def
+use Rattle.judge.proofs.spans.span_with.Symbol.{name as #spans·span-with}
+use Rattle.judge.proofs.spans.span_with.Met as with-thm
 use Rattle.table.proofs.apart_table.Key.{name as #table·apart-table}
 use Rattle.table.proofs.apart_table as apart′
 use Rattle.table.proofs.apart_table.Statement as stated
@@ -209,7 +209,7 @@ apart-table-spec 𝓤 H 𝓜 𝓖 𝓡 =
     entered 𝓤 H (tripleOf 𝓤 H (𝓖 .A) apart′.signature (apart′.spec 𝓤 H (𝓖 .A) (𝓜 .mem) (𝓡 .run)))
     (tables 𝓤 H 𝓜 𝓡 code.env .C) (tables 𝓤 H 𝓜 𝓡 code.env .Λ) #table·apart-table code.function (code.unfolded 𝓤 H 𝓜 𝓡)
     (apart-meets 𝓤 H (𝓖 .A) (givenOf 𝓤 H 𝓜 𝓖) (𝓜 .mem) (𝓡 .run) (tablesOf 𝓤 H 𝓜 (tables 𝓤 H 𝓜 𝓡 code.env))
-    (cited 𝓤 H (NoSpan 𝓤 H (𝓖 .A) (𝓜 .mem) (𝓡 .run)) 𝓜 𝓡 code.env #spans·no-span span-def.routine code.calls-spans·no-span (span-thm.met 𝓤 H 𝓜 𝓖 𝓡))
+    (cited 𝓤 H (NoSpan 𝓤 H (𝓖 .A) (𝓜 .mem) (𝓡 .run)) 𝓜 𝓡 code.env #spans·no-span span-def.routine code.calls-judge·spans·no-span (span-thm.met 𝓤 H 𝓜 𝓖 𝓡))
     (cited 𝓤 H (HeadOr 𝓤 H (𝓖 .A) (𝓜 .mem) (𝓡 .run)) 𝓜 𝓡 code.env #table·head-or head-def.routine code.calls-table·head-or (head-thm.met 𝓤 H 𝓜 𝓖 𝓡))
     (cited 𝓤 H (MeetsNone 𝓤 H (𝓖 .A) (𝓜 .mem) (𝓡 .run)) 𝓜 𝓡 code.env #table·meets-none none-def.routine code.calls-table·meets-none (none-thm.met 𝓤 H 𝓜 𝓖 𝓡))
-    (cited 𝓤 H (SpanWith 𝓤 H (𝓖 .A) (𝓜 .mem) (𝓡 .run)) 𝓜 𝓡 code.env #spans·span-with with-def.routine code.calls-spans·span-with (with-thm.met 𝓤 H 𝓜 𝓖 𝓡)))
+    (cited 𝓤 H (SpanWith 𝓤 H (𝓖 .A) (𝓜 .mem) (𝓡 .run)) 𝓜 𝓡 code.env #spans·span-with with-def.routine code.calls-judge·spans·span-with (with-thm.met 𝓤 H 𝓜 𝓖 𝓡)))

@@ -56,31 +56,31 @@ use Rattle.records.proofs.Frame.{DoneS, finishS, shr-meets}
 use Rattle.table.proofs.Leaf.{RunAsked, ChunksOf, IsAt, AsksTails, HitHead, run-asked-step, chunks-of-step, is-at-step, asks-step, hit-head-step}
 use Rattle.table.proofs.Steps.{HeadOr, head-or-pass}
 use Rattle.table.proofs.TableLaws.{is-lent}
-use Rattle.maps.proofs.Passes.{RunAt, TailsClear, run-at-pass, tails-clear-pass}
+use Rattle.records.proofs.maps.Passes.{RunAt, TailsClear, run-at-pass, tails-clear-pass}
 use Rattle.table.proofs.head_or.Symbol as head-def
 use Rattle.table.proofs.head_or.Symbol.{name as #table·head-or}
 use Rattle.table.proofs.head_or.Met as head-thm
-use Rattle.serving.proofs.run_asked.Symbol as asked-def
-use Rattle.serving.proofs.run_asked.Symbol.{name as #serving·run-asked}
-use Rattle.serving.proofs.run_asked.Met as asked-thm
+use Rattle.judge.proofs.serving.run_asked.Symbol as asked-def
+use Rattle.judge.proofs.serving.run_asked.Symbol.{name as #serving·run-asked}
+use Rattle.judge.proofs.serving.run_asked.Met as asked-thm
 use Rattle.judge.proofs.chunks_of.Symbol as chunks-def
 use Rattle.judge.proofs.chunks_of.Symbol.{name as #judge·chunks-of}
 use Rattle.judge.proofs.chunks_of.Met as chunks-thm
-use Rattle.maps.proofs.run_at.Symbol as run-def
-use Rattle.maps.proofs.run_at.Symbol.{name as #maps·run-at}
-use Rattle.maps.proofs.run_at.Met as run-thm
-use Rattle.row_parts.proofs.is_at.Symbol as is-at-def
-use Rattle.row_parts.proofs.is_at.Symbol.{name as #row-parts·is-at}
-use Rattle.row_parts.proofs.is_at.Met as is-at-thm
-use Rattle.heads.proofs.asks_tails.Symbol as asks-def
-use Rattle.heads.proofs.asks_tails.Symbol.{name as #heads·asks-tails}
-use Rattle.heads.proofs.asks_tails.Met as asks-thm
-use Rattle.maps.proofs.tails_clear_at.Symbol as tails-def
-use Rattle.maps.proofs.tails_clear_at.Symbol.{name as #maps·tails-clear-at}
-use Rattle.maps.proofs.tails_clear_at.Met as tails-thm
-use Rattle.heads.proofs.hit_head.Symbol as top-def
-use Rattle.heads.proofs.hit_head.Symbol.{name as #heads·hit-head}
-use Rattle.heads.proofs.hit_head.Met as top-thm
+use Rattle.records.proofs.maps.run_at.Symbol as run-def
+use Rattle.records.proofs.maps.run_at.Symbol.{name as #maps·run-at}
+use Rattle.records.proofs.maps.run_at.Met as run-thm
+use Rattle.judge.proofs.row_parts.is_at.Symbol as is-at-def
+use Rattle.judge.proofs.row_parts.is_at.Symbol.{name as #row-parts·is-at}
+use Rattle.judge.proofs.row_parts.is_at.Met as is-at-thm
+use Rattle.judge.proofs.heads.asks_tails.Symbol as asks-def
+use Rattle.judge.proofs.heads.asks_tails.Symbol.{name as #heads·asks-tails}
+use Rattle.judge.proofs.heads.asks_tails.Met as asks-thm
+use Rattle.records.proofs.maps.tails_clear_at.Symbol as tails-def
+use Rattle.records.proofs.maps.tails_clear_at.Symbol.{name as #maps·tails-clear-at}
+use Rattle.records.proofs.maps.tails_clear_at.Met as tails-thm
+use Rattle.judge.proofs.heads.hit_head.Symbol as top-def
+use Rattle.judge.proofs.heads.hit_head.Symbol.{name as #heads·hit-head}
+use Rattle.judge.proofs.heads.hit_head.Met as top-thm
 use Rattle.table.proofs.hits_at.Key.{name as #table·hits-at}
 use Rattle.table.proofs.hits_at as hits′
 use Rattle.table.proofs.hits_at.Statement as stated
@@ -178,10 +178,10 @@ hits-at-spec 𝓤 H 𝓜 𝓖 𝓡 =
     (tables 𝓤 H 𝓜 𝓡 code.env .C) (tables 𝓤 H 𝓜 𝓡 code.env .Λ) #table·hits-at code.function (code.unfolded 𝓤 H 𝓜 𝓡)
     (hits-meets 𝓤 H (𝓖 .A) (givenOf 𝓤 H 𝓜 𝓖) (𝓜 .mem) (𝓡 .run) (tablesOf 𝓤 H 𝓜 (tables 𝓤 H 𝓜 𝓡 code.env))
     (cited 𝓤 H (HeadOr 𝓤 H (𝓖 .A) (𝓜 .mem) (𝓡 .run)) 𝓜 𝓡 code.env #table·head-or head-def.routine code.calls-table·head-or (head-thm.met 𝓤 H 𝓜 𝓖 𝓡))
-    (cited 𝓤 H (RunAsked 𝓤 H (𝓖 .A) (𝓜 .mem) (𝓡 .run)) 𝓜 𝓡 code.env #serving·run-asked asked-def.routine code.calls-serving·run-asked (asked-thm.met 𝓤 H 𝓜 𝓖 𝓡))
+    (cited 𝓤 H (RunAsked 𝓤 H (𝓖 .A) (𝓜 .mem) (𝓡 .run)) 𝓜 𝓡 code.env #serving·run-asked asked-def.routine code.calls-judge·serving·run-asked (asked-thm.met 𝓤 H 𝓜 𝓖 𝓡))
     (cited 𝓤 H (ChunksOf 𝓤 H (𝓖 .A) (𝓜 .mem) (𝓡 .run)) 𝓜 𝓡 code.env #judge·chunks-of chunks-def.routine code.calls-judge·chunks-of (chunks-thm.met 𝓤 H 𝓜 𝓖 𝓡))
-    (cited 𝓤 H (RunAt 𝓤 H (𝓖 .A) (𝓜 .mem) (𝓡 .run)) 𝓜 𝓡 code.env #maps·run-at run-def.routine code.calls-maps·run-at (run-thm.met 𝓤 H 𝓜 𝓖 𝓡))
-    (cited 𝓤 H (IsAt 𝓤 H (𝓖 .A) (𝓜 .mem) (𝓡 .run)) 𝓜 𝓡 code.env #row-parts·is-at is-at-def.routine code.calls-row-parts·is-at (is-at-thm.met 𝓤 H 𝓜 𝓖 𝓡))
-    (cited 𝓤 H (AsksTails 𝓤 H (𝓖 .A) (𝓜 .mem) (𝓡 .run)) 𝓜 𝓡 code.env #heads·asks-tails asks-def.routine code.calls-heads·asks-tails (asks-thm.met 𝓤 H 𝓜 𝓖 𝓡))
-    (cited 𝓤 H (TailsClear 𝓤 H (𝓖 .A) (𝓜 .mem) (𝓡 .run)) 𝓜 𝓡 code.env #maps·tails-clear-at tails-def.routine code.calls-maps·tails-clear-at (tails-thm.met 𝓤 H 𝓜 𝓖 𝓡))
-    (cited 𝓤 H (HitHead 𝓤 H (𝓖 .A) (𝓜 .mem) (𝓡 .run)) 𝓜 𝓡 code.env #heads·hit-head top-def.routine code.calls-heads·hit-head (top-thm.met 𝓤 H 𝓜 𝓖 𝓡)))
+    (cited 𝓤 H (RunAt 𝓤 H (𝓖 .A) (𝓜 .mem) (𝓡 .run)) 𝓜 𝓡 code.env #maps·run-at run-def.routine code.calls-records·maps·run-at (run-thm.met 𝓤 H 𝓜 𝓖 𝓡))
+    (cited 𝓤 H (IsAt 𝓤 H (𝓖 .A) (𝓜 .mem) (𝓡 .run)) 𝓜 𝓡 code.env #row-parts·is-at is-at-def.routine code.calls-judge·row-parts·is-at (is-at-thm.met 𝓤 H 𝓜 𝓖 𝓡))
+    (cited 𝓤 H (AsksTails 𝓤 H (𝓖 .A) (𝓜 .mem) (𝓡 .run)) 𝓜 𝓡 code.env #heads·asks-tails asks-def.routine code.calls-judge·heads·asks-tails (asks-thm.met 𝓤 H 𝓜 𝓖 𝓡))
+    (cited 𝓤 H (TailsClear 𝓤 H (𝓖 .A) (𝓜 .mem) (𝓡 .run)) 𝓜 𝓡 code.env #maps·tails-clear-at tails-def.routine code.calls-records·maps·tails-clear-at (tails-thm.met 𝓤 H 𝓜 𝓖 𝓡))
+    (cited 𝓤 H (HitHead 𝓤 H (𝓖 .A) (𝓜 .mem) (𝓡 .run)) 𝓜 𝓡 code.env #heads·hit-head top-def.routine code.calls-judge·heads·hit-head (top-thm.met 𝓤 H 𝓜 𝓖 𝓡)))

@@ -40,15 +40,15 @@ use Rattle.layer.specs.Table.{isAt, overlaps}
 use Rattle.judge.specs.declared.Query.{Query}
 use Rattle.judge.specs.declared.Query.the-variants.{Meets as Meeting}
 use Rattle.judge.specs.declared.Head.{Head}
-use Rattle.spans.specs.declared.Span.{Span}
+use Rattle.judge.specs.declared.spans.Span.{Span}
 use Rattle.judge.specs.Scan.{scanOf}
-use Rattle.spans.specs.Spans.{outside, Covers}
+use Rattle.judge.specs.Spans.{outside, Covers}
 use Rattle.judge.proofs.Query as Q
 use Rattle.judge.proofs.Query.Laws as Q′
 use Rattle.judge.proofs.Head as D
 use Rattle.judge.proofs.Head.Laws as D′
-use Rattle.spans.proofs.Span as P
-use Rattle.spans.proofs.Span.Laws as P′
+use Rattle.judge.proofs.spans.Span as P
+use Rattle.judge.proofs.spans.Span.Laws as P′
 use Rattle.records.proofs.Walk.{Loan, Known, shared, sliceOf}
 use Rattle.records.proofs.Locals.{enters, used, room, if-else}
 use Rattle.records.proofs.Calls.{in-seq}
@@ -56,18 +56,18 @@ use Rattle.records.proofs.Frame.{DoneS, finishS, shr-meets}
 use Rattle.table.proofs.TableLaws.{outside-alone, scan-overlaps}
 use Rattle.table.proofs.Leaf.{Outside, Range, IsNothing, outside-step, range-step, is-nothing-step}
 use Rattle.table.proofs.Steps.{Scan, scan-pass}
-use Rattle.spans.proofs.is_outside.Symbol as out-def
-use Rattle.spans.proofs.is_outside.Symbol.{name as #spans·is-outside}
-use Rattle.spans.proofs.is_outside.Met as out-thm
-use Rattle.row_parts.proofs.range_query.Symbol as range-def
-use Rattle.row_parts.proofs.range_query.Symbol.{name as #row-parts·range-query}
-use Rattle.row_parts.proofs.range_query.Met as range-thm
+use Rattle.judge.proofs.spans.is_outside.Symbol as out-def
+use Rattle.judge.proofs.spans.is_outside.Symbol.{name as #spans·is-outside}
+use Rattle.judge.proofs.spans.is_outside.Met as out-thm
+use Rattle.judge.proofs.row_parts.range_query.Symbol as range-def
+use Rattle.judge.proofs.row_parts.range_query.Symbol.{name as #row-parts·range-query}
+use Rattle.judge.proofs.row_parts.range_query.Met as range-thm
 use Rattle.table.proofs.scan.Symbol as scan-def
 use Rattle.table.proofs.scan.Symbol.{name as #table·scan}
 use Rattle.table.proofs.scan.Met as scan-thm
-use Rattle.row_parts.proofs.is_nothing.Symbol as none-def
-use Rattle.row_parts.proofs.is_nothing.Symbol.{name as #row-parts·is-nothing}
-use Rattle.row_parts.proofs.is_nothing.Met as none-thm
+use Rattle.judge.proofs.row_parts.is_nothing.Symbol as none-def
+use Rattle.judge.proofs.row_parts.is_nothing.Symbol.{name as #row-parts·is-nothing}
+use Rattle.judge.proofs.row_parts.is_nothing.Met as none-thm
 use Rattle.table.proofs.meets_none.Key.{name as #table·meets-none}
 use Rattle.table.proofs.meets_none as none′
 use Rattle.table.proofs.meets_none.Statement as stated
@@ -137,7 +137,7 @@ meets-none-spec 𝓤 H 𝓜 𝓖 𝓡 =
     entered 𝓤 H (tripleOf 𝓤 H (𝓖 .A) none′.signature (none′.spec 𝓤 H (𝓖 .A) (𝓜 .mem) (𝓡 .run)))
     (tables 𝓤 H 𝓜 𝓡 code.env .C) (tables 𝓤 H 𝓜 𝓡 code.env .Λ) #table·meets-none code.function (code.unfolded 𝓤 H 𝓜 𝓡)
     (none-meets 𝓤 H (𝓖 .A) (givenOf 𝓤 H 𝓜 𝓖) (𝓜 .mem) (𝓡 .run) (tablesOf 𝓤 H 𝓜 (tables 𝓤 H 𝓜 𝓡 code.env))
-    (cited 𝓤 H (Outside 𝓤 H (𝓖 .A) (𝓜 .mem) (𝓡 .run)) 𝓜 𝓡 code.env #spans·is-outside out-def.routine code.calls-spans·is-outside (out-thm.met 𝓤 H 𝓜 𝓖 𝓡))
-    (cited 𝓤 H (Range 𝓤 H (𝓖 .A) (𝓜 .mem) (𝓡 .run)) 𝓜 𝓡 code.env #row-parts·range-query range-def.routine code.calls-row-parts·range-query (range-thm.met 𝓤 H 𝓜 𝓖 𝓡))
+    (cited 𝓤 H (Outside 𝓤 H (𝓖 .A) (𝓜 .mem) (𝓡 .run)) 𝓜 𝓡 code.env #spans·is-outside out-def.routine code.calls-judge·spans·is-outside (out-thm.met 𝓤 H 𝓜 𝓖 𝓡))
+    (cited 𝓤 H (Range 𝓤 H (𝓖 .A) (𝓜 .mem) (𝓡 .run)) 𝓜 𝓡 code.env #row-parts·range-query range-def.routine code.calls-judge·row-parts·range-query (range-thm.met 𝓤 H 𝓜 𝓖 𝓡))
     (cited 𝓤 H (Scan 𝓤 H (𝓖 .A) (𝓜 .mem) (𝓡 .run)) 𝓜 𝓡 code.env #table·scan scan-def.routine code.calls-table·scan (scan-thm.met 𝓤 H 𝓜 𝓖 𝓡))
-    (cited 𝓤 H (IsNothing 𝓤 H (𝓖 .A) (𝓜 .mem) (𝓡 .run)) 𝓜 𝓡 code.env #row-parts·is-nothing none-def.routine code.calls-row-parts·is-nothing (none-thm.met 𝓤 H 𝓜 𝓖 𝓡)))
+    (cited 𝓤 H (IsNothing 𝓤 H (𝓖 .A) (𝓜 .mem) (𝓡 .run)) 𝓜 𝓡 code.env #row-parts·is-nothing none-def.routine code.calls-judge·row-parts·is-nothing (none-thm.met 𝓤 H 𝓜 𝓖 𝓡)))

@@ -49,9 +49,9 @@ use Rattle.records.proofs.load_or.Met as load-thm
 use Rattle.table.proofs.scan.Symbol as scan-def
 use Rattle.table.proofs.scan.Symbol.{name as #table·scan}
 use Rattle.table.proofs.scan.Met as scan-thm
-use Rattle.row_parts.proofs.is_at.Symbol as is-at-def
-use Rattle.row_parts.proofs.is_at.Symbol.{name as #row-parts·is-at}
-use Rattle.row_parts.proofs.is_at.Met as is-at-thm
+use Rattle.judge.proofs.row_parts.is_at.Symbol as is-at-def
+use Rattle.judge.proofs.row_parts.is_at.Symbol.{name as #row-parts·is-at}
+use Rattle.judge.proofs.row_parts.is_at.Met as is-at-thm
 use Rattle.runs.specs.declared.Found.{Found}
 use Rattle.runs.specs.Lowest.{all}
 use Rattle.options.specs.Options.{pageSizeSound}
@@ -69,32 +69,32 @@ use Rattle.table.proofs.TableLaws.{sounds-scan, few-at, row-is}
 use Rattle.table.proofs.Leaf.{IsAt, Unsounds, Lent, CountOf, QuestionOf, About, Asked, Questions, is-at-step, unsound-step, lent-step, count-of-step, question-of-step, about-step, asked-step, question-step}
 use Rattle.records.proofs.Steps.{LoadOr, load-or-pass}
 use Rattle.table.proofs.Steps.{Scan, Apart, scan-pass, apart-pass}
-use Rattle.row_parts.proofs.unsound_query.Symbol as unsound-def
-use Rattle.row_parts.proofs.unsound_query.Symbol.{name as #row-parts·unsound-query}
-use Rattle.row_parts.proofs.unsound_query.Met as unsound-thm
-use Rattle.row_parts.proofs.count_of.Symbol as count-of-def
-use Rattle.row_parts.proofs.count_of.Symbol.{name as #row-parts·count-of}
-use Rattle.row_parts.proofs.count_of.Met as count-of-thm
-use Rattle.row_parts.proofs.question_of.Symbol as question-of-def
-use Rattle.row_parts.proofs.question_of.Symbol.{name as #row-parts·question-of}
-use Rattle.row_parts.proofs.question_of.Met as question-of-thm
-use Rattle.row_parts.proofs.lent_sound.Symbol as lent-def
-use Rattle.row_parts.proofs.lent_sound.Symbol.{name as #row-parts·lent-sound}
-use Rattle.row_parts.proofs.lent_sound.Met as lent-thm
+use Rattle.judge.proofs.row_parts.unsound_query.Symbol as unsound-def
+use Rattle.judge.proofs.row_parts.unsound_query.Symbol.{name as #row-parts·unsound-query}
+use Rattle.judge.proofs.row_parts.unsound_query.Met as unsound-thm
+use Rattle.judge.proofs.row_parts.count_of.Symbol as count-of-def
+use Rattle.judge.proofs.row_parts.count_of.Symbol.{name as #row-parts·count-of}
+use Rattle.judge.proofs.row_parts.count_of.Met as count-of-thm
+use Rattle.judge.proofs.row_parts.question_of.Symbol as question-of-def
+use Rattle.judge.proofs.row_parts.question_of.Symbol.{name as #row-parts·question-of}
+use Rattle.judge.proofs.row_parts.question_of.Met as question-of-thm
+use Rattle.judge.proofs.row_parts.lent_sound.Symbol as lent-def
+use Rattle.judge.proofs.row_parts.lent_sound.Symbol.{name as #row-parts·lent-sound}
+use Rattle.judge.proofs.row_parts.lent_sound.Met as lent-thm
 use Rattle.table.proofs.apart_table.Symbol as apart-def
 use Rattle.table.proofs.apart_table.Symbol.{name as #table·apart-table}
 use Rattle.table.proofs.apart_table.Met as apart-thm
-use Rattle.open_question.specs.Questions.{aboutNone}
-use Rattle.open_question.proofs.QuestionLaws.{none-sound}
-use Rattle.open_question.proofs.is_about_none.Symbol as about-def
-use Rattle.open_question.proofs.is_about_none.Symbol.{name as #open-question·is-about-none}
-use Rattle.open_question.proofs.is_about_none.Met as about-thm
-use Rattle.open_question.proofs.asked_id.Symbol as asked-def
-use Rattle.open_question.proofs.asked_id.Symbol.{name as #open-question·asked-id}
-use Rattle.open_question.proofs.asked_id.Met as asked-thm
-use Rattle.open_question.proofs.question_sound.Symbol as question-def
-use Rattle.open_question.proofs.question_sound.Symbol.{name as #open-question·question-sound}
-use Rattle.open_question.proofs.question_sound.Met as question-thm
+use Rattle.judge.specs.Questions.{aboutNone}
+use Rattle.judge.proofs.open_question.QuestionLaws.{none-sound}
+use Rattle.judge.proofs.open_question.is_about_none.Symbol as about-def
+use Rattle.judge.proofs.open_question.is_about_none.Symbol.{name as #open-question·is-about-none}
+use Rattle.judge.proofs.open_question.is_about_none.Met as about-thm
+use Rattle.judge.proofs.open_question.asked_id.Symbol as asked-def
+use Rattle.judge.proofs.open_question.asked_id.Symbol.{name as #open-question·asked-id}
+use Rattle.judge.proofs.open_question.asked_id.Met as asked-thm
+use Rattle.judge.proofs.open_question.question_sound.Symbol as question-def
+use Rattle.judge.proofs.open_question.question_sound.Symbol.{name as #open-question·question-sound}
+use Rattle.judge.proofs.open_question.question_sound.Met as question-thm
 use Rattle.table.proofs.row_one.Key.{name as #table·row-one}
 use Rattle.table.proofs.row_one as row′
 use Rattle.table.proofs.row_one.Statement as stated
@@ -245,14 +245,14 @@ row-one-spec 𝓤 H 𝓜 𝓖 𝓡 =
     entered 𝓤 H (tripleOf 𝓤 H (𝓖 .A) row′.signature (row′.spec 𝓤 H (𝓖 .A) (𝓜 .mem) (𝓡 .run)))
     (tables 𝓤 H 𝓜 𝓡 code.env .C) (tables 𝓤 H 𝓜 𝓡 code.env .Λ) #table·row-one code.function (code.unfolded 𝓤 H 𝓜 𝓡)
     (row-meets 𝓤 H (𝓖 .A) (givenOf 𝓤 H 𝓜 𝓖) (𝓜 .mem) (𝓡 .run) (tablesOf 𝓤 H 𝓜 (tables 𝓤 H 𝓜 𝓡 code.env))
-    (cited 𝓤 H (CountOf 𝓤 H (𝓖 .A) (𝓜 .mem) (𝓡 .run)) 𝓜 𝓡 code.env #row-parts·count-of count-of-def.routine code.calls-row-parts·count-of (count-of-thm.met 𝓤 H 𝓜 𝓖 𝓡))
-    (cited 𝓤 H (QuestionOf 𝓤 H (𝓖 .A) (𝓜 .mem) (𝓡 .run)) 𝓜 𝓡 code.env #row-parts·question-of question-of-def.routine code.calls-row-parts·question-of (question-of-thm.met 𝓤 H 𝓜 𝓖 𝓡))
-    (cited 𝓤 H (Lent 𝓤 H (𝓖 .A) (𝓜 .mem) (𝓡 .run)) 𝓜 𝓡 code.env #row-parts·lent-sound lent-def.routine code.calls-row-parts·lent-sound (lent-thm.met 𝓤 H 𝓜 𝓖 𝓡))
-    (cited 𝓤 H (Unsounds 𝓤 H (𝓖 .A) (𝓜 .mem) (𝓡 .run)) 𝓜 𝓡 code.env #row-parts·unsound-query unsound-def.routine code.calls-row-parts·unsound-query (unsound-thm.met 𝓤 H 𝓜 𝓖 𝓡))
+    (cited 𝓤 H (CountOf 𝓤 H (𝓖 .A) (𝓜 .mem) (𝓡 .run)) 𝓜 𝓡 code.env #row-parts·count-of count-of-def.routine code.calls-judge·row-parts·count-of (count-of-thm.met 𝓤 H 𝓜 𝓖 𝓡))
+    (cited 𝓤 H (QuestionOf 𝓤 H (𝓖 .A) (𝓜 .mem) (𝓡 .run)) 𝓜 𝓡 code.env #row-parts·question-of question-of-def.routine code.calls-judge·row-parts·question-of (question-of-thm.met 𝓤 H 𝓜 𝓖 𝓡))
+    (cited 𝓤 H (Lent 𝓤 H (𝓖 .A) (𝓜 .mem) (𝓡 .run)) 𝓜 𝓡 code.env #row-parts·lent-sound lent-def.routine code.calls-judge·row-parts·lent-sound (lent-thm.met 𝓤 H 𝓜 𝓖 𝓡))
+    (cited 𝓤 H (Unsounds 𝓤 H (𝓖 .A) (𝓜 .mem) (𝓡 .run)) 𝓜 𝓡 code.env #row-parts·unsound-query unsound-def.routine code.calls-judge·row-parts·unsound-query (unsound-thm.met 𝓤 H 𝓜 𝓖 𝓡))
     (cited 𝓤 H (Scan 𝓤 H (𝓖 .A) (𝓜 .mem) (𝓡 .run)) 𝓜 𝓡 code.env #table·scan scan-def.routine code.calls-table·scan (scan-thm.met 𝓤 H 𝓜 𝓖 𝓡))
-    (cited 𝓤 H (IsAt 𝓤 H (𝓖 .A) (𝓜 .mem) (𝓡 .run)) 𝓜 𝓡 code.env #row-parts·is-at is-at-def.routine code.calls-row-parts·is-at (is-at-thm.met 𝓤 H 𝓜 𝓖 𝓡))
+    (cited 𝓤 H (IsAt 𝓤 H (𝓖 .A) (𝓜 .mem) (𝓡 .run)) 𝓜 𝓡 code.env #row-parts·is-at is-at-def.routine code.calls-judge·row-parts·is-at (is-at-thm.met 𝓤 H 𝓜 𝓖 𝓡))
     (cited 𝓤 H (Apart 𝓤 H (𝓖 .A) (𝓜 .mem) (𝓡 .run)) 𝓜 𝓡 code.env #table·apart-table apart-def.routine code.calls-table·apart-table (apart-thm.met 𝓤 H 𝓜 𝓖 𝓡))
-    (cited 𝓤 H (About 𝓤 H (𝓖 .A) (𝓜 .mem) (𝓡 .run)) 𝓜 𝓡 code.env #open-question·is-about-none about-def.routine code.calls-open-question·is-about-none (about-thm.met 𝓤 H 𝓜 𝓖 𝓡))
-    (cited 𝓤 H (Asked 𝓤 H (𝓖 .A) (𝓜 .mem) (𝓡 .run)) 𝓜 𝓡 code.env #open-question·asked-id asked-def.routine code.calls-open-question·asked-id (asked-thm.met 𝓤 H 𝓜 𝓖 𝓡))
+    (cited 𝓤 H (About 𝓤 H (𝓖 .A) (𝓜 .mem) (𝓡 .run)) 𝓜 𝓡 code.env #open-question·is-about-none about-def.routine code.calls-judge·open-question·is-about-none (about-thm.met 𝓤 H 𝓜 𝓖 𝓡))
+    (cited 𝓤 H (Asked 𝓤 H (𝓖 .A) (𝓜 .mem) (𝓡 .run)) 𝓜 𝓡 code.env #open-question·asked-id asked-def.routine code.calls-judge·open-question·asked-id (asked-thm.met 𝓤 H 𝓜 𝓖 𝓡))
     (cited 𝓤 H (LoadOr 𝓤 H (𝓖 .A) (𝓜 .mem) (𝓡 .run)) 𝓜 𝓡 code.env #records·load-or load-def.routine code.calls-records·load-or (load-thm.met 𝓤 H 𝓜 𝓖 𝓡))
-    (cited 𝓤 H (Questions 𝓤 H (𝓖 .A) (𝓜 .mem) (𝓡 .run)) 𝓜 𝓡 code.env #open-question·question-sound question-def.routine code.calls-open-question·question-sound (question-thm.met 𝓤 H 𝓜 𝓖 𝓡)))
+    (cited 𝓤 H (Questions 𝓤 H (𝓖 .A) (𝓜 .mem) (𝓡 .run)) 𝓜 𝓡 code.env #open-question·question-sound question-def.routine code.calls-judge·open-question·question-sound (question-thm.met 𝓤 H 𝓜 𝓖 𝓡)))

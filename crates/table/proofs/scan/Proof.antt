@@ -54,12 +54,12 @@ use Rattle.table.proofs.Leaf.{Find, Miss, HitsAt, found-step, nothing-s
 use Rattle.table.proofs.hits_at.Symbol as hits-def
 use Rattle.table.proofs.hits_at.Symbol.{name as #table·hits-at}
 use Rattle.table.proofs.hits_at.Met as hits-thm
-use Rattle.row_parts.proofs.found.Symbol as found-def
-use Rattle.row_parts.proofs.found.Symbol.{name as #row-parts·found}
-use Rattle.row_parts.proofs.found.Met as found-thm
-use Rattle.row_parts.proofs.nothing.Symbol as nothing-def
-use Rattle.row_parts.proofs.nothing.Symbol.{name as #row-parts·nothing}
-use Rattle.row_parts.proofs.nothing.Met as nothing-thm
+use Rattle.judge.proofs.row_parts.found.Symbol as found-def
+use Rattle.judge.proofs.row_parts.found.Symbol.{name as #row-parts·found}
+use Rattle.judge.proofs.row_parts.found.Met as found-thm
+use Rattle.judge.proofs.row_parts.nothing.Symbol as nothing-def
+use Rattle.judge.proofs.row_parts.nothing.Symbol.{name as #row-parts·nothing}
+use Rattle.judge.proofs.row_parts.nothing.Met as nothing-thm
 use Rattle.table.proofs.scan.Key.{name as #table·scan}
 use Rattle.table.proofs.scan as scan′
 use Rattle.table.proofs.scan.Statement as stated
@@ -197,5 +197,5 @@ scan-spec 𝓤 H 𝓜 𝓖 𝓡 =
     (tables 𝓤 H 𝓜 𝓡 code.env .C) (tables 𝓤 H 𝓜 𝓡 code.env .Λ) #table·scan code.function (code.unfolded 𝓤 H 𝓜 𝓡)
     (scan-meets 𝓤 H (𝓖 .A) (givenOf 𝓤 H 𝓜 𝓖) (𝓜 .mem) (𝓡 .run) (tablesOf 𝓤 H 𝓜 (tables 𝓤 H 𝓜 𝓡 code.env))
     (cited 𝓤 H (HitsAt 𝓤 H (𝓖 .A) (𝓜 .mem) (𝓡 .run)) 𝓜 𝓡 code.env #table·hits-at hits-def.routine code.calls-table·hits-at (hits-thm.met 𝓤 H 𝓜 𝓖 𝓡))
-    (cited 𝓤 H (Find 𝓤 H (𝓖 .A) (𝓜 .mem) (𝓡 .run)) 𝓜 𝓡 code.env #row-parts·found found-def.routine code.calls-row-parts·found (found-thm.met 𝓤 H 𝓜 𝓖 𝓡))
-    (cited 𝓤 H (Miss 𝓤 H (𝓖 .A) (𝓜 .mem) (𝓡 .run)) 𝓜 𝓡 code.env #row-parts·nothing nothing-def.routine code.calls-row-parts·nothing (nothing-thm.met 𝓤 H 𝓜 𝓖 𝓡)))
+    (cited 𝓤 H (Find 𝓤 H (𝓖 .A) (𝓜 .mem) (𝓡 .run)) 𝓜 𝓡 code.env #row-parts·found found-def.routine code.calls-judge·row-parts·found (found-thm.met 𝓤 H 𝓜 𝓖 𝓡))
+    (cited 𝓤 H (Miss 𝓤 H (𝓖 .A) (𝓜 .mem) (𝓡 .run)) 𝓜 𝓡 code.env #row-parts·nothing nothing-def.routine code.calls-judge·row-parts·nothing (nothing-thm.met 𝓤 H 𝓜 𝓖 𝓡)))

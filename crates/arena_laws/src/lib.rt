@@ -1,1 +1,0 @@
-// What the layers above use of one arena's record, stated once: proofs/. No code stands here.

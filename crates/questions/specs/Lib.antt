@@ -1,0 +1,4 @@
+pub mod Gate
+pub mod Parts
+pub mod Commits
+pub mod Purges

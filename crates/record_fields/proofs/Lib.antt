@@ -1,4 +1,0 @@
-pub mod Deadline
-pub mod Fields
-pub mod Looks
-pub mod Maps

@@ -1,1 +1,0 @@
-// Theorems alone: reserving, managing and adopting by value are the layer's step. No code.

@@ -1,0 +1,3 @@
+pub mod Reserving
+pub mod Managing
+pub mod Adopting

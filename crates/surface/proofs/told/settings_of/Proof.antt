@@ -1,0 +1,29 @@
+-- `surface::told::settings_of` meets its contract. Assumes nothing.
+use mir.Facts.{toZ-ofZ}
+use mir.Syntax.{w64}
+use mir.Val.{SFits}
+use Rattle.surface.specs.Told.{settingsOf, isOn}
+use borrow.Author.Needs.{needs}
+use Rattle.surface.proofs.told.settings_of.Statement.{statement}
+use Rattle.surface.proofs.told.settings_of.Tie as tie
+
+page-of-requires : tie.Need-page-of-requires
+page-of-requires c κs = search needs
+
+returns : tie.Need-returns
+unfolding settingsOf
+returns c =
+    let p = c .before .before .before in
+    let a = p .before .args in
+    let fits : SFits w64 (a .s .delay) = record { sfits = c .struct-told .given .0 .1 } in
+    λ m.
+    record {
+      delay = toZ-ofZ fits m;
+      decommits = isOn (a .s .decommits);
+      off = isOn (a .s .off);
+      reserve = a .s .reserve;
+      page = p .page-of .ensures m;
+    }
+
+pub settings-of-spec : {M : Type 1} → statement M
+settings-of-spec = tie.close (tie.spec page-of-requires returns)

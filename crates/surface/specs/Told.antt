@@ -1,0 +1,31 @@
+-- What an exported call is told in numbers, as include/sirqobal.h declares them. Assumes nothing.
+use mathlib.Core.Bool.{Bool, cond, not}
+use Prim.Native.Nat.{ℕ}
+use lib.Dec.{eqb}
+use lib.IntN.{ℤ, pos, negsuc}
+use Rattle.arena.specs.declared.Commitment.{Commitment}
+use Rattle.arena.specs.declared.Commitment.the-variants.{Untold, Committed, Uncommitted}
+use Rattle.layer.specs.declared.Settings.{Settings}
+use Rattle.layer.specs.declared.Kind.{Kind}
+use Rattle.layer.specs.declared.Kind.the-variants.{ForCommit, ForPurge, ForMemory, ForGiveBack, ForNone}
+use Rattle.surface.specs.declared.told.SettingsNumbers.{SettingsNumbers}
+
+-- a flag of the settings is on unless it is 0
+abbrev pub isOn : ℕ → Bool
+isOn x = not (eqb x 0)
+
+abbrev pub pageOf : Bool → ℕ → ℕ
+pageOf ok page = cond ok page 0
+
+-- where the state is none, the page is 0, which row 1 turns down
+unfoldable pub settingsOf : Bool → SettingsNumbers → Settings
+settingsOf ok s =
+    record { delay = s .delay; decommits = isOn (s .decommits); off = isOn (s .off); reserve = s .reserve; page = pageOf ok (s .page) }
+
+abbrev pub toldOf : ℤ → Commitment
+toldOf (pos n) = cond (eqb n 0) Uncommitted Committed
+toldOf (negsuc n) = Untold
+
+abbrev pub kindOf : ℕ → Kind
+kindOf kind =
+    cond (eqb kind 1) ForCommit (cond (eqb kind 2) ForPurge (cond (eqb kind 3) ForMemory (cond (eqb kind 4) ForGiveBack ForNone)))

@@ -5,11 +5,11 @@ A walk over `&[Arena]` or `&mut [Arena]` is a proof by hand, and needs such a le
 differ in names and types only, so they are written from a list. Usage: import this module, and
 
     emit(path, comment, own_crate, more_use_lines, [
-        dict(name="take-step", crate="map_changes", fn="take_at", alias="take′", con="Take", kind="mut",
+        dict(name="take-step", crate="records", fn="map_changes.take_at", alias="take′", con="Take", kind="mut",
              args=[("j", "usize"), ("s", "usize"), ("n", "usize")],
              req=[("(j < length ys) × (s + n ≤ 1024)", "few")], reqterm="few",
              ret="unit", value="", after="set ys j (takeRun (getD ys j blank) s n)"),
-        dict(name="start-step", crate="grant_parts", fn="start_of", alias="start′", con="Start", kind="plain",
+        dict(name="start-step", crate="claims", fn="grant_parts.start_of", alias="start′", con="Start", kind="plain",
              args=[("f", ("enum", "Found", "F"))], ret="usize", value="startOf f"),
     ])
 
@@ -65,7 +65,7 @@ def nest(terms):
 
 
 def key(e):
-    return "#" + e["crate"].replace("_", "-") + "·" + e["fn"].replace("_", "-")
+    return "#" + e["crate"].replace("_", "-") + "·" + e["fn"].replace("_", "-").replace(".", "·")
 
 
 def argument(name, kind):

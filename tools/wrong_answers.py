@@ -4,11 +4,13 @@
 An edit is written as a must-fail edit of `rt` is, with one line more, as `fails: look; lowest_run`: the functions that it
 makes wrong, and after the semicolon those that are not proved then because they call one of these. `rt` gives each must-fail
 edit a check of its crate from nothing, and is content if anything of the crate is refused. Here edits that keep clear of
-each other share a check, and the prover must refuse the functions that they name and no other. That a fact fails is to be read
-in the log of a new edit: of the wrong reasons, as a proof that does not fit the code, only those that UNFIT lists are seen.
+each other share a check, and the prover must refuse the functions that they name and no other, those that they make wrong for
+their own answers. That a fact fails is to be read in the log of a new edit: of the wrong reasons, as a proof that does not fit
+the code, only those that UNFIT lists are seen.
 
-Two edits keep clear of each other if neither makes a function wrong that fails with the other. So a function that an edit
-makes wrong is changed by no other edit, and calls nothing that is: it is refused for its own wrong answer.
+Two edits keep clear of each other if no function is made wrong by both, and none is made wrong by one and fails with the other
+as a caller; but such a caller may be, where its proof is in parts that are checked each by itself (they name its module Tie) and
+the other edit changes no contract: then what is said of its parts is of its own answer.
 
 A check starts from the crate as it was proved, where target/ has that, and takes the modules that the edits leave alone from
 there. Every public function of a crate with such edits must be made wrong by two or more; those in crates/NAME/must-fail that
@@ -33,12 +35,16 @@ WORK = ROOT / "target" / "wrong"
 # What a check says where a proof no longer fits the code, or a contract cannot be read: that shows nothing.
 UNFIT = re.compile("that can be named from here|has no field|error: .* is not in scope")
 
+# What it says of a function whose proof cites one that is not proved: that says nothing of its own answer.
+CITED = re.compile("`(close|met)` was not admitted|which is not proved$")
+
 
 class Edit:
     """What an edit changes, and the functions that are not proved then."""
 
     def __init__(self, path):
         self.label = path.stem
+        self.crate = path.parent.parent
         self.changes = []
         self.wrong, self.callers = set(), set()
         file = old = None
@@ -60,8 +66,33 @@ class Edit:
     def fails(self):
         return self.wrong | self.callers
 
+    def keeps_contracts(self):
+        """Whether it changes the bodies of functions alone."""
+        for file, old, _ in self.changes:
+            before, _, behind = (self.crate / file).read_text().partition(old)
+            lines = before.rpartition("\n")[2] + old + behind.partition("\n")[0]
+            if not file.startswith("src/") or re.search("ensures|requires|⌜", lines):
+                return False
+        return True
+
+    def shows_beside(self, other):
+        """Whether its wrong functions are seen to be wrong where they call one that the other edit makes wrong."""
+        calling = self.wrong & other.callers
+        return not calling or other.keeps_contracts() and all(in_parts(self.crate, f) for f in calling)
+
     def clear_of(self, other):
-        return not (self.wrong & other.fails() or other.wrong & self.fails())
+        return not self.wrong & other.wrong and self.shows_beside(other) and other.shows_beside(self)
+
+
+def proof(crate, function):
+    """The file of a function's proof."""
+    return crate / "proofs" / function.replace("::", "/") / "Proof.antt"
+
+
+def in_parts(crate, function):
+    """Whether the function's proof is in parts that are checked each by itself."""
+    file = proof(crate, function)
+    return file.is_file() and ".Tie as " in file.read_text()
 
 
 def make(crate, group):
@@ -174,7 +205,17 @@ def refused_in(name, said):
     return {function for function, proved in found if not proved}
 
 
-def faults(name, group, status, said):
+def fails_itself(name, crate, function, said):
+    """Whether the function is refused for its own answer, and not only for what it calls."""
+    file = proof(crate, function)
+    if file.is_file():
+        reasons = re.findall(rf"^{re.escape(str(file.with_suffix('')))}\S*: error: (.*)$", said, re.M)
+    else:
+        reasons = re.findall(rf"^fn {name}::{function}: (.*)$", said, re.M)
+    return any(not CITED.search(reason) for reason in reasons)
+
+
+def faults(name, crate, group, status, said):
     """What is wrong with a check of these edits."""
     if status != 1 or not re.search("^logic=not-proved", said, re.M):
         return [f"the crate is not refused by the prover (status {status})"]
@@ -183,7 +224,10 @@ def faults(name, group, status, said):
     refused = refused_in(name, said)
     named = set().union(*(edit.fails() for edit in group))
     found = [f"{function} is proved, and an edit names it" for function in sorted(named - refused)]
-    return found + [f"{function} is not proved, and no edit names it" for function in sorted(refused - named)]
+    found += [f"{function} is not proved, and no edit names it" for function in sorted(refused - named)]
+    wrong = set().union(*(edit.wrong for edit in group)) & refused
+    cited = [function for function in sorted(wrong) if not fails_itself(name, crate, function, said)]
+    return found + [f"{function} is refused for what it calls, and not for its own answer" for function in cited]
 
 
 def try_group(prover, folder, name, number, group):
@@ -202,7 +246,7 @@ def try_group(prover, folder, name, number, group):
     status, said = prover.check(name, crate, crate / "kept")
     shutil.rmtree(crate / "kept")
     (crate / "log").write_text(said)
-    return faults(name, group, status, said)
+    return faults(name, crate, group, status, said)
 
 
 def main():

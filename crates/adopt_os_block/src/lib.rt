@@ -11,14 +11,12 @@ ghost use Rattle.adopt_os_block.specs.Writes.{AdoptWrites};
 use arena::Arena;
 use entry::writing::Writing;
 use judge::Query;
+use layer::CHUNK;
 use layer::Reply;
 use layer::Settings;
 use layer::State;
 use registers::Registering;
 use runs::Found;
-
-// The bytes of a chunk.
-const CHUNK: u64 = 33554432;
 
 // An adopt does too, but where an arena grows.
 fn adopted(growing: Found, d: Registering) -> Writing

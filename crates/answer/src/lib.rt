@@ -7,13 +7,11 @@ ghost use Rattle.layer.specs.World.{worldOf, Leaves};
 ghost use Rattle.layer.specs.Step.{answer, step};
 ghost use Rattle.answer.specs.Call.{Answerable, answerOn};
 use arena::Arena;
+use layer::CHUNK;
 use layer::Kind;
 use layer::Reply;
 use layer::Settings;
 use layer::State;
-
-// The bytes of a chunk.
-const CHUNK: u64 = 33554432;
 
 // The answer, where ok says that row 1 lets the table pass.
 fn answer_on(

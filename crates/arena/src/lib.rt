@@ -7,6 +7,12 @@ ghost use mathlib.Core.Path.{_≡_};
 ghost use Prim.Native.Nat.{_+_, _≤_};
 ghost use Rattle.arena.specs.Registering.{eachBit, newArena, reservedArena, managedArena, adoptedArena, grownArena};
 
+// The most chunks that an arena has.
+pub const MOST_CHUNKS: usize = 1024;
+
+// The last address of all.
+pub const LAST: u64 = 18446744073709551615;
+
 // A registered range of chunks. Bit j % 32 of word j / 32 of each map is chunk j. It is lent across the C
 // surface, so its layout is C's.
 #[repr(C)]

@@ -11,14 +11,12 @@ ghost use Rattle.arena_area.specs.Asked.{lookedAt, ownsReply, placeOf, a
 use arena::Arena;
 use judge::Query;
 use layer::Answer;
+use layer::CHUNK;
 use layer::Reply;
 use layer::Settings;
 use layer::State;
 use refusals::Refusal;
 use runs::Found;
-
-// The bytes of a chunk.
-const CHUNK: u64 = 33554432;
 
 // ---- owns
 

@@ -9,12 +9,10 @@ ghost use Rattle.layer.specs.Step.{claim, step};
 ghost use Rattle.layer.specs.World.{Leaves};
 use arena::Arena;
 use judge::Query;
+use layer::CHUNK;
 use layer::Reply;
 use layer::Settings;
 use layer::State;
-
-// S, the size of a chunk: 32 MiB
-const CHUNK: u64 = 33554432;
 
 // What the claim scans for.
 fn serves_query(id: i32, n: usize) -> Query

@@ -8,13 +8,11 @@ ghost use Rattle.judge.specs.declared.Query.the-variants.{Holds};
 use arena::Arena;
 use arena::Commitment;
 use judge::Query;
+use layer::CHUNK;
 use layer::Reply;
 use layer::Settings;
 use layer::State;
 use runs::Found;
-
-// The size of a chunk.
-const CHUNK: u64 = 33554432;
 
 // The delay in milliseconds.
 fn release_delay(settings: Settings) -> u32

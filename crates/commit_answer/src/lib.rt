@@ -12,9 +12,7 @@ use claims::granting::Served;
 use layer::Question;
 use layer::Reply;
 use layer::State;
-
-// Past the end of every slice.
-const NOWHERE: usize = 18446744073709551615;
+use records::NOWHERE;
 
 // The run of a commit question that is answered; where none is, a place past every slice and no chunks.
 pub struct Run {

@@ -6,10 +6,8 @@ ghost use Rattle.registers.specs.Core.{stampsWith};
 ghost use Rattle.entry.specs.Places.{recordPlace, writingOf};
 use arena::Arena;
 use layer::Reply;
+use records::NOWHERE;
 use registers::Registering;
-
-// Past the end of every slice.
-const NOWHERE: usize = 18446744073709551615;
 
 // The record and its id, 32 for none; the id whose stamps are made zero, 32 for none; and the reply.
 pub struct Writing {

@@ -9,8 +9,7 @@ ghost use Rattle.judge.specs.Heads.{headed, asksTails, headHit};
 use crate::Head;
 use crate::Query;
 use arena::Arena;
-
-const MOST_CHUNKS: usize = 1024;
+use arena::MOST_CHUNKS;
 
 // A record with that head, and nothing else in it.
 fn headed(h: Head) -> Arena

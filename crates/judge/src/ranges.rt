@@ -8,11 +8,9 @@ ghost use Rattle.lookup.specs.Place.{isInside};
 ghost use Rattle.layer.specs.Table.{meets};
 ghost use Rattle.layer.specs.Registering.{grows};
 use arena::Arena;
+use arena::MOST_CHUNKS;
 use layer::Question;
 use runs::Found;
-
-// The most chunks that an arena has.
-const MOST_CHUNKS: usize = 1024;
 
 // Whether an address lies before the end of so many chunks from base on. The end is never computed.
 fn before_end(base: u64, chunks: usize, chunk_size: u64, address: u64) -> bool

@@ -8,8 +8,7 @@ ghost use Rattle.judge.specs.declared.Query.the-variants.{Serves};
 ghost use Rattle.judge.specs.Heads.{headed, mayServe, runAsked};
 use crate::Head;
 use crate::Query;
-
-const MOST_CHUNKS: usize = 1024;
+use arena::MOST_CHUNKS;
 
 // Whether a claim at the id means arena i, of that head: a negative id means every arena that is not
 // exclusive.

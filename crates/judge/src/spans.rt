@@ -4,9 +4,7 @@ ghost use mathlib.Core.Path.{_≡_};
 ghost use Prim.Native.Nat.{_+_, _*_, _^_, _<_, _≤_};
 ghost use Rattle.judge.specs.Spans.{outside};
 use crate::Head;
-
-// The last address of all.
-const LAST: u64 = 18446744073709551615;
+use arena::LAST;
 
 // The addresses from lo on, before hi.
 pub struct Span {

@@ -1,6 +1,9 @@
 // The types of the layer's calls: what a call carries, what it answers, and the state that goes in and
 // comes out. Its rules are the definitions in specs/. The code stands in the crates above.
 
+// S, the bytes of a chunk in the product: 32 MiB. The definitions are of any S.
+pub const CHUNK: u64 = 33554432;
+
 // What each call carries beside the clock.
 pub struct Settings {
     // the purge delay in milliseconds (option 15)

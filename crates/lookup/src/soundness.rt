@@ -4,11 +4,8 @@ ghost use mathlib.Core.Path.{_≡_};
 ghost use Prim.Native.Nat.{_+_, _/_, _^_, _<_, _≤_};
 ghost use lib.Bits.{bitOr};
 ghost use Rattle.lookup.specs.Soundness.{soundRange, clearPast};
-
-// The last address of all.
-const LAST: u64 = 18446744073709551615;
-
-const MOST_CHUNKS: usize = 1024;
+use arena::LAST;
+use arena::MOST_CHUNKS;
 
 const WORDS: usize = 32;
 

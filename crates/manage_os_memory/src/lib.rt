@@ -11,13 +11,11 @@ ghost use Rattle.manage_os_memory.specs.Writes.{ManageWrites};
 use arena::Arena;
 use entry::writing::Writing;
 use judge::Query;
+use layer::CHUNK;
 use layer::Reply;
 use layer::Settings;
 use layer::State;
 use registers::Registering;
-
-// The bytes of a chunk.
-const CHUNK: u64 = 33554432;
 
 // A manage writes the stamps of the id that it registers.
 fn managed(d: Registering) -> Writing

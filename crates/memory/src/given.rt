@@ -4,10 +4,8 @@ ghost use mathlib.Core.Path.{_≡_};
 ghost use Prim.Native.Nat.{_*_, _<_};
 ghost use Rattle.registers.specs.Core.{rangeBad};
 ghost use Rattle.memory.specs.Given.{memoryBytes, memoryCount, memoryRegisters};
+use arena::LAST;
 use runs::Found;
-
-// The last address of all.
-const LAST: u64 = 18446744073709551615;
 
 // The bytes of so many chunks, and the most there are where they do not fit.
 pub fn memory_bytes(chunks: u64, chunk_size: u64) -> u64

@@ -2,12 +2,10 @@
 ghost use Rattle.layer.specs.World.{worldOf, Leaves};
 ghost use Rattle.layer.specs.Step.{sweep, step};
 use arena::Arena;
+use layer::CHUNK;
 use layer::Reply;
 use layer::Settings;
 use layer::State;
-
-// The bytes of a chunk.
-const CHUNK: u64 = 33554432;
 
 // A sweep of all arenas, until it has a question or ends.
 pub fn purge_due(

@@ -12,6 +12,9 @@ ghost use lib.ListN.{length, getD, set};
 ghost use Rattle.layer.specs.World.{blank};
 use arena::Arena;
 
+// A place past the end of every slice.
+pub const NOWHERE: usize = 18446744073709551615;
+
 // A record with nothing in it.
 pub fn blank_arena() -> Arena
     ensures { λ r. ⌜ r ≡ blank ⌝ }

@@ -7,14 +7,12 @@ ghost use Rattle.arena.specs.Registering.{managedArena};
 ghost use Rattle.layer.specs.Registering.{firstWhole, noWholeChunk};
 ghost use Rattle.registering.specs.Managing.{managePasses, manageCount, manageBytes, manageAnswer, manageId, manageBase, manageLength, manageChunks, manageReply};
 use arena::Arena;
+use arena::LAST;
 use layer::Reply;
 use layer::State;
 use refusals::Refusal;
 use registers::Registering;
 use runs::Found;
-
-// The last address of all.
-const LAST: u64 = 18446744073709551615;
 
 // Row 15: start 0, a sum past the last address, or no whole chunk inside.
 fn no_whole_chunk(start: u64, size: u64, chunk_size: u64) -> bool

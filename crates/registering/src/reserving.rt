@@ -4,6 +4,7 @@ ghost use mathlib.Core.Bool.{false};
 ghost use Prim.Native.Nat.{_<_, _≤_};
 ghost use Rattle.layer.specs.Registering.{tooLarge, bytesAsked, askMemory, reserveReply};
 ghost use Rattle.registering.specs.Reserving.{reserveAnswer};
+use arena::LAST;
 use layer::Answer;
 use layer::Ask;
 use layer::Question;
@@ -11,9 +12,6 @@ use layer::Reply;
 use layer::State;
 use layer::Waiting;
 use refusals::Refusal;
-
-// The last address of all.
-const LAST: u64 = 18446744073709551615;
 
 // Whether the whole chunks, or they and one more, pass the last address.
 pub fn too_large(size: u64, chunk_size: u64) -> bool

@@ -7,15 +7,13 @@ ghost use Rattle.layer.specs.Table.{isAt};
 ghost use Rattle.layer.specs.Registering.{chunksFor, badCount, registerReply, registers};
 ghost use Rattle.registers.specs.Core.{isIdle, gated, rangeBad};
 use arena::Arena;
+use arena::LAST;
 use layer::Answer;
 use layer::Question;
 use layer::Reply;
 use layer::State;
 use refusals::Refusal;
 use runs::Found;
-
-// The last address of all.
-const LAST: u64 = 18446744073709551615;
 
 // Whether no question is open.
 pub fn is_idle(q: Question) -> bool

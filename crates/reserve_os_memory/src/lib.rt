@@ -3,12 +3,10 @@ ghost use mathlib.Core.Path.{_≡_};
 ghost use Rattle.layer.specs.World.{worldOf, Leaves};
 ghost use Rattle.layer.specs.Step.{reserve, step};
 use arena::Arena;
+use layer::CHUNK;
 use layer::Reply;
 use layer::Settings;
 use layer::State;
-
-// The bytes of a chunk.
-const CHUNK: u64 = 33554432;
 
 // Memory is asked of the host.
 pub fn reserve_os_memory_ex(

@@ -5,8 +5,8 @@ An edit is written as a must-fail edit of `rt` is, with one line more, as `fails
 makes wrong, and after the semicolon those that are not proved then because they call one of these. `rt` gives each must-fail
 edit a check of its crate from nothing, and is content if anything of the crate is refused. Here edits that keep clear of
 each other share a check, and the prover must refuse the functions that they name and no other, those that they make wrong for
-their own answers. That a fact fails is to be read in the log of a new edit: of the wrong reasons, as a proof that does not fit
-the code, only those that UNFIT lists are seen.
+facts of their own (FACT). What a new edit fails by is still to be read in its log: of the wrong reasons, as a proof that does not
+fit the code, those that UNFIT lists are seen, and a walk whose operands differ is not.
 
 Two edits keep clear of each other if no function is made wrong by both, and none is made wrong by one and fails with the other
 as a caller; but such a caller may be, where its proof is in parts that are checked each by itself (they name its module Tie) and
@@ -34,6 +34,12 @@ WORK = ROOT / "target" / "wrong"
 
 # What a check says where a proof no longer fits the code, or a contract cannot be read: that shows nothing.
 UNFIT = re.compile("that can be named from here|has no field|error: .* is not in scope")
+
+# What it says where a fact fails: what is to be proved is another thing than what the proof shows, or does not follow, or rests
+# on a law that fails.
+FACT = re.compile(
+    "the two (types|values)|does not follow|no proof of|expected type|give a proof of that|does not close|was not admitted"
+)
 
 # What it says of a function whose proof cites one that is not proved: that says nothing of its own answer.
 CITED = re.compile("`(close|met)` was not admitted|which is not proved$")
@@ -206,13 +212,13 @@ def refused_in(name, said):
 
 
 def fails_itself(name, crate, function, said):
-    """Whether the function is refused for its own answer, and not only for what it calls."""
+    """Whether the function is refused because a fact of its own fails, and not only for what it calls."""
     file = proof(crate, function)
     if file.is_file():
         reasons = re.findall(rf"^{re.escape(str(file.with_suffix('')))}\S*: error: (.*)$", said, re.M)
     else:
         reasons = re.findall(rf"^fn {name}::{function}: (.*)$", said, re.M)
-    return any(not CITED.search(reason) for reason in reasons)
+    return any(FACT.search(reason) and not CITED.search(reason) for reason in reasons)
 
 
 def faults(name, crate, group, status, said):
@@ -227,7 +233,7 @@ def faults(name, crate, group, status, said):
     found += [f"{function} is not proved, and no edit names it" for function in sorted(refused - named)]
     wrong = set().union(*(edit.wrong for edit in group)) & refused
     cited = [function for function in sorted(wrong) if not fails_itself(name, crate, function, said)]
-    return found + [f"{function} is refused for what it calls, and not for its own answer" for function in cited]
+    return found + [f"{function} is not refused for a fact of its own" for function in cited]
 
 
 def try_group(prover, folder, name, number, group):

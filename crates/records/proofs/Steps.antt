@@ -1,4 +1,4 @@
--- The crate's functions, each called in one step of a walk (`Calls.antt`): a name that ends in -step is for a walk over a `&mut [Arena]`, one in -pass for a walk over a `&[Arena]`.
+-- The functions of the crate's root, each called in one step of a walk (`Calls.antt`): a name that ends in -step is for a walk over a `&mut [Arena]`, one in -pass for a walk over a `&[Arena]`.
 --     blank-step, count-step, count-pass, load-or-step, load-or-pass, store-if-step
 -- Assumes `Given`, the callee's theorem, and that the table of calls is monotone under a frame.
 use mathlib.Core.Path.{_≡_, refl, sym, _∙_, ap, subst}

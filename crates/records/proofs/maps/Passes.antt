@@ -1,4 +1,4 @@
--- The crate's functions, each called in one step of a walk over a `&[Arena]` (`records::Calls`): run-at-pass, tails-clear-pass.
+-- The functions of `records::maps`, each called in one step of a walk over a `&[Arena]` (`records::Calls`): run-at-pass, tails-clear-pass.
 -- Assumes `Given`, the callee's theorem, and that the table of calls is monotone under a frame.
 use mathlib.Core.Path.{_≡_, refl, sym, ap, subst, _∙_}
 use Prim.Native.Nat.{ℕ, _<_, _≤_, _^_}

@@ -13,7 +13,7 @@ use Rattle.layer.specs.declared.Settings.{Settings}
 use Rattle.layer.specs.declared.State.{State}
 use Rattle.layer.specs.World.{worldOf, Leaves}
 use Rattle.layer.specs.Table.{at}
-use Rattle.layer.specs.Step.{adopt, step}
+use Rattle.layer.specs.Step.{adopt, step, act, rules}
 use Rattle.judge.specs.Scan.{hit, scanOf}
 use Rattle.registers.specs.Core.{storedAt, stampsWith}
 use Rattle.registers.proofs.DecisionLaws.{either}
@@ -67,7 +67,7 @@ module _ (S : ℕ) (l : List Arena) (stamps : List ℕ) (state : State) (ns : �
     adopt-stamps w e h = adopt-lent (subst (λ (n : ℕ). n < 32) (e .1) (stamped-below grew (w .id) (subst (λ (n : ℕ). n < 32) (e .3) h)))
 
     pub adopt-done : (w : Writing) → length l < 2 ^ 64 → AdoptWrites S l (length stamps) state (settings .page) address size w
-        → Leaves (step S (worldOf l stamps state) ns settings (adopt address size)) (w .reply) (set l (recordPlace (w .id)) (w .arena)) (stampsWith stamps (w .stamped))
+        → Leaves (rules S (worldOf l stamps state) ns settings (act (adopt address size))) (w .reply) (set l (recordPlace (w .id)) (w .arena)) (stampsWith stamps (w .stamped))
     unfolding scanOf hit
     adopt-done w fits e =
         as-left _ _ _ _

@@ -4,7 +4,7 @@ ghost use mathlib.Core.Path.{_≡_};
 ghost use Prim.Native.Nat.{_/_, _<_};
 ghost use Rattle.judge.specs.declared.Query.the-variants.{Meets, Grows};
 ghost use Rattle.layer.specs.World.{worldOf, Leaves};
-ghost use Rattle.layer.specs.Step.{adopt, step};
+ghost use Rattle.layer.specs.Step.{adopt, step, act};
 ghost use Rattle.registering.specs.Adopting.{adoptStamped};
 ghost use Rattle.entry.specs.Places.{writingOf};
 ghost use Rattle.adopt_os_block.specs.Writes.{AdoptWrites};
@@ -77,7 +77,7 @@ pub fn adopt_os_block(
     address: u64,
     size: u64,
 ) -> Reply
-    ensures { λ r. ⌜ Leaves (step 33554432 (worldOf (now (records .entry)) (now (stamps .entry)) state) ns settings (adopt address size)) r (now (records .exit)) (now (stamps .exit)) ⌝ }
+    ensures { λ r. ⌜ Leaves (step (worldOf (now (records .entry)) (now (stamps .entry)) state) ns settings (act (adopt address size))) r (now (records .exit)) (now (stamps .exit)) ⌝ }
 {
     let page = entry::page_of(settings);
     let w = adopt_writing(records, stamps.len(), state, page, address, size);

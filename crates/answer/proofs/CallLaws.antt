@@ -25,7 +25,7 @@ use Rattle.layer.specs.declared.Kind.the-variants.{ForCommit, ForPurge, ForMemo
 use Rattle.layer.specs.World.{Outcome, stateOf, worldOf, replyOf, Leaves}
 use Rattle.layer.specs.Table.{at, soundTable, soundLent}
 use Rattle.layer.specs.Answering.{isFor, counted, commitArena, commitReply, answerPurge, answerOf}
-use Rattle.layer.specs.Step.{answer, step}
+use Rattle.layer.specs.Step.{answer, step, rules}
 use Rattle.sweeps.specs.Core.{nextOf, stayArena, isAsked}
 use Rattle.questions.specs.Gate.{gated}
 use Rattle.questions.specs.Commits.{committingId, committingStart, committingLength}
@@ -198,6 +198,6 @@ comes S l stamps ok s kind granted base commit purge memory =
 -- the answer behind row 1 is the layer's step
 pub answer-is : (S : ℕ) (l : List Arena) (stamps : List ℕ) (s : State) (ns : ℕ) (settings : Settings) (kind : Kind) (granted : Bool) (base : ℕ)
     → answerOn S l stamps (soundLent S l (length stamps) s (settings .page)) s kind granted base
-    ≡ step S (worldOf l stamps s) ns settings (answer kind granted base)
-unfolding step
+    ≡ rules S (worldOf l stamps s) ns settings (answer kind granted base)
+unfolding rules
 answer-is S l stamps s ns settings kind granted base = refl

@@ -47,7 +47,7 @@ pub fn answer(
     granted: bool,
     base: u64,
 ) -> Reply
-    ensures { λ r. ⌜ Leaves (step 33554432 (worldOf (now (records .entry)) (now (stamps .entry)) state) ns settings (answer kind granted base)) r (now (records .exit)) (now (stamps .exit)) ⌝ }
+    ensures { λ r. ⌜ Leaves (step (worldOf (now (records .entry)) (now (stamps .entry)) state) ns settings (answer kind granted base)) r (now (records .exit)) (now (stamps .exit)) ⌝ }
 {
     let ok = table::row_one(records, stamps.len(), state, settings.page, CHUNK);
     answer_on(records, stamps, ok, state, kind, granted, base, CHUNK)

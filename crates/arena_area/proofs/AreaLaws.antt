@@ -20,7 +20,7 @@ use Rattle.layer.specs.declared.Answer.{Answer}
 use Rattle.layer.specs.declared.Answer.the-variants.{Area}
 use Rattle.layer.specs.World.{replyOf, worldOf, reply, after, turnDown}
 use Rattle.layer.specs.Table.{at, findArena, soundTable, soundLent}
-use Rattle.layer.specs.Step.{owns, area, areaOf, stepOn, step}
+use Rattle.layer.specs.Step.{owns, area, areaOf, stepOn, step, query, rules}
 use Rattle.judge.specs.declared.Query.the-variants.{Holds}
 use Rattle.judge.specs.Scan.{hit, scanOf}
 use Rattle.table.proofs.TableLaws.{few-at}
@@ -34,12 +34,12 @@ module _ (S : ℕ) (l : List Arena) (stamps : List ℕ) (state : State) (ns : �
 
   -- ---- owns
 
-  pub owns-step : (address : ℕ) → ownsReply passes state (scanOf S l (lookedAt passes state) (Holds address)) ≡ replyOf (step S (worldOf l stamps state) ns settings (owns address))
-  unfolding step scanOf hit findArena
+  pub owns-step : (address : ℕ) → ownsReply passes state (scanOf S l (lookedAt passes state) (Holds address)) ≡ replyOf (rules S (worldOf l stamps state) ns settings (query (owns address)))
+  unfolding rules scanOf hit findArena
   owns-step address = go passes
     where
       go : (b : Bool) → ownsReply b state (scanOf S l (lookedAt b state) (Holds address))
-          ≡ replyOf (cond b (stepOn S l stamps (state .count) (state .mark) (state .question) ns settings (owns address)) (after (turnDown Broken state) l stamps))
+          ≡ replyOf (cond b (stepOn S l stamps (state .count) (state .mark) (state .question) ns settings (query (owns address))) (after (turnDown Broken state) l stamps))
       go true = refl
       go false = refl
 
@@ -64,11 +64,11 @@ module _ (S : ℕ) (l : List Arena) (stamps : List ℕ) (state : State) (ns : �
   placed (pos i) k h = refl
   placed (negsuc i) k h = ap (λ (b : Bool). cond b (Area (at l 32 .base) (bytesOf S (at l 32))) (Area 0 0)) (past k h)
 
-  pub area-step : (id : ℤ) → areaReply S passes state (placeOf id) (at l (placeOf id)) ≡ replyOf (step S (worldOf l stamps state) ns settings (area id))
-  unfolding step
+  pub area-step : (id : ℤ) → areaReply S passes state (placeOf id) (at l (placeOf id)) ≡ replyOf (rules S (worldOf l stamps state) ns settings (query (area id)))
+  unfolding rules
   area-step id = go passes (λ e. sound-count S l (length stamps) state (settings .page) e)
     where
       go : (b : Bool) → (b ≡ true → state .count ≤ 32) → areaReply S b state (placeOf id) (at l (placeOf id))
-          ≡ replyOf (cond b (stepOn S l stamps (state .count) (state .mark) (state .question) ns settings (area id)) (after (turnDown Broken state) l stamps))
+          ≡ replyOf (cond b (stepOn S l stamps (state .count) (state .mark) (state .question) ns settings (query (area id))) (after (turnDown Broken state) l stamps))
       go true h = ap (λ (a : Answer). reply a state) (placed id (state .count) (h refl))
       go false h = refl

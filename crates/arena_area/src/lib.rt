@@ -6,7 +6,7 @@ ghost use Prim.Native.Nat.{_<_, _≤_};
 ghost use Rattle.judge.specs.declared.Query.the-variants.{Holds};
 ghost use Rattle.layer.specs.Table.{isAt};
 ghost use Rattle.layer.specs.World.{replyOf, worldOf};
-ghost use Rattle.layer.specs.Step.{owns, area, step};
+ghost use Rattle.layer.specs.Step.{owns, area, step, query};
 ghost use Rattle.arena_area.specs.Asked.{lookedAt, ownsReply, placeOf, areaAnswer, areaReply};
 use arena::Arena;
 use judge::Query;
@@ -60,7 +60,7 @@ pub fn owns(
     settings: Settings,
     address: u64,
 ) -> Reply
-    ensures { λ r. ⌜ r ≡ replyOf (step 33554432 (worldOf (now (records .entry)) (now (stamps .entry)) state) ns settings (owns address)) ⌝ }
+    ensures { λ r. ⌜ r ≡ replyOf (step (worldOf (now (records .entry)) (now (stamps .entry)) state) ns settings (query (owns address))) ⌝ }
 {
     let page = entry::page_of(settings);
     let ok = table::row_one(records, stamps.len(), state, page, CHUNK);
@@ -118,7 +118,7 @@ pub fn arena_area(
     settings: Settings,
     id: i32,
 ) -> Reply
-    ensures { λ r. ⌜ r ≡ replyOf (step 33554432 (worldOf (now (records .entry)) (now (stamps .entry)) state) ns settings (area id)) ⌝ }
+    ensures { λ r. ⌜ r ≡ replyOf (step (worldOf (now (records .entry)) (now (stamps .entry)) state) ns settings (query (area id))) ⌝ }
 {
     let page = entry::page_of(settings);
     let ok = table::row_one(records, stamps.len(), state, page, CHUNK);

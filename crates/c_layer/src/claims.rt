@@ -2,7 +2,7 @@
 // and goes back in them with the answer; numbers that are no state's are turned down with 1.
 ghost use mathlib.Core.Path.{_≡_};
 ghost use mathlib.Core.Bool.{true, false};
-ghost use Rattle.layer.specs.Step.{claim};
+ghost use Rattle.layer.specs.Step.{claim, act};
 ghost use Rattle.surface.specs.Replies.{stepNumbers, LeavesNumbers};
 use arena::Arena;
 use surface::StateNumbers;
@@ -19,7 +19,7 @@ pub extern "C" fn sirqobal_chunk_alloc(
     settings: SettingsNumbers,
     id: i32,
 ) -> ReplyNumbers
-    ensures { λ r. ⌜ LeavesNumbers (stepNumbers (now (records .entry)) (now (stamps .entry)) state ns settings (claim id 1 true)) r (now (records .exit)) (now (stamps .exit)) ⌝ }
+    ensures { λ r. ⌜ LeavesNumbers (stepNumbers (now (records .entry)) (now (stamps .entry)) state ns settings (act (claim id 1 true))) r (now (records .exit)) (now (stamps .exit)) ⌝ }
 {
     let ok = surface::is_state(state);
     let s = surface::state_of(state);
@@ -38,7 +38,7 @@ pub extern "C" fn sirqobal_chunk_claim(
     settings: SettingsNumbers,
     id: i32,
 ) -> ReplyNumbers
-    ensures { λ r. ⌜ LeavesNumbers (stepNumbers (now (records .entry)) (now (stamps .entry)) state ns settings (claim id 1 false)) r (now (records .exit)) (now (stamps .exit)) ⌝ }
+    ensures { λ r. ⌜ LeavesNumbers (stepNumbers (now (records .entry)) (now (stamps .entry)) state ns settings (act (claim id 1 false))) r (now (records .exit)) (now (stamps .exit)) ⌝ }
 {
     let ok = surface::is_state(state);
     let s = surface::state_of(state);
@@ -58,7 +58,7 @@ pub extern "C" fn sirqobal_chunk_alloc_n(
     id: i32,
     n: usize,
 ) -> ReplyNumbers
-    ensures { λ r. ⌜ LeavesNumbers (stepNumbers (now (records .entry)) (now (stamps .entry)) state ns settings (claim id n true)) r (now (records .exit)) (now (stamps .exit)) ⌝ }
+    ensures { λ r. ⌜ LeavesNumbers (stepNumbers (now (records .entry)) (now (stamps .entry)) state ns settings (act (claim id n true))) r (now (records .exit)) (now (stamps .exit)) ⌝ }
 {
     let ok = surface::is_state(state);
     let s = surface::state_of(state);

@@ -1,7 +1,7 @@
 // The C surface of the layer: registering memory. include/sirqobal.h declares it. The state comes in
 // numbers, and goes back in them with the answer; numbers that are no state's are turned down with 1.
 ghost use mathlib.Core.Path.{_≡_};
-ghost use Rattle.layer.specs.Step.{reserve, manage, adopt};
+ghost use Rattle.layer.specs.Step.{reserve, manage, adopt, act};
 ghost use Rattle.surface.specs.Replies.{stepNumbers, LeavesNumbers};
 use arena::Arena;
 use surface::StateNumbers;
@@ -21,7 +21,7 @@ pub extern "C" fn sirqobal_reserve_os_memory_ex(
     allow_large: bool,
     exclusive: bool,
 ) -> ReplyNumbers
-    ensures { λ r. ⌜ LeavesNumbers (stepNumbers (now (records .entry)) (now (stamps .entry)) state ns settings (reserve size commit «allow_large» exclusive)) r (now (records .exit)) (now (stamps .exit)) ⌝ }
+    ensures { λ r. ⌜ LeavesNumbers (stepNumbers (now (records .entry)) (now (stamps .entry)) state ns settings (act (reserve size commit «allow_large» exclusive))) r (now (records .exit)) (now (stamps .exit)) ⌝ }
 {
     let ok = surface::is_state(state);
     let s = surface::state_of(state);
@@ -59,7 +59,7 @@ pub extern "C" fn sirqobal_manage_os_memory_ex(
     mapped: bool,
     reserved: bool,
 ) -> ReplyNumbers
-    ensures { λ r. ⌜ LeavesNumbers (stepNumbers (now (records .entry)) (now (stamps .entry)) state ns settings (manage start size exclusive node mapped reserved)) r (now (records .exit)) (now (stamps .exit)) ⌝ }
+    ensures { λ r. ⌜ LeavesNumbers (stepNumbers (now (records .entry)) (now (stamps .entry)) state ns settings (act (manage start size exclusive node mapped reserved))) r (now (records .exit)) (now (stamps .exit)) ⌝ }
 {
     let ok = surface::is_state(state);
     let s = surface::state_of(state);
@@ -94,7 +94,7 @@ pub extern "C" fn sirqobal_adopt_os_block(
     address: u64,
     size: u64,
 ) -> ReplyNumbers
-    ensures { λ r. ⌜ LeavesNumbers (stepNumbers (now (records .entry)) (now (stamps .entry)) state ns settings (adopt address size)) r (now (records .exit)) (now (stamps .exit)) ⌝ }
+    ensures { λ r. ⌜ LeavesNumbers (stepNumbers (now (records .entry)) (now (stamps .entry)) state ns settings (act (adopt address size))) r (now (records .exit)) (now (stamps .exit)) ⌝ }
 {
     let ok = surface::is_state(state);
     let s = surface::state_of(state);

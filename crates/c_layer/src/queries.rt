@@ -2,7 +2,7 @@
 // comes in numbers, and goes back in them with the answer; numbers that are no state's are turned down
 // with 1.
 ghost use mathlib.Core.Path.{_≡_};
-ghost use Rattle.layer.specs.Step.{owns, area};
+ghost use Rattle.layer.specs.Step.{owns, area, query};
 ghost use Rattle.surface.specs.Replies.{stepNumbers};
 use arena::Arena;
 use surface::StateNumbers;
@@ -19,7 +19,7 @@ pub extern "C" fn sirqobal_owns(
     settings: SettingsNumbers,
     address: u64,
 ) -> ReplyNumbers
-    ensures { λ r. ⌜ r ≡ stepNumbers (now (records .entry)) (now (stamps .entry)) state ns settings (owns address) .reply ⌝ }
+    ensures { λ r. ⌜ r ≡ stepNumbers (now (records .entry)) (now (stamps .entry)) state ns settings (query (owns address)) .reply ⌝ }
 {
     let ok = surface::is_state(state);
     let s = surface::state_of(state);
@@ -38,7 +38,7 @@ pub extern "C" fn sirqobal_arena_area(
     settings: SettingsNumbers,
     id: i32,
 ) -> ReplyNumbers
-    ensures { λ r. ⌜ r ≡ stepNumbers (now (records .entry)) (now (stamps .entry)) state ns settings (area id) .reply ⌝ }
+    ensures { λ r. ⌜ r ≡ stepNumbers (now (records .entry)) (now (stamps .entry)) state ns settings (query (area id)) .reply ⌝ }
 {
     let ok = surface::is_state(state);
     let s = surface::state_of(state);

@@ -2,7 +2,7 @@
 // comes in numbers, and goes back in them with the answer; numbers that are no state's are turned down
 // with 1.
 ghost use mathlib.Core.Path.{_≡_};
-ghost use Rattle.layer.specs.Step.{release, sweep};
+ghost use Rattle.layer.specs.Step.{release, sweep, act};
 ghost use Rattle.surface.specs.Told.{toldOf};
 ghost use Rattle.surface.specs.Replies.{stepNumbers, LeavesNumbers};
 use arena::Arena;
@@ -23,7 +23,7 @@ pub extern "C" fn sirqobal_chunk_release(
     told: i32,
     pending: bool,
 ) -> ReplyNumbers
-    ensures { λ r. ⌜ LeavesNumbers (stepNumbers (now (records .entry)) (now (stamps .entry)) state ns settings (release address n (toldOf told) pending)) r (now (records .exit)) (now (stamps .exit)) ⌝ }
+    ensures { λ r. ⌜ LeavesNumbers (stepNumbers (now (records .entry)) (now (stamps .entry)) state ns settings (act (release address n (toldOf told) pending))) r (now (records .exit)) (now (stamps .exit)) ⌝ }
 {
     let ok = surface::is_state(state);
     let s = surface::state_of(state);
@@ -43,7 +43,7 @@ pub extern "C" fn sirqobal_purge_due(
     settings: SettingsNumbers,
     force: bool,
 ) -> ReplyNumbers
-    ensures { λ r. ⌜ LeavesNumbers (stepNumbers (now (records .entry)) (now (stamps .entry)) state ns settings (sweep force)) r (now (records .exit)) (now (stamps .exit)) ⌝ }
+    ensures { λ r. ⌜ LeavesNumbers (stepNumbers (now (records .entry)) (now (stamps .entry)) state ns settings (act (sweep force))) r (now (records .exit)) (now (stamps .exit)) ⌝ }
 {
     let ok = surface::is_state(state);
     let s = surface::state_of(state);

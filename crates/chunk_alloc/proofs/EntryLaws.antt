@@ -26,7 +26,7 @@ use Rattle.layer.specs.declared.Reply.{Reply}
 use Rattle.layer.specs.World.{Outcome, worldOf, replyOf, Leaves, turnDown, calm}
 use Rattle.layer.specs.Table.{at, isAt, soundLent}
 use Rattle.layer.specs.Claiming.{eligible, asksCommit, grantArena, grantReply, missReply}
-use Rattle.layer.specs.Step.{claim, step}
+use Rattle.layer.specs.Step.{claim, step, act, rules}
 use Rattle.judge.specs.declared.Query.the-variants.{Serves}
 use Rattle.judge.specs.Scan.{hit, scanOf}
 use Rattle.claims.specs.Core.{claimCount, runReply, runArena, searchReply, searchArena, claimReply}
@@ -166,7 +166,7 @@ module _ (S : ℕ) (l : List Arena) (stamps : List ℕ) (state : State) (setting
         (served f refl)
 
     -- the reply and the table
-    pub claimed : length l < 2 ^ 64 → (ns : ℕ) → Leaves (step S (worldOf l stamps state) ns settings (claim id n commits)) (claimAnswer S ok state settings id n commits f g) (taken f) stamps
+    pub claimed : length l < 2 ^ 64 → (ns : ℕ) → Leaves (rules S (worldOf l stamps state) ns settings (act (claim id n commits))) (claimAnswer S ok state settings id n commits f g) (taken f) stamps
     unfolding scanOf hit
     claimed few ns =
         let e = sym (claim-step-set S l stamps (state .count) (state .mark) (state .question) settings id n commits ns) in

@@ -39,7 +39,7 @@ use Rattle.layer.specs.declared.State.{State}
 use Rattle.layer.specs.declared.Settings.{Settings}
 use Rattle.layer.specs.declared.Reply.{Reply}
 use Rattle.layer.specs.World.{worldOf}
-use Rattle.layer.specs.Step.{claim, step}
+use Rattle.layer.specs.Step.{claim, step, act}
 use Rattle.layer.proofs.State as Z
 use Rattle.layer.proofs.State.Laws as Z′
 use Rattle.layer.proofs.Settings as Y
@@ -148,11 +148,11 @@ module _ {M : Type 1} {𝓤 : URA M} {H : Heap 𝓤} {A : Atoms 𝓤} {K : Type 
   pub claim-step : K → Site K W Γ C E #chunk-alloc·claim-at xs G after → (mem : Memory → SProp 𝓤) (run : Routine → Fun 𝓤) → Triple 𝓤 (C #chunk-alloc·claim-at) (Claim 𝓤 H A mem run)
       → (L L′ : Loan) (ys : List Arena) (us : List ℕ) → (s : State) (vs : Val) → Is Z.the-row s (vs ∷ []) → (c : Settings) (vc : Val) → Is Y.the-row c (vc ∷ []) → (id : ℤ) (vid : Val) → Is i32 id (vid ∷ []) → (n : ℕ) → n < 2 ^ 64 → (w : Bool)
       → ((h : Item 𝓤) → Opds K W (h ∷ Γ) E xs (sliceOf L ∷ sliceOf L′ ∷ vs ∷ vc ∷ vid ∷ vint w64 n ∷ vbool w ∷ []))
-      → ((v : Val) (r : Reply) (zs : List Arena) (ts : List ℕ) → Is P.the-row r (v ∷ []) → ((ns : ℕ) → Leaves (step 33554432 (worldOf ys us s) ns c (claim id n w)) r zs ts) → length zs ≡ length ys → length ts ≡ length us
+      → ((v : Val) (r : Reply) (zs : List Arena) (ts : List ℕ) → Is P.the-row r (v ∷ []) → ((ns : ℕ) → Leaves (step (worldOf ys us s) ns c (act (claim id n w))) r zs ts) → length zs ≡ length ys → length ts ≡ length us
       → Seq K W ((‵ (lent T.the-row L zs) ⊛ (‵ (lent u32 L′ ts) ⊛ i)) ∷ Γ) (after v))
       → Seq K W ((‵ (lent T.the-row L ys) ⊛ (‵ (lent u32 L′ us) ⊛ i)) ∷ Γ) G
   claim-step t site mem run known L L′ ys us s vs gs c vc gc id vid gid n fn w ops k =
       mut2-call t site T.the-row u32 L L′ P.the-row (plain (λ _. Z.the-row) ∷ plain (λ _. Y.the-row) ∷ plain (λ _. i32) ∷ plain (λ _. usize) ∷ plain (λ _. bool) ∷ []) (yes, (yes, (yes, (yes, (yes, tt))))) (claim′.clauses 𝓤 H A mem run) known ys us
       (λ _. (s, (c, (id, (n, (w, tt)))))) (λ _. (vs ∷ [], (vc ∷ [], (vid ∷ [], (vint w64 n ∷ [], (vbool w ∷ [], tt))))))
       (λ _. owns-make 𝓤 H A (Z.the-row ∷ Y.the-row ∷ i32 ∷ usize ∷ bool ∷ []) (Ises (Z.the-row ∷ Y.the-row ∷ i32 ∷ usize ∷ bool ∷ [])) (LL.makes Z.the-type Z′.the-plain 𝓤 H A, (LL.makes Y.the-type Y′.the-plain 𝓤 H A, (sint-makes 𝓤 H A W w32, (uint-makes 𝓤 H A W w64, (bool-makes 𝓤 H A W, tt))))) (s, (c, (id, (n, (w, tt))))) (vs ∷ [], (vc ∷ [], (vid ∷ [], (vint w64 n ∷ [], (vbool w ∷ [], tt))))) (gs, (gc, (gid, ((refl, fn), (refl, tt)))))) (λ _ _ _. tt) (λ _ _ _. id⊢ 𝓤 _)
-      (λ r zs ts. (ns : ℕ) → Leaves (step 33554432 (worldOf ys us s) ns c (claim id n w)) r zs ts) (λ _ _ _ r ws. id⊢ 𝓤 _) (λ h _. ops h) (λ v r zs ts is e l l′. k v r zs ts is e l l′)
+      (λ r zs ts. (ns : ℕ) → Leaves (step (worldOf ys us s) ns c (act (claim id n w))) r zs ts) (λ _ _ _ r ws. id⊢ 𝓤 _) (λ h _. ops h) (λ v r zs ts is e l l′. k v r zs ts is e l l′)

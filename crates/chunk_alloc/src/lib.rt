@@ -5,7 +5,7 @@ ghost use mathlib.Core.Bool.{true, false};
 ghost use Prim.Native.Nat.{ℕ};
 ghost use Rattle.judge.specs.declared.Query.the-variants.{Serves};
 ghost use Rattle.layer.specs.World.{worldOf};
-ghost use Rattle.layer.specs.Step.{claim, step};
+ghost use Rattle.layer.specs.Step.{claim, step, act};
 ghost use Rattle.layer.specs.World.{Leaves};
 use arena::Arena;
 use judge::Query;
@@ -31,7 +31,7 @@ fn claim_at(
     n: usize,
     commits: bool,
 ) -> Reply
-    ensures { λ r. ⌜ ((ns : ℕ) → Leaves (step 33554432 (worldOf (now (records .entry)) (now (stamps .entry)) state) ns settings (claim id n commits)) r (now (records .exit)) (now (stamps .exit))) ⌝ }
+    ensures { λ r. ⌜ ((ns : ℕ) → Leaves (step (worldOf (now (records .entry)) (now (stamps .entry)) state) ns settings (act (claim id n commits))) r (now (records .exit)) (now (stamps .exit))) ⌝ }
 {
     let page = entry::page_of(settings);
     let ok = table::row_one(records, stamps.len(), state, page, CHUNK);
@@ -52,7 +52,7 @@ pub fn chunk_alloc(
     settings: Settings,
     id: i32,
 ) -> Reply
-    ensures { λ r. ⌜ Leaves (step 33554432 (worldOf (now (records .entry)) (now (stamps .entry)) state) ns settings (claim id 1 true)) r (now (records .exit)) (now (stamps .exit)) ⌝ }
+    ensures { λ r. ⌜ Leaves (step (worldOf (now (records .entry)) (now (stamps .entry)) state) ns settings (act (claim id 1 true))) r (now (records .exit)) (now (stamps .exit)) ⌝ }
 {
     claim_at(records, stamps, state, settings, id, 1, true)
 }
@@ -66,7 +66,7 @@ pub fn chunk_claim(
     settings: Settings,
     id: i32,
 ) -> Reply
-    ensures { λ r. ⌜ Leaves (step 33554432 (worldOf (now (records .entry)) (now (stamps .entry)) state) ns settings (claim id 1 false)) r (now (records .exit)) (now (stamps .exit)) ⌝ }
+    ensures { λ r. ⌜ Leaves (step (worldOf (now (records .entry)) (now (stamps .entry)) state) ns settings (act (claim id 1 false))) r (now (records .exit)) (now (stamps .exit)) ⌝ }
 {
     claim_at(records, stamps, state, settings, id, 1, false)
 }
@@ -81,7 +81,7 @@ pub fn chunk_alloc_n(
     id: i32,
     n: usize,
 ) -> Reply
-    ensures { λ r. ⌜ Leaves (step 33554432 (worldOf (now (records .entry)) (now (stamps .entry)) state) ns settings (claim id n true)) r (now (records .exit)) (now (stamps .exit)) ⌝ }
+    ensures { λ r. ⌜ Leaves (step (worldOf (now (records .entry)) (now (stamps .entry)) state) ns settings (act (claim id n true))) r (now (records .exit)) (now (stamps .exit)) ⌝ }
 {
     claim_at(records, stamps, state, settings, id, n, true)
 }

@@ -17,7 +17,7 @@ use Rattle.layer.specs.declared.State.{State}
 use Rattle.layer.specs.declared.Reply.{Reply}
 use Rattle.layer.specs.World.{Outcome, reply, worldOf, after}
 use Rattle.layer.specs.Table.{at, soundLent}
-use Rattle.layer.specs.Step.{release, step}
+use Rattle.layer.specs.Step.{release, step, act, rules}
 use Rattle.judge.specs.declared.Query.the-variants.{Holds}
 use Rattle.judge.specs.declared.Head.{Head}
 use Rattle.judge.specs.Heads.{headOf, headed}
@@ -85,7 +85,7 @@ module _ (S : ℕ) (l : List Arena) (stamps : List ℕ) (state : State) (setting
     stampsOf = stampsAfter S stamps address n pending (nowMs ns) foundOf (headed headAt)
 
     abbrev pub stepOf : Outcome
-    stepOf = step S (worldOf l stamps state) ns settings (release address n told pending)
+    stepOf = rules S (worldOf l stamps state) ns settings (act (release address n told pending))
 
     -- as many records as before
     pub as-many : length recordsOf ≡ length l

@@ -3,7 +3,7 @@
 ghost use mathlib.Core.Path.{_≡_};
 ghost use Rattle.clock.specs.Clock.{nowMs, delayMs};
 ghost use Rattle.layer.specs.World.{worldOf, Leaves};
-ghost use Rattle.layer.specs.Step.{release, step};
+ghost use Rattle.layer.specs.Step.{release, step, act};
 ghost use Rattle.judge.specs.declared.Query.the-variants.{Holds};
 use arena::Arena;
 use arena::Commitment;
@@ -40,7 +40,7 @@ pub fn chunk_release(
     told: Commitment,
     pending: bool,
 ) -> Reply
-    ensures { λ r. ⌜ Leaves (step 33554432 (worldOf (now (records .entry)) (now (stamps .entry)) state) ns settings (release address n told pending)) r (now (records .exit)) (now (stamps .exit)) ⌝ }
+    ensures { λ r. ⌜ Leaves (step (worldOf (now (records .entry)) (now (stamps .entry)) state) ns settings (act (release address n told pending))) r (now (records .exit)) (now (stamps .exit)) ⌝ }
 {
     let ok = table::row_one(
         records,

@@ -30,7 +30,7 @@ use Rattle.layer.specs.declared.Reply.{Reply}
 use Rattle.layer.specs.World.{Outcome, stateOf, worldOf, after, turnDown, calm}
 use Rattle.layer.specs.Table.{at, isAt, soundTable, soundLent}
 use Rattle.layer.specs.Claiming.{eligible, serves, missReply, grantFound, searchAt, searchOf, claimOf}
-use Rattle.layer.specs.Step.{claim, gate, step}
+use Rattle.layer.specs.Step.{claim, gate, step, act, rules}
 use Rattle.judge.specs.declared.Query.the-variants.{Serves}
 use Rattle.judge.specs.Scan.{hit, scanOf}
 use Rattle.registers.specs.Core.{isIdle, storedAt}
@@ -183,8 +183,8 @@ module _ (S : ℕ) (l : List Arena) (stamps : List ℕ) (k : ℕ) (mark : Bool) 
         ∙ ap (λ (x : Reply). after x (stored l n commits (scan (claimCount ok state settings id n))) stamps)
         (sym (reply-searched (scan (claimCount ok state settings id n)) (at l (storedAt (scan (claimCount ok state settings id n)))) z w))
 
-  whole : (ns : ℕ) → step S (worldOf l stamps state) ns settings (claim id n commits) ≡ out (scan (claimCount ok state settings id n))
-  unfolding step
+  whole : (ns : ℕ) → rules S (worldOf l stamps state) ns settings (act (claim id n commits)) ≡ out (scan (claimCount ok state settings id n))
+  unfolding rules
   whole ns = by-ok ok refl
     where
       by-question : ok ≡ true → (b : Bool) → isIdle q ≡ b
@@ -193,7 +193,7 @@ module _ (S : ℕ) (l : List Arena) (stamps : List ℕ) (k : ℕ) (mark : Bool) 
       by-question e false i =
           stops q _ _ i ∙ unsearched (turnDown QuestionOpen state) (count-asked ok state settings id n e i) (reply-asked Nothing (at l 32) e i)
 
-      by-ok : (b : Bool) → ok ≡ b → step S (worldOf l stamps state) ns settings (claim id n commits) ≡ out (scan (claimCount ok state settings id n))
+      by-ok : (b : Bool) → ok ≡ b → rules S (worldOf l stamps state) ns settings (act (claim id n commits)) ≡ out (scan (claimCount ok state settings id n))
       by-ok true e = when _ _ _ e ∙ by-question e (isIdle q) refl
       by-ok false e = unless _ _ _ e ∙ unsearched (turnDown Broken state) (count-broken ok state settings id n e) (reply-broken Nothing (at l 32) e)
 
@@ -219,7 +219,7 @@ module _ (S : ℕ) (l : List Arena) (stamps : List ℕ) (k : ℕ) (mark : Bool) 
       → let state = stateOf k mark q in
       let ok = soundLent S l (length stamps) state (settings .page) in
       let f = least (λ i. hits id n l i) 0 (claimCount ok state settings id n) in
-      step S (worldOf l stamps state) ns settings (claim id n commits)
+      rules S (worldOf l stamps state) ns settings (act (claim id n commits))
       ≡ after (claimReply S ok state settings id n commits f (at l (storedAt f))) (stored l n commits f) stamps
   claim-step ns = whole S l stamps k mark q settings id n commits ns
 
@@ -229,7 +229,7 @@ module _ (S : ℕ) (l : List Arena) (stamps : List ℕ) (k : ℕ) (mark : Bool) 
       let ok = soundLent S l (length stamps) state (settings .page) in
       let f = least (λ i. hits id n l i) 0 (claimCount ok state settings id n) in
       let a = at l (storedAt f) in
-      step S (worldOf l stamps state) ns settings (claim id n commits)
+      rules S (worldOf l stamps state) ns settings (act (claim id n commits))
       ≡ after (claimReply S ok state settings id n commits f a) (set l (storedAt f) (searchArena a n commits f)) stamps
   claim-step-set ns =
       let state = stateOf k mark q in

@@ -1,205 +1,266 @@
--- Demand 3, over every sequence of calls from the empty layer. Assumes nothing.
+-- Demand 3, over every history from the empty layer, of every layer that answers and leaves what the rules say: what is told is what the book says. Assumes nothing.
 use mathlib.Core.Path.{_≡_, refl, sym, ap, ap₂, _∙_, subst}
-use mathlib.Core.Bool.{Bool, true, false, cond, not, true≢false}
+use mathlib.Core.Bool.{Bool, true, false, cond, _&&_, true≢false}
 use mathlib.Core.List.{List, [], _∷_, _++_, append-assoc, append-nil}
-use Prim.Native.Nat.{ℕ, _<_}
-use native.Mathlib.Omega.{arith}
-use lib.ListN.{length-replicate}
-use Rattle.words.proofs.Tests.{by-cond, unless}
-use Rattle.runs.specs.Lowest.{lowestRun}
-use Rattle.layer.specs.declared.Settings.{Settings}
+use mathlib.Core.Logic.{inl, inr}
+use Prim.Native.Nat.{ℕ}
+use borrow.Author.Tests.{ne-eqb}
+use lib.Dec.{eqb}
+use lib.IntN.{ℤ, pos, negsuc}
+use lib.ListN.{length}
+use Rattle.words.proofs.Tests.{by-cond, when, unless}
+use Rattle.arena.specs.declared.Arena.{Arena}
+use Rattle.layer.specs.declared.Question.{Question}
+use Rattle.layer.specs.declared.Question.the-variants.{Idle, Committing, Purging, Reserving, GivingBack}
+use Rattle.layer.specs.declared.Waiting.the-variants.{Reserve, Claim}
+use Rattle.layer.specs.declared.Kind.{Kind}
+use Rattle.layer.specs.declared.Kind.the-variants.{ForCommit, ForPurge, ForMemory, ForGiveBack, ForNone}
 use Rattle.layer.specs.declared.Answer.{Answer}
-use Rattle.layer.specs.World.{World, Outcome, empty}
-use Rattle.layer.specs.Table.{at, sound}
-use Rattle.layer.specs.Step.{Call, stepOn, step}
-use Rattle.layer.proofs.Kept.{SoundWorld}
-use Rattle.layer.proofs.Stepped.{step-on-kept}
-use Rattle.layer.specs.Book.{Book, Fed, Say, Choice, opened, enter, enterAll, sayAll}
-use Rattle.layer.specs.Sequence.{Marked, Trail, outcomeOf, isBroken, brokenAt, askerAfter, next, after, start, Lent, Role, aside, role, roleOf, fedOf, toldOf, fed, told, View, calm, viewOf, owedIn, owed, Premises, Premise, Opens, asksFor}
-use Rattle.layer.specs.Demand.{opening, Course, Demand3}
-use Rattle.layer.proofs.Shown.{bookIn, Mine, bookAt, Inv, Fits}
+use Rattle.layer.specs.declared.Answer.the-variants.{Refused, Asks, Registered, Claimed, Released, Swept, Owns, Area}
+use Rattle.layer.specs.World.{Outcome}
+use Rattle.layer.specs.Table.{at}
+use Rattle.layer.specs.Answering.{isFor}
+use Rattle.layer.specs.Step.{Act, reserve, manage, adopt, claim, release, sweep, Call, act, query, answer, step}
+use Rattle.layer.specs.Book.{Book, lowest, Fed, claims, Say, enter, enterAll, sayAll}
+use Rattle.layer.specs.History.{Marked, History, begin, next, isSound, Layer, outcomeBy, Lent, Trail, openAt, isIdle, follow, ruled, Entry, claimsAt, releasesAt, entriesOf, entries, said, goesOn, tells, Place, fedAt, isNone, feeds, hears, fedBy, toldBy, standing, Where, place, fed, told, Premises, Keeps}
+use Rattle.layer.specs.Demand.{bookOf, ByTheBook}
+use Rattle.layer.proofs.Shown.{View, calm, committing, purging, viewOf, waitsIn, owedIn, Role, closing, aside, ends, role, fedOf, heard, toldOf, bookAt, owedAt, Inv, Fits}
 use Rattle.layer.proofs.Keeps.{keeps}
-use Rattle.layer.proofs.Outcomes.{New, Tells, names, step-tells, refused-1}
+use Rattle.layer.proofs.Asked.{ServedIn, Asked}
+use Rattle.layer.proofs.Trails.{S, Good, onTrail, gone, follow-sound, follow-not, good-ruled, answers-ruled}
+use Rattle.layer.proofs.Opened.{opening}
 
 -- ---- the book over two lists
 
-module _ (S : ℕ) (choose : Choice) where
-  pub enter-append : (b : Book) (x y : List Fed) → enterAll S choose b (x ++ y) ≡ enterAll S choose (enterAll S choose b x) y
-  enter-append b [] y = refl
-  enter-append b (f ∷ x) y = enter-append (enter S choose b f .book) x y
+pub enter-append : (b : Book) (x y : List Fed) → enterAll b (x ++ y) ≡ enterAll (enterAll b x) y
+enter-append b [] y = refl
+enter-append b (f ∷ x) y = enter-append (enter b f .book) x y
 
-  pub say-append : (b : Book) (x y : List Fed) → sayAll S choose b (x ++ y) ≡ sayAll S choose b x ++ sayAll S choose (enterAll S choose b x) y
-  say-append b [] y = refl
-  say-append b (f ∷ x) y = ap (λ (l : List Say). enter S choose b f .say ∷ l) (say-append (enter S choose b f .book) x y)
+pub say-append : (b : Book) (x y : List Fed) → sayAll b (x ++ y) ≡ sayAll b x ++ sayAll (enterAll b x) y
+say-append b [] y = refl
+say-append b (f ∷ x) y = ap (λ (l : List Say). enter b f .say ∷ l) (say-append (enter b f .book) x y)
 
--- ---- a call that is not refused with 1
+-- ---- an answer says one thing at most, and a call has one entry at most
 
--- the same test on both sides
-pub both-cond : {X Y : Type 0} (R : X → Y → Type 0) (b : Bool) (x x′ : X) (y y′ : Y) → (b ≡ true → R x y) → (b ≡ false → R x′ y′) → R (cond b x x′) (cond b y y′)
-both-cond R true x x′ y y′ f g = f refl
-both-cond R false x x′ y y′ f g = g refl
+said-cases : (P : List Say → Type 0) → P [] → ((s : Say) → P (s ∷ [])) → (r : Answer) → P (said r)
+said-cases P none one (Refused why) = one _
+said-cases P none one (Claimed address fresh committed) = one _
+said-cases P none one Released = one _
+said-cases P none one (Asks ask) = none
+said-cases P none one (Registered id) = none
+said-cases P none one (Swept count) = none
+said-cases P none one (Owns whether) = none
+said-cases P none one (Area base bytes) = none
 
--- it passed row 1
-passes : (S : ℕ) (w : World) (ns : ℕ) (settings : Settings) (c : Call) → isBroken (step S w ns settings c .answer) ≡ false
-    → step S w ns settings c ≡ stepOn S (w .records) (w .stamps) (w .state .count) (w .state .mark) (w .state .question) ns settings c
-unfolding step
-passes S w ns settings c =
-    by-cond (λ (o : Outcome). isBroken (o .answer) ≡ false → o ≡ stepOn S (w .records) (w .stamps) (w .state .count) (w .state .mark) (w .state .question) ns settings c)
-    (sound S w (settings .page)) _ _ (λ e f. refl) (λ e f. absurd (true≢false f))
+no-question : (kind : Kind) → isFor Idle kind ≡ false
+unfolding isFor
+no-question ForCommit = refl
+no-question ForPurge = refl
+no-question ForMemory = refl
+no-question ForGiveBack = refl
+no-question ForNone = refl
 
-module _ (S : ℕ) (t : Trail) (m : Marked) where
-  -- what it is lent is what the last such call left
-  abbrev pub IsLent : Type 0
-  IsLent = brokenAt S m ≡ false → m .lent ≡ t .world
+module _ (a : Place) where
+  hears-one : (e : Entry) (r : Answer) → hears a (e ∷ []) (said r) ≡ heard (fedAt a e ++ []) (said r)
+  hears-one e r = said-cases (λ (ss : List Say). hears a (e ∷ []) ss ≡ heard (fedAt a e ++ []) ss) (none (fedAt a e)) (λ s. one s (fedAt a e)) r
+    where
+      none : (fs : List Fed) → [] ≡ heard (fs ++ []) []
+      none [] = refl
+      none (f ∷ fs) = refl
 
-  abbrev pub onTrail : Outcome
-  onTrail = stepOn S (t .world .records) (t .world .stamps) (t .world .state .count) (t .world .state .mark) (t .world .state .question) (m .ns) (m .settings) (m .call)
+      one : (s : Say) (fs : List Fed) → cond (isNone fs) [] (s ∷ []) ≡ heard (fs ++ []) (s ∷ [])
+      one s [] = refl
+      one s (f ∷ fs) = refl
 
-  pub stands : IsLent → brokenAt S m ≡ false → outcomeOf S m ≡ onTrail
-  stands h e =
-      passes S (m .lent) (m .ns) (m .settings) (m .call) e
-      ∙ ap (λ (w : World). stepOn S (w .records) (w .stamps) (w .state .count) (w .state .mark) (w .state .question) (m .ns) (m .settings) (m .call)) (h e)
+  hears-act : (x : Act) (r : Answer) → hears a (entriesOf x) (said r) ≡ heard (feeds a (entriesOf x)) (said r)
+  hears-act (reserve size commit large exclusive) r = refl
+  hears-act (manage from size exclusive node mapped reserved) r = refl
+  hears-act (adopt address size) r = refl
+  hears-act (claim id n commits) r = hears-one (claimsAt id lowest n) r
+  hears-act (release address n tell pending) r = hears-one (releasesAt address n) r
+  hears-act (sweep force) r = refl
 
--- no call of the program's is refused with 1, so each of its claims and releases there is fed
-pub never-1 : (S p id b n : ℕ) (t : Trail) (m : Marked) → Premises S p id b n t m → m .who ≡ p → brokenAt S m ≡ false
-never-1 S p id b n t m k mine = refused-1 S (m .lent) (m .ns) (m .settings) (m .call) ∙ ap not (k .sound-lent mine)
+  hears-call : (c : Call) (r : Answer) → hears a (entries c) (said r) ≡ heard (feeds a (entries c)) (said r)
+  hears-call (act x) r = hears-act x r
+  hears-call (query c) r = refl
+  hears-call (answer kind accepted base) r = refl
 
-pub lent-append : (S : ℕ) (t : Trail) (x y : List Marked) → Lent S t (x ++ y) → Lent S t x × Lent S (after S t x) y
-lent-append S t [] y h = (tt, h)
-lent-append S t (m ∷ x) y h = let r = lent-append S (next S t m) x y (h .1) in ((h .0, r .0), r .1)
+  -- ---- what waits: the claim whose commit question about the arena is open
 
--- ---- sound tables along a sequence
+  module _ (l : List Arena) (exclusive : at l (a .id) .exclusive ≡ true) where
+    asked-there : (q : Question) (c : Call) → Asked S l q c → isIdle q ≡ false → feeds a (entries c) ≡ waitsIn (viewOf (a .id) q)
+    asked-there Idle c h e = absurd (true≢false e)
+    asked-there (Committing i s n) c h e = ap (λ (x : Call). feeds a (entries x)) (h .2) ∙ go (h .0) (h .3)
+      where
+        go : (id : ℤ) → ServedIn l id i → fedAt a (claimsAt id lowest n) ++ [] ≡ waitsIn (cond (eqb i (a .id)) (committing s n) calm)
+        go (pos x) d = ap (λ (y : ℕ). cond (eqb y (a .id)) (claims lowest n ∷ []) [] ++ []) d ∙ both (eqb i (a .id))
+          where
+            both : (b : Bool) → cond b (claims lowest n ∷ []) [] ++ [] ≡ waitsIn (cond b (committing s n) calm)
+            both true = refl
+            both false = refl
+        go (negsuc x) d = ap (λ (b : Bool). waitsIn (cond b (committing s n) calm)) (sym (ne-eqb i (a .id) (λ f. true≢false (sym exclusive ∙ ap (λ (j : ℕ). at l j .exclusive) (sym f) ∙ d))))
+    asked-there (Purging i j w) c h e = ap (λ (x : Call). feeds a (entries x)) (h .1) ∙ go (eqb i (a .id))
+      where
+        go : (b : Bool) → [] ≡ waitsIn (cond b (purging j) calm)
+        go true = refl
+        go false = refl
+    asked-there (Reserving chunks bytes commit exclusive (Claim n commits)) c h e = ap (λ (x : Call). feeds a (entries x)) (h .1)
+    asked-there (Reserving chunks bytes commit exclusive Reserve) c h e = ap (λ (x : Call). feeds a (entries x)) (h .2)
+    asked-there (GivingBack cause (Claim n commits)) c h e = ap (λ (x : Call). feeds a (entries x)) (h .1)
+    asked-there (GivingBack cause Reserve) c h e = ap (λ (x : Call). feeds a (entries x)) (h .4)
 
-module _ (S : ℕ) (some : 0 < S) where
-  pub sound-next : (t : Trail) (m : Marked) → IsLent S t m → SoundWorld S (t .world) → SoundWorld S (next S t m .world)
-  sound-next t m h s =
-      by-cond (λ (u : Trail). SoundWorld S (u .world)) (brokenAt S m) _ _ (λ e. s)
-      (λ e. subst (λ (o : Outcome). SoundWorld S (o .world)) (sym (stands S t m h e))
-      (step-on-kept S some (t .world .records) (t .world .stamps) (t .world .state .count) (t .world .state .mark) (s .table) (s .stamps) (t .world .state .question) (m .ns) (m .settings) (m .call) (s .question)))
+    -- as many as are owed
+    waits-owed : (q : Question) (c : Call) → Asked S l q c → length (owedIn S (viewOf (a .id) q) (at l (a .id))) ≡ length (cond (isIdle q) [] (feeds a (entries c)))
+    waits-owed q c h = go (isIdle q) refl
+      where
+        owes : (v : View) → length (owedIn S v (at l (a .id))) ≡ length (waitsIn v)
+        owes calm = refl
+        owes (committing s n) = refl
+        owes (purging j) = refl
 
-  pub sound-after : (t : Trail) (ms : List Marked) → Lent S t ms → SoundWorld S (t .world) → SoundWorld S (after S t ms .world)
-  sound-after t [] h s = s
-  sound-after t (m ∷ ms) h s = sound-after (next S t m) ms (h .1) (sound-next t m (h .0) s)
+        idle : (q : Question) → isIdle q ≡ true → viewOf (a .id) q ≡ calm
+        idle Idle e = refl
+        idle (Committing i s n) e = absurd (true≢false (sym e))
+        idle (Purging i j w) e = absurd (true≢false (sym e))
+        idle (Reserving chunks bytes commit alone waiting) e = refl
+        idle (GivingBack cause waiting) e = refl
 
-  pub sound-empty : SoundWorld S empty
-  unfolding empty
-  sound-empty = record {
-    table = record { long = refl; few = omega arith; rows = λ i h. absurd (omega arith); each = λ i h. absurd (omega arith); apart = λ i j h g. absurd (omega arith) };
-    stamps = length-replicate {A = ℕ} 32768 0;
-    question = tt;
+        go : (b : Bool) → isIdle q ≡ b → length (owedIn S (viewOf (a .id) q) (at l (a .id))) ≡ length (cond b [] (feeds a (entries c)))
+        go true e = ap (λ (v : View). length (owedIn S v (at l (a .id)))) (idle q e)
+        go false e = owes (viewOf (a .id) q) ∙ ap length (sym (asked-there q c h e))
+
+    -- an answer tells of what waits, if it is for the question
+    told-answer : (q : Question) (c : Call) (kind : Kind) (r : Answer) → Asked S l q c
+        → cond (isFor q kind) (hears a (entries c) (said r)) [] ≡ toldOf (cond (ends (a .id) q kind) closing aside) r
+    told-answer q c kind r h = go q h
+      where
+        step-by : (q : Question) → isIdle q ≡ false → Asked S l q c → hears a (entries c) (said r) ≡ heard (waitsIn (viewOf (a .id) q)) (said r)
+        step-by q e h = hears-call c r ∙ ap (λ (fs : List Fed). heard fs (said r)) (asked-there q c h e)
+
+        silent : (b : Bool) → _≡_ {A = List Say} (cond b [] []) []
+        silent true = refl
+        silent false = refl
+
+        go : (q : Question) → Asked S l q c → cond (isFor q kind) (hears a (entries c) (said r)) [] ≡ toldOf (cond (ends (a .id) q kind) closing aside) r
+        go Idle h = none kind
+          where
+            none : (kind : Kind) → cond (isFor Idle kind) (hears a (entries c) (said r)) [] ≡ []
+            none kind = ap (λ (b : Bool). cond b (hears a (entries c) (said r)) []) (no-question kind)
+        go (Committing i s n) h = ap (λ (ss : List Say). cond (isFor (Committing i s n) kind) ss []) (step-by (Committing i s n) refl h) ∙ both (isFor (Committing i s n) kind) (eqb i (a .id))
+          where
+            both : (x y : Bool) → cond x (heard (waitsIn (cond y (committing s n) calm)) (said r)) [] ≡ toldOf (cond (x && y) closing aside) r
+            both true true = refl
+            both true false = refl
+            both false y = refl
+        go (Purging i j w) h = ap (λ (ss : List Say). cond (isFor (Purging i j w) kind) ss []) (step-by (Purging i j w) refl h) ∙ both (isFor (Purging i j w) kind) (eqb i (a .id))
+          where
+            both : (x y : Bool) → cond x (heard (waitsIn (cond y (purging j) calm)) (said r)) [] ≡ []
+            both true true = refl
+            both true false = refl
+            both false y = refl
+        go (Reserving chunks bytes commit alone waiting) h =
+            ap (λ (ss : List Say). cond (isFor (Reserving chunks bytes commit alone waiting) kind) ss []) (step-by (Reserving chunks bytes commit alone waiting) refl h) ∙ silent (isFor (Reserving chunks bytes commit alone waiting) kind)
+        go (GivingBack cause waiting) h = ap (λ (ss : List Say). cond (isFor (GivingBack cause waiting) kind) ss []) (step-by (GivingBack cause waiting) refl h) ∙ silent (isFor (GivingBack cause waiting) kind)
+
+-- ---- one call
+
+module _ (p : ℕ) (a : Place) (sized : a .size ≡ S) where
+  abbrev pub InvAt : Trail → Type 0
+  InvAt t = Inv S p (a .id) (a .base) (a .chunks) (t .world .records) (standing t) (openAt t) (t .asker)
+
+  abbrev pub bookIn : Trail → Book
+  bookIn t = bookAt S p (a .id) (a .base) (a .chunks) (t .world .records) (openAt t)
+
+  abbrev pub owed : Trail → List Say
+  owed t = owedAt S p (a .id) (a .base) (a .chunks) (t .world .records) (openAt t)
+
+  -- from t to u by a call that feeds fs and tells ss
+  record Moves (t : Trail) (fs : List Fed) (ss : List Say) (u : Trail) : Type 0 where
+    inv : InvAt u
+    book : bookIn u ≡ enterAll (bookIn t) fs
+    says : owed t ++ sayAll (bookIn t) fs ≡ ss ++ owed u
+
+  fed-role : (q : Question) (c : Call) → feeds a (entries c) ≡ fedOf (role a q c)
+  fed-role q (act x) = refl
+  fed-role q (query c) = refl
+  fed-role q (answer kind accepted base) = by-cond (λ (r : Role). [] ≡ fedOf r) (ends (a .id) q kind) _ _ (λ e. refl) (λ e. refl)
+
+  told-role : (t : Trail) (c : Call) (r : Answer) → Good t → InvAt t → cond (tells t c) (hears a (entries (goesOn t c)) (said r)) [] ≡ toldOf (role a (openAt t) c) r
+  told-role t (act x) r g v = hears-act a x r
+  told-role t (query c) r g v = refl
+  told-role t (answer kind accepted base) r g v = told-answer a (t .world .records) (v .stays .exclusive) (openAt t) (t .asked) kind r (g .asked)
+
+  one : (t : Trail) (m : Marked) (L : Layer) → Good t → InvAt t → Premises p a t m → (isSound m ≡ true → outcomeBy L m ≡ onTrail t m) → Moves t (fedBy a m) (toldBy L a t m) (follow t m)
+  one t m L g v k is = go (isSound m) refl
+    where
+      fits : isSound m ≡ true → Fits S p (a .id) (a .base) (a .chunks) (t .world .records) (openAt t) (m .who) (t .asker) (role a (openAt t) (m .call)) (onTrail t m)
+      fits e =
+          subst (λ (z : ℕ). Fits S p (a .id) (a .base) (a .chunks) (t .world .records) (openAt t) (m .who) (t .asker) (role (record { id = a .id; size = z; base = a .base; chunks = a .chunks; managed = a .managed }) (openAt t) (m .call)) (onTrail t m)) (sym sized)
+          (keeps S p (a .id) (a .base) (a .chunks) (a .managed) (t .world .records) (t .world .stamps) (standing t) (t .world .state .mark) (g .world .table) (m .who) (t .asker) (openAt t) (m .ns) (m .settings) (m .call)
+          (g .world .question) v
+          (subst (λ (z : ℕ). isNone (fedOf (role (record { id = a .id; size = z; base = a .base; chunks = a .chunks; managed = a .managed }) (openAt t) (m .call))) ≡ false → m .who ≡ p) sized
+          (λ f. k .alone (ap isNone (when (isSound m) _ _ e ∙ fed-role (openAt t) (m .call)) ∙ f)))
+          (k .none-open) (λ f. k .agreed f e))
+
+      go : (b : Bool) → isSound m ≡ b → Moves t (fedBy a m) (toldBy L a t m) (follow t m)
+      go true e =
+          let f = fits e in
+          let fs : fedBy a m ≡ fedOf (role a (openAt t) (m .call)) = when (isSound m) _ _ e ∙ fed-role (openAt t) (m .call) in
+          let ss : toldBy L a t m ≡ toldOf (role a (openAt t) (m .call)) (onTrail t m .answer) =
+          ap (λ (b : Bool). cond (b && tells t (m .call)) (hears a (entries (goesOn t (m .call))) (said (outcomeBy L m .answer))) []) e
+          ∙ told-role t (m .call) (outcomeBy L m .answer) g v
+          ∙ ap (λ (o : Outcome). toldOf (role a (openAt t) (m .call)) (o .answer)) (is e) in
+          subst (Moves t (fedBy a m) (toldBy L a t m)) (sym (follow-sound t m g e))
+          (record {
+            inv = f .inv;
+            book = f .book ∙ ap (enterAll (bookIn t)) (sym fs);
+            says = ap (λ (x : List Fed). owed t ++ sayAll (bookIn t) x) fs ∙ f .says ∙ ap (λ (x : List Say). x ++ owed (gone t m (onTrail t m))) (sym ss);
+          })
+      go false e =
+          let fs : fedBy a m ≡ [] = unless (isSound m) _ _ e in
+          let ss : toldBy L a t m ≡ [] = ap (λ (b : Bool). cond (b && tells t (m .call)) (hears a (entries (goesOn t (m .call))) (said (outcomeBy L m .answer))) []) e in
+          subst (Moves t (fedBy a m) (toldBy L a t m)) (sym (follow-not t m e))
+          (record {
+            inv = v;
+            book = ap (enterAll (bookIn t)) (sym fs);
+            says = ap (λ (x : List Fed). owed t ++ sayAll (bookIn t) x) fs ∙ append-nil (owed t) ∙ ap (λ (x : List Say). x ++ owed t) (sym ss);
+          })
+
+  -- ---- all calls
+
+  pub record Along (fs : List Fed) (ss : List Say) (t : Trail) : Type 0 where
+    pub inv : InvAt t
+    pub book : bookIn t ≡ enterAll (bookOf a) fs
+    pub says : sayAll (bookOf a) fs ≡ ss ++ owed t
+
+  go-on : (fs gs : List Fed) (ss rs : List Say) (t u : Trail) → Along fs ss t → Moves t gs rs u → Along (fs ++ gs) (ss ++ rs) u
+  go-on fs gs ss rs t u r f = record {
+    inv = f .inv;
+    book = f .book ∙ ap (λ (x : Book). enterAll x gs) (r .book) ∙ sym (enter-append (bookOf a) fs gs);
+    says = say-append (bookOf a) fs gs
+        ∙ ap₂ (λ (x : List Say) (y : Book). x ++ sayAll y gs) (r .says) (sym (r .book))
+        ∙ append-assoc ss (owed t) (sayAll (bookIn t) gs)
+        ∙ ap (λ (x : List Say). ss ++ x) (f .says)
+        ∙ sym (append-assoc ss rs (owed u));
   }
 
--- ---- one call, and all calls
+-- the size of a place is the chunks'
+abbrev pub place-size : (h : History) (w : Where h) → place h w .size ≡ S
+place-size begin w = absurd w
+place-size (next h m) (inl o) = refl
+place-size (next h m) (inr w) = place-size h w
 
-module _ (S p id b n : ℕ) where
-  abbrev pub InvAt : Trail → Type 0
-  InvAt t = Inv S p id b n (t .world .records) (t .world .state .count) (t .world .state .question) (t .asker)
+pub along : (p : ℕ) (h : History) (w : Where h) → Lent step h → Keeps p h w → Along p (place h w) (place-size h w) (fed h w) (told step h w) (ruled h)
+along p begin w l k = absurd w
+along p (next h m) (inl o) l k = let x = opening p (ruled h) m (good-ruled h) o in record { inv = x .inv; book = x .book; says = sym (x .owes) }
+along p (next h m) (inr w) l k =
+    go-on p (place h w) (place-size h w) (fed h w) (fedBy (place h w) m) (told step h w) (toldBy step (place h w) (ruled h) m) (ruled h) (follow (ruled h) m) (along p h w (l .0) (k .0))
+    (one p (place h w) (place-size h w) (ruled h) m step (good-ruled h) (along p h w (l .0) (k .0) .inv) (k .1) (answers-ruled h m l))
 
-  abbrev pub bookOf : Trail → Book
-  bookOf t = bookAt S p id b n (t .world .records) (t .world .state .question)
+-- ---- BY THE BOOK
 
-  -- from t to u by a call that is r to the arena and is answered a
-  pub record Moves (t : Trail) (a : Answer) (r : Role) (u : Trail) : Type 0 where
-    pub inv : InvAt u
-    pub book : bookOf u ≡ enterAll S lowestRun (bookOf t) (fedOf r)
-    pub says : owed S id t ++ sayAll S lowestRun (bookOf t) (fedOf r) ≡ toldOf r a ++ owed S id u
-
-  pub one : (t : Trail) (m : Marked) → IsLent S t m → SoundWorld S (t .world) → InvAt t → Premises S p id b n t m
-      → Moves t (outcomeOf S m .answer) (roleOf S id b n t m) (next S t m)
-  one t m h s v k =
-      both-cond (Moves t (outcomeOf S m .answer)) (brokenAt S m) _ _ _ _ (λ e. record { inv = v; book = refl; says = append-nil (owed S id t) })
-      (λ e. let f = fits e in record { inv = f .inv; book = f .book; says = f .says })
-    where
-      fits : brokenAt S m ≡ false
-          → Fits S p id b n (t .world .records) (t .world .state .question) (m .who) (t .asker) (role S id b n (t .world .state .question) (m .call)) (outcomeOf S m)
-      fits e =
-          subst (Fits S p id b n (t .world .records) (t .world .state .question) (m .who) (t .asker) (role S id b n (t .world .state .question) (m .call))) (sym (stands S t m h e))
-          (keeps S p id b n (t .world .records) (t .world .stamps) (t .world .state .count) (t .world .state .mark) (s .table) (m .who) (t .asker) (t .world .state .question) (m .ns) (m .settings) (m .call)
-          (s .question) v (λ f g. k .alone f (unless (brokenAt S m) aside _ e ∙ g)) (k .none-open) (λ g. k .agreed g e))
-
-  pub record Along (t : Trail) (ms : List Marked) : Type 0 where
-    pub inv : InvAt (after S t ms)
-    pub book : bookOf (after S t ms) ≡ enterAll S lowestRun (bookOf t) (fed S id b n t ms)
-    pub says : owed S id t ++ sayAll S lowestRun (bookOf t) (fed S id b n t ms) ≡ told S id b n t ms ++ owed S id (after S t ms)
-
-  pub along : (some : 0 < S) (t : Trail) (ms : List Marked) → Lent S t ms → SoundWorld S (t .world) → InvAt t → Premise S p id b n t ms → Along t ms
-  unfolding fed told
-  along some t [] h s v k = record { inv = v; book = refl; says = append-nil (owed S id t) }
-  along some t (m ∷ ms) h s v k = go (one t m (h .0) s v (k .0)) (λ u. along some (next S t m) ms (h .1) (sound-next S some t m (h .0) s) u (k .1))
-    where
-      go : Moves t (outcomeOf S m .answer) (roleOf S id b n t m) (next S t m) → (InvAt (next S t m) → Along (next S t m) ms) → Along t (m ∷ ms)
-      go f rest =
-          let r : Along (next S t m) ms = rest (f .inv) in
-          let f₁ : List Fed = fedOf (roleOf S id b n t m) in
-          let f₂ : List Fed = fed S id b n (next S t m) ms in
-          let t₁ : List Say = toldOf (roleOf S id b n t m) (outcomeOf S m .answer) in
-          record {
-            inv = r .inv;
-            book = r .book ∙ ap (λ (x : Book). enterAll S lowestRun x f₂) (f .book) ∙ sym (enter-append S lowestRun (bookOf t) f₁ f₂);
-            says = ap (λ (x : List Say). owed S id t ++ x) (say-append S lowestRun (bookOf t) f₁ f₂)
-                ∙ sym (append-assoc (owed S id t) (sayAll S lowestRun (bookOf t) f₁) (sayAll S lowestRun (enterAll S lowestRun (bookOf t) f₁) f₂))
-                ∙ ap₂ (λ (x : List Say) (y : Book). x ++ sayAll S lowestRun y f₂) (f .says) (sym (f .book))
-                ∙ append-assoc t₁ (owed S id (next S t m)) (sayAll S lowestRun (bookOf (next S t m)) f₂)
-                ∙ ap (λ (x : List Say). t₁ ++ x) (r .says)
-                ∙ sym (append-assoc t₁ (told S id b n (next S t m) ms) (owed S id (after S (next S t m) ms)));
-          }
-
-  -- ---- the opening: only Registering's rules answer so, and what they made is the book as it is opened
-
-  pub record Opening (managed : Bool) (u : Trail) : Type 0 where
-    pub inv : InvAt u
-    pub book : bookOf u ≡ opened b n managed
-    pub owes : owed S id u ≡ []
-
-  not-not : (x : Bool) → not (not x) ≡ x
-  not-not true = refl
-  not-not false = refl
-
-  pub opens : (some : 0 < S) (managed : Bool) (t : Trail) (m : Marked) → IsLent S t m → SoundWorld S (t .world) → Opens S id b n managed m → Opening managed (next S t m)
-  opens some managed t m h s o =
-      let stays : brokenAt S m ≡ false = ap isBroken (o .registered) in
-      let w : World = outcomeOf S m .world in
-      let tells : Tells S (t .world .records) (t .world .state .count) (asksFor (t .world .state .question) (m .call)) (names (t .world .state .question) (m .call)) (outcomeOf S m .answer) w =
-      subst (λ (x : Outcome). Tells S (t .world .records) (t .world .state .count) (asksFor (t .world .state .question) (m .call)) (names (t .world .state .question) (m .call)) (x .answer) (x .world))
-      (sym (stands S t m h stays))
-      (step-tells S (t .world .records) (t .world .stamps) (t .world .state .count) (t .world .state .mark) (t .world .state .question) (m .ns) (m .settings) (m .call) (s .question)) in
-      let new : New id w =
-      subst (λ (x : Answer). Tells S (t .world .records) (t .world .state .count) (asksFor (t .world .state .question) (m .call)) (names (t .world .state .question) (m .call)) x w) (o .registered) tells (s .table) in
-      let view : viewOf id (w .state .question) ≡ calm = ap (viewOf id) (new .idle) in
-      subst (Opening managed) (sym (unless (brokenAt S m) t _ stays))
-      (record {
-        inv = record {
-          low = new .low;
-          stays = record { exclusive = o .exclusive; base = o .base; chunks = o .chunks };
-          mine = subst (Mine p (askerAfter (t .world .state .question) (m .who) (t .asker))) (sym view) tt;
-        };
-        book = ap (λ (v : View). bookIn v (at (w .records) id)) view ∙ new .shows (o .exclusive)
-            ∙ ap₂ (λ (x y : ℕ). opened x y (not (at (w .records) id .owned))) (o .base) (o .chunks)
-            ∙ ap (opened b n) (ap not (o .owned) ∙ not-not managed);
-        owes = ap (λ (v : View). owedIn S v (at (w .records) id)) view;
-      })
-
--- ---- a course: sound where the arena is registered, opened as the book is, and along the calls
-
-pub record Ran (S p id b n : ℕ) (managed : Bool) (from : Trail) (calls : List Marked) : Type 0 where
-  pub lent : Lent S from calls
-  pub sound : SoundWorld S (from .world)
-  pub open-as : Opening S p id b n managed from
-  pub along-calls : Along S p id b n from calls
-
-pub run : (S : ℕ) → 0 < S → (p id b n : ℕ) (managed : Bool) (before : List Marked) (m : Marked) (calls : List Marked)
-    → Course S p id b n managed before m calls → Ran S p id b n managed (opening S before m) calls
-run S some p id b n managed before m calls c =
-    let h : Lent S start before × Lent S (after S start before) (m ∷ calls) = lent-append S start before (m ∷ calls) (c .lent) in
-    let s : SoundWorld S (after S start before .world) = sound-after S some start before (h .0) (sound-empty S some) in
-    let f : SoundWorld S (opening S before m .world) = sound-next S some (after S start before) m (h .1 .0) s in
-    let o : Opening S p id b n managed (opening S before m) = opens S p id b n some managed (after S start before) m (h .1 .0) s (c .opens) in
-    record { lent = h .1 .1; sound = f; open-as = o; along-calls = along S p id b n some (opening S before m) calls (h .1 .1) f (o .inv) (c .premise) }
-
--- ---- DEMAND 3
-
-pub demand3 : (S : ℕ) → 0 < S → Demand3 S
-demand3 S some p id b n managed before m calls c =
-    let r = run S some p id b n managed before m calls c in
-    sym (r .along-calls .says)
-    ∙ ap₂ (λ (x : List Say) (y : Book). x ++ sayAll S lowestRun y (fed S id b n (opening S before m) calls)) (r .open-as .owes) (r .open-as .book)
+pub by-the-book : ByTheBook step
+by-the-book p h w l k =
+    let r = along p h w l k in
+    (owedAt S p (place h w .id) (place h w .base) (place h w .chunks) (ruled h .world .records) (openAt (ruled h)), sym (r .says),
+    waits-owed (place h w) (ruled h .world .records) (r .inv .stays .exclusive) (openAt (ruled h)) (ruled h .asked) (good-ruled h .asked))

@@ -18,7 +18,7 @@ use Rattle.words.proofs.RowLaws.{lt-or-le}
 use Rattle.words.proofs.Tests.{by-cond, when, unless}
 use Rattle.runs.specs.declared.Found.{Found}
 use Rattle.runs.specs.declared.Found.the-variants.{At, Nothing}
-use Rattle.runs.specs.Lowest.{least, lowestRun}
+use Rattle.runs.specs.Lowest.{least}
 use Rattle.runs.proofs.LowestLaws.{First, first-says}
 use Rattle.runs.proofs.SearchLaws.{and-both}
 use Rattle.clock.specs.Clock.{nowMs, delayMs}
@@ -50,14 +50,14 @@ use Rattle.layer.specs.Claiming.{eligible, serves, missReply, grantFound
 use Rattle.layer.specs.Releasing.{releaseIn, releaseOf}
 use Rattle.layer.specs.Sweeping.{purgeReply, sweptReply, visitAt, visit, sweepFrom}
 use Rattle.layer.specs.Answering.{isFor, counted, failReply, resume, answerCommit, answerPurge, answerMemory, answerOf}
-use Rattle.layer.specs.Step.{Call, reserve, manage, adopt, claim, release, sweep, answer, owns, area, gate, stepOn}
+use Rattle.layer.specs.Step.{Act, reserve, manage, adopt, claim, release, sweep, Call, act, query, answer, gate, actOn, stepOn}
 use Rattle.layer.proofs.Tools.{at-same, at-other}
 use Rattle.layer.proofs.Facts.{SoundTable, SoundQuestion}
 use Rattle.layer.proofs.Rules.{not-shared, served-named, grows-facts, others-left, Again, again}
 use Rattle.layer.proofs.Registered.{meets-false}
-use Rattle.layer.specs.Book.{Book, Fed, claims, releases, Say, refused, granted, released, Turn, turn, claimed, unhold, enter}
-use Rattle.layer.specs.Sequence.{isIdle, askerAfter, Role, feeds, closes, aside, inRange, ends, role, said, View, calm, committing, purging, viewOf, owedIn, isAnswer, declines}
-use Rattle.layer.proofs.Shown.{bookIn, Mine, Stays, bookAt, owedAt, Inv, Fits}
+use Rattle.layer.specs.Book.{Book, lowest, Fed, claims, releases, Say, refused, granted, released, Turn, turn, claimed, unhold, enter}
+use Rattle.layer.specs.History.{isIdle, entriesOf, said, Place, inRange, isNone, feeds, isAnswer, declines}
+use Rattle.layer.proofs.Shown.{View, calm, committing, purging, viewOf, owedIn, Role, feeding, closing, aside, ends, role, fedOf, askerAfter, bookIn, Mine, Stays, bookAt, owedAt, Inv, Fits}
 use Rattle.layer.proofs.View.{view-commit, view-purge, view-commit-other, view-purge-other, book-granted, book-taken, book-committed, book-released, say-fresh, owed-taken, book-disarmed, book-rearmed, book-borrowed, book-returned, take-stays, dirty-stays, finish-stays, release-stays, disarm-stays, borrow-stays, return-stays, rearm-stays}
 use Rattle.layer.proofs.Cases.{granting, asking, grant-cases, search-cases, miss-cases, claim-cases, release-in-cases, release-cases, reserve-cases, register-cases, manage-cases, adopt-cases, memory-cases}
 
@@ -87,7 +87,7 @@ only-one S l k i j x t u v e f = go (ℕ-discrete i j)
 record Returned (S : ℕ) (l : List Arena) (stamps : List ℕ) (k : ℕ) (mark : Bool) (i j : ℕ) (w : Sweep) (agreed : Bool) : Type 0 where
   back : Arena
   is : answerPurge S l stamps k mark i j w agreed ≡ visit S stamps k mark (counted w agreed) l i back (j + 1) (sweepFrom S stamps k mark (counted w agreed) (k - (i + 1)) (i + 1))
-  shows : bookIn calm back ≡ bookIn (purging j) (at l i)
+  shows : bookIn S calm back ≡ bookIn S (purging j) (at l i)
   rows : Rows back
   stays : (b n : ℕ) → Stays b n (at l i) → Stays b n back
 
@@ -101,7 +101,10 @@ returned S l stamps k mark t i j w agreed h = record {
   stays = λ b n x. return-stays b n (at l i) x j agreed (w .decommit);
 }
 
-module _ (S p id b n : ℕ) where
+module _ (S p id b n : ℕ) (managed : Bool) where
+  abbrev there : Place
+  there = record { id = id; size = S; base = b; chunks = n; managed = managed }
+
   -- the book shown, what is owed, the invariant and what one call does, at this arena
   abbrev shown : List Arena → Question → Book
   shown l q = bookAt S p id b n l q
@@ -146,17 +149,17 @@ module _ (S p id b n : ℕ) where
   record Holds (B : Book) (l : List Arena) (k : ℕ) : Type 0 where
     low : id < k
     stays : Stays b n (at l id)
-    shows : bookIn calm (at l id) ≡ B
+    shows : bookIn S calm (at l id) ≡ B
 
   holds : (l : List Arena) (k : ℕ) (q : Question) (z : ℕ) → viewOf id q ≡ calm → Invariant l k q z → Holds (shown l q) l k
-  holds l k q z e v = record { low = v .low; stays = v .stays; shows = ap (λ (x : View). bookIn x (at l id)) (sym e) }
+  holds l k q z e v = record { low = v .low; stays = v .stays; shows = ap (λ (x : View). bookIn S x (at l id)) (sym e) }
 
   module _ (B : Book) (y : ℕ) where
     rests : (l : List Arena) (k : ℕ) (q : Question) (r : Answer) (stamps : List ℕ) (mark : Bool) → viewOf id q ≡ calm → Holds B l k
         → Leaves B [] y (after (reply r (stateOf k mark q)) l stamps)
     rests l k q r stamps mark e h = record {
       inv = record { low = h .low; stays = h .stays; mine = subst (Mine p y) (sym e) tt };
-      book = ap (λ (x : View). bookIn x (at l id)) e ∙ h .shows;
+      book = ap (λ (x : View). bookIn S x (at l id)) e ∙ h .shows;
       owed = ap (λ (x : View). owedIn S x (at l id)) e;
     }
 
@@ -165,7 +168,7 @@ module _ (S p id b n : ℕ) where
     unmoved l l′ k k′ u there h = record {
       low = omega (arith, h .low);
       stays = subst (Stays b n) (sym there) (h .stays);
-      shows = ap (bookIn calm) there ∙ h .shows;
+      shows = ap (bookIn S calm) there ∙ h .shows;
     }
 
     -- another record is stored
@@ -256,7 +259,7 @@ module _ (S p id b n : ℕ) where
     record Ready (a : Arena) : Type 0 where
       rows : Rows a
       stays : Stays b n a
-      shows : bookIn calm a ≡ B
+      shows : bookIn S calm a ≡ B
 
     module _ (stamps : List ℕ) (k : ℕ) (mark : Bool) (w : Sweep) (low : id < k) (few : k ≤ 32) (small : n ≤ 1024) where
       by-store : (P : Arena → Type 0) (l : List Arena) (i : ℕ) (c : Arena) → length l ≡ 32 → (i ≡ id → P c) → ((i ≡ id → ⊥) → P (at l id)) → P (at (set l i c) id)
@@ -299,7 +302,7 @@ module _ (S p id b n : ℕ) where
                       stays = subst (Stays b n) (sym here) (borrow-stays b n a (r .stays) j);
                       mine = subst (Mine p y) (sym (view-purge id j w)) tt;
                     };
-                    book = ap₂ bookIn (view-purge id j w) here ∙ book-borrowed a j (r .rows) (omega (arith, h .0, h .1, r .stays .chunks, small)) clear ∙ r .shows;
+                    book = ap₂ (bookIn S) (view-purge id j w) here ∙ book-borrowed a j (r .rows) (omega (arith, h .0, h .1, r .stays .chunks, small)) clear ∙ r .shows;
                     owed = ap₂ (owedIn S) (view-purge id j w) here;
                   }
 
@@ -330,7 +333,7 @@ module _ (S p id b n : ℕ) where
   as-turn who x y o e m = subst (λ (w : Turn). Match who w o) (sym e) m
 
   module _ (l : List Arena) (stamps : List ℕ) (k : ℕ) (mark : Bool) (t : SoundTable S l k) (who z : ℕ) where
-    matched : (f : Fed) (o : Outcome) → Match who (enter S lowestRun (shown l Idle) f) o → Does l Idle who z (feeds f) o
+    matched : (f : Fed) (o : Outcome) → Match who (enter (shown l Idle) f) o → Does l Idle who z (feeding (f ∷ [])) o
     matched f o m = record { inv = m .inv; book = m .book; says = m .says }
 
     -- the arena's record after a store
@@ -351,56 +354,56 @@ module _ (S p id b n : ℕ) where
       stored : (c : Arena) (q : Question) (view : View) → Stays b n c → viewOf id q ≡ view → Mine p who view → Invariant (set l id c) k q who
       stored c q view x e m = record { low = v .low; stays = subst (Stays b n) (sym (here c)) x; mine = subst (Mine p who) (sym e) m }
 
-      granted-run : (m s : ℕ) → s + m ≤ at l id .chunks → Match who (claimed S (shown l Idle) m (At s)) (granting S l stamps k mark id m s)
+      granted-run : (m s : ℕ) → s + m ≤ at l id .chunks → Match who (claimed (shown l Idle) m (At s)) (granting S l stamps k mark id m s)
       granted-run m s h = record {
         inv = stored (dirtyRun (takeRun (at l id) s m) s m) Idle calm (dirty-stays b n _ (take-stays b n _ (v .stays) s m) s m) refl tt;
-        book = ap (bookIn calm) (here (dirtyRun (takeRun (at l id) s m) s m)) ∙ book-granted (at l id) s m (t .rows id (v .low)) (fits-at (v .low) s m h);
+        book = ap (bookIn S calm) (here (dirtyRun (takeRun (at l id) s m) s m)) ∙ book-granted (at l id) s m (t .rows id (v .low)) (fits-at (v .low) s m h);
         says = ap (λ (x : Say). x ∷ []) (say-fresh S (at l id) s m);
       }
 
-      asked-run : who ≡ p → (m s : ℕ) → s + m ≤ at l id .chunks → Match who (claimed S (shown l Idle) m (At s)) (asking S l stamps k mark id m s)
+      asked-run : who ≡ p → (m s : ℕ) → s + m ≤ at l id .chunks → Match who (claimed (shown l Idle) m (At s)) (asking S l stamps k mark id m s)
       asked-run w m s h =
           let there : at (set l id (takeRun (at l id) s m)) id ≡ takeRun (at l id) s m = here (takeRun (at l id) s m) in
           record {
             inv = stored (takeRun (at l id) s m) (Committing id s m) (committing s m) (take-stays b n _ (v .stays) s m) (view-commit id s m) w;
-            book = ap₂ bookIn (view-commit id s m) there ∙ book-taken (at l id) s m (t .rows id (v .low)) (fits-at (v .low) s m h);
+            book = ap₂ (bookIn S) (view-commit id s m) there ∙ book-taken (at l id) s m (t .rows id (v .low)) (fits-at (v .low) s m h);
             says = ap (λ (x : Say). x ∷ []) (say-fresh S (at l id) s m) ∙ sym (ap₂ (owedIn S) (view-commit id s m) there ∙ owed-taken S (at l id) s m);
           }
 
       -- a claim that names the arena finds it exactly if it has the run
       own-search : who ≡ p → (m : ℕ) (commits : Bool) (settings : Settings)
-          → Match who (claimed S (shown l Idle) m (findRun (at l id) m)) (searchOf S l stamps k mark (pos id) m commits (missReply S k mark (pos id) m commits settings))
+          → Match who (claimed (shown l Idle) m (findRun (at l id) m)) (searchOf S l stamps k mark (pos id) m commits (missReply S k mark (pos id) m commits settings))
       own-search w m commits settings =
-          search-cases S l stamps k mark (Match who (claimed S (shown l Idle) m (findRun (at l id) m))) (pos id) m commits _ missed
-          (λ i u f. subst (λ (j : ℕ). Match who (claimed S (shown l Idle) m (findRun (at l id) m)) (grantFound S l stamps k mark j m commits (findRun (at l j) m)))
+          search-cases S l stamps k mark (Match who (claimed (shown l Idle) m (findRun (at l id) m))) (pos id) m commits _ missed
+          (λ i u f. subst (λ (j : ℕ). Match who (claimed (shown l Idle) m (findRun (at l id) m)) (grantFound S l stamps k mark j m commits (findRun (at l j) m)))
           (sym (named i f)) run)
         where
           named : (i : ℕ) → serves (pos id) m l i ≡ true → i ≡ id
           named i f = served-named id m l i f
 
-          run : Match who (claimed S (shown l Idle) m (findRun (at l id) m)) (grantFound S l stamps k mark id m commits (findRun (at l id) m))
+          run : Match who (claimed (shown l Idle) m (findRun (at l id) m)) (grantFound S l stamps k mark id m commits (findRun (at l id) m))
           run =
-              grant-cases S l stamps k mark (Match who (claimed S (shown l Idle) m (findRun (at l id) m))) id m commits
-              (λ e. as-turn who _ _ _ (ap (claimed S (shown l Idle) m) e) (turned-down NoRun))
-              (λ s e. as-turn who _ _ _ (ap (claimed S (shown l Idle) m) e) (granted-run m s (found-inside (at l id) m s e)))
-              (λ s e. as-turn who _ _ _ (ap (claimed S (shown l Idle) m) e) (asked-run w m s (found-inside (at l id) m s e)))
+              grant-cases S l stamps k mark (Match who (claimed (shown l Idle) m (findRun (at l id) m))) id m commits
+              (λ e. as-turn who _ _ _ (ap (claimed (shown l Idle) m) e) (turned-down NoRun))
+              (λ s e. as-turn who _ _ _ (ap (claimed (shown l Idle) m) e) (granted-run m s (found-inside (at l id) m s e)))
+              (λ s e. as-turn who _ _ _ (ap (claimed (shown l Idle) m) e) (asked-run w m s (found-inside (at l id) m s e)))
 
           missed : ((i : ℕ) → i < k → serves (pos id) m l i ≡ false)
-              → Match who (claimed S (shown l Idle) m (findRun (at l id) m)) (after (missReply S k mark (pos id) m commits settings) l stamps)
+              → Match who (claimed (shown l Idle) m (findRun (at l id) m)) (after (missReply S k mark (pos id) m commits settings) l stamps)
           missed g = none (findRun (at l id) m) (sym (served id) ∙ g id (v .low))
             where
               served : (i : ℕ) → serves (pos id) m l id ≡ isAt (findRun (at l id) m)
               served i = unfold serves eligible in ap (λ (x : Bool). x && isAt (findRun (at l id) m)) (eq-eqb id id refl)
 
-              none : (f : Found) → isAt f ≡ false → Match who (claimed S (shown l Idle) m f) (after (missReply S k mark (pos id) m commits settings) l stamps)
+              none : (f : Found) → isAt f ≡ false → Match who (claimed (shown l Idle) m f) (after (missReply S k mark (pos id) m commits settings) l stamps)
               none (At s) e = absurd (true≢false e)
               none Nothing e = unfold missReply in turned-down NoRun
 
       own-claim : who ≡ p → (m : ℕ) (commits : Bool) (settings : Settings)
-          → Match who (enter S lowestRun (shown l Idle) (claims m)) (claimOf S l stamps k mark (pos id) m commits settings)
+          → Match who (enter (shown l Idle) (claims lowest m)) (claimOf S l stamps k mark (pos id) m commits settings)
       unfolding enter findRun
       own-claim w m commits settings =
-          claim-cases S l stamps k mark (Match who (enter S lowestRun (shown l Idle) (claims m))) (pos id) m commits settings
+          claim-cases S l stamps k mark (Match who (enter (shown l Idle) (claims lowest m))) (pos id) m commits settings
           (λ e. as-turn who _ _ _ (when (eqb m 0) _ _ e) (turned-down Zero))
           (λ e f. absurd (true≢false (sym (allowed (settings .off)) ∙ f)))
           (λ e f. as-turn who _ _ _ (unless (eqb m 0) _ _ e) (own-search w m commits settings))
@@ -411,10 +414,10 @@ module _ (S p id b n : ℕ) where
 
       -- a release in the range is the arena's
       own-release : (x m : ℕ) (told : Commitment) (pending : Bool) (now delay : ℕ) → isInside S (at l id) x ≡ true
-          → Match who (enter S lowestRun (shown l Idle) (releases x m)) (releaseOf S l stamps k mark x m told pending now delay)
+          → Match who (enter (shown l Idle) (releases x m)) (releaseOf S l stamps k mark x m told pending now delay)
       unfolding enter
       own-release x m told pending now delay c =
-          release-cases S l stamps k mark (Match who (enter S lowestRun (shown l Idle) (releases x m))) m told pending now delay x
+          release-cases S l stamps k mark (Match who (enter (shown l Idle) (releases x m))) m told pending now delay x
           (λ e. as-turn who _ _ _ (when (eqb m 0) _ _ e) (turned-down Zero))
           (λ e f. absurd (true≢false (sym c ∙ f id (v .low))))
           (λ i e u f. as-turn who _ _ _ (unless (eqb m 0) _ _ e)
@@ -434,7 +437,7 @@ module _ (S p id b n : ℕ) where
               (λ f g. as-turn who _ _ _ (when (eqb ((x - at l id .base) % S) 0) _ _ f ∙ when (leb ((x - at l id .base) / S + m) (at l id .chunks)) _ _ g)
               (record {
                 inv = stored _ Idle calm (release-stays b n (at l id) (v .stays) ((x - at l id .base) / S) m told pending now delay) refl tt;
-                book = ap (bookIn calm) (here _) ∙ book-released (at l id) ((x - at l id .base) / S) m (t .rows id (v .low)) (fits-at (v .low) _ m (leb-true _ _ g)) told pending now delay;
+                book = ap (bookIn S calm) (here _) ∙ book-released (at l id) ((x - at l id .base) / S) m (t .rows id (v .low)) (fits-at (v .low) _ m (leb-true _ _ g)) told pending now delay;
                 says = refl;
               }))
 
@@ -442,10 +445,10 @@ module _ (S p id b n : ℕ) where
 
     -- yes to the arena's own commit question: its program gets what was owed
     own-yes : (s m : ℕ) → SoundQuestion l k (Committing id s m) → Invariant l k (Committing id s m) z
-        → Does l (Committing id s m) who z closes (answerCommit S l stamps k mark id s m true)
+        → Does l (Committing id s m) who z closing (answerCommit S l stamps k mark id s m true)
     own-yes s m h v = record {
       inv = record { low = v .low; stays = subst (Stays b n) (sym there) (finish-stays b n (at l id) (v .stays) s m true); mine = tt };
-      book = ap (bookIn calm) there ∙ book-committed (at l id) s m (t .rows id (v .low)) (fits-at (v .low) s m (h .1)) true ∙ ap (λ (x : View). bookIn x (at l id)) (sym (view-commit id s m));
+      book = ap (bookIn S calm) there ∙ book-committed (at l id) s m (t .rows id (v .low)) (fits-at (v .low) s m (h .1)) true ∙ ap (λ (x : View). bookIn S x (at l id)) (sym (view-commit id s m));
       says = append-nil (owing l (Committing id s m)) ∙ ap (λ (x : View). owedIn S x (at l id)) (view-commit id s m);
     }
       where
@@ -491,24 +494,24 @@ module _ (S p id b n : ℕ) where
         none true = refl
         none false = refl
 
-        borrowed : i ≡ id → bookIn (purging j) (at l i) ≡ B
-        borrowed e = ap₂ (λ (x : View) (y : ℕ). bookIn x (at l y)) (sym (ap (λ (x : ℕ). viewOf id (Purging x j w)) e ∙ view-purge id j w)) e
+        borrowed : i ≡ id → bookIn S (purging j) (at l i) ≡ B
+        borrowed e = ap₂ (λ (x : View) (y : ℕ). bookIn S x (at l y)) (sym (ap (λ (x : ℕ). viewOf id (Purging x j w)) e ∙ view-purge id j w)) e
 
         other : (i ≡ id → ⊥) → Ready B z (at l id)
-        other d = record { rows = t .rows id (v .low); stays = v .stays; shows = ap (λ (x : View). bookIn x (at l id)) (sym (view-purge-other id i j w d)) }
+        other d = record { rows = t .rows id (v .low); stays = v .stays; shows = ap (λ (x : View). bookIn S x (at l id)) (sym (view-purge-other id i j w d)) }
 
     answers : (q : Question) (kind : Kind) (agreed : Bool) (base : ℕ) → SoundQuestion l k q → Invariant l k q z → (z ≡ p → declines q (answer kind agreed base) ≡ false)
-        → Does l q who z (cond (ends id q kind) closes aside) (answerOf S l stamps k mark q kind agreed base)
+        → Does l q who z (cond (ends id q kind) closing aside) (answerOf S l stamps k mark q kind agreed base)
     unfolding answerOf isFor
     answers Idle kind agreed base h v w = by-cond (Does l Idle who z aside) (isFor Idle kind) _ _ (λ e. same l k Idle who z _ stamps mark v) (λ e. same l k Idle who z _ stamps mark v)
     answers (Committing i s m) ForCommit agreed base h v w = go (ℕ-discrete i id) agreed w
       where
-        go : Dec (i ≡ id) → (agreed : Bool) → (z ≡ p → not agreed ≡ false) → Does l (Committing i s m) who z (cond (eqb i id) closes aside) (answerCommit S l stamps k mark i s m agreed)
-        go (no d) agreed w = subst (λ (c : Bool). Does l (Committing i s m) who z (cond c closes aside) (answerCommit S l stamps k mark i s m agreed)) (sym (ne-eqb i id d)) (other-commit i s m agreed d v)
+        go : Dec (i ≡ id) → (agreed : Bool) → (z ≡ p → not agreed ≡ false) → Does l (Committing i s m) who z (cond (eqb i id) closing aside) (answerCommit S l stamps k mark i s m agreed)
+        go (no d) agreed w = subst (λ (c : Bool). Does l (Committing i s m) who z (cond c closing aside) (answerCommit S l stamps k mark i s m agreed)) (sym (ne-eqb i id d)) (other-commit i s m agreed d v)
         go (yes e) false w = absurd (true≢false (w (subst (Mine p z) (ap (λ (x : ℕ). viewOf id (Committing x s m)) e ∙ view-commit id s m) (v .mine))))
         go (yes e) true w =
-            subst (λ (c : Bool). Does l (Committing i s m) who z (cond c closes aside) (answerCommit S l stamps k mark i s m true)) (sym (eq-eqb i id e))
-            (subst (λ (x : ℕ). SoundQuestion l k (Committing x s m) → Invariant l k (Committing x s m) z → Does l (Committing x s m) who z closes (answerCommit S l stamps k mark x s m true))
+            subst (λ (c : Bool). Does l (Committing i s m) who z (cond c closing aside) (answerCommit S l stamps k mark i s m true)) (sym (eq-eqb i id e))
+            (subst (λ (x : ℕ). SoundQuestion l k (Committing x s m) → Invariant l k (Committing x s m) z → Does l (Committing x s m) who z closing (answerCommit S l stamps k mark x s m true))
             (sym e) (own-yes s m) h v)
     answers (Committing i s m) ForPurge agreed base h v w = same l k (Committing i s m) who z _ stamps mark v
     answers (Committing i s m) ForMemory agreed base h v w = same l k (Committing i s m) who z _ stamps mark v
@@ -528,14 +531,14 @@ module _ (S p id b n : ℕ) where
 
     -- ---- while a question is open every call but an answer is turned down, and none of them feeds the book
 
-    gated : (q : Question) (r : Role) (go : Outcome) → Invariant l k q z → (Invariant l k Idle z → Does l Idle who z r go) → (isIdle q ≡ false → r ≡ aside)
-        → Does l q who z r (gate q go (after (turnDown QuestionOpen (stateOf k mark q)) l stamps))
-    gated q r go v f g = at-gate q v g
+    gated : (q : Question) (fs : List Fed) (go : Outcome) → Invariant l k q z → (Invariant l k Idle z → Does l Idle who z (feeding fs) go) → (isIdle q ≡ false → fs ≡ [])
+        → Does l q who z (feeding fs) (gate q go (after (turnDown QuestionOpen (stateOf k mark q)) l stamps))
+    gated q fs go v f g = at-gate q v g
       where
-        shut : (q : Question) → Invariant l k q z → r ≡ aside → Does l q who z r (after (turnDown QuestionOpen (stateOf k mark q)) l stamps)
-        shut q v e = subst (λ (x : Role). Does l q who z x (after (turnDown QuestionOpen (stateOf k mark q)) l stamps)) (sym e) (same l k q who z _ stamps mark v)
+        shut : (q : Question) → Invariant l k q z → fs ≡ [] → Does l q who z (feeding fs) (after (turnDown QuestionOpen (stateOf k mark q)) l stamps)
+        shut q v e = subst (λ (x : List Fed). Does l q who z (feeding x) (after (turnDown QuestionOpen (stateOf k mark q)) l stamps)) (sym e) (same l k q who z _ stamps mark v)
 
-        at-gate : (q : Question) → Invariant l k q z → (isIdle q ≡ false → r ≡ aside) → Does l q who z r (gate q go (after (turnDown QuestionOpen (stateOf k mark q)) l stamps))
+        at-gate : (q : Question) → Invariant l k q z → (isIdle q ≡ false → fs ≡ []) → Does l q who z (feeding fs) (gate q go (after (turnDown QuestionOpen (stateOf k mark q)) l stamps))
         at-gate Idle v g = f v
         at-gate (Committing i s m) v g = shut (Committing i s m) v (g refl)
         at-gate (Purging i j w) v g = shut (Purging i j w) v (g refl)
@@ -543,73 +546,62 @@ module _ (S p id b n : ℕ) where
         at-gate (GivingBack cause waiting) v g = shut (GivingBack cause waiting) v (g refl)
 
     -- what would feed the book is its program's, which calls only where no question is open
-    busy : (q : Question) (c : Bool) (f : Fed) → (cond c (feeds f) aside ≡ feeds f → who ≡ p) → (who ≡ p → q ≡ Idle) → isIdle q ≡ false → cond c (feeds f) aside ≡ aside
-    busy q true f alone idle e = absurd (true≢false (sym (ap isIdle (idle (alone refl))) ∙ e))
-    busy q false f alone idle e = refl
+    busy : (q : Question) (fs : List Fed) → (isNone fs ≡ false → who ≡ p) → (who ≡ p → q ≡ Idle) → isIdle q ≡ false → fs ≡ []
+    busy q [] alone idle e = refl
+    busy q (f ∷ fs) alone idle e = absurd (true≢false (sym (ap isIdle (idle (alone refl))) ∙ e))
 
     -- the range that the book was told is the record's
-    in-range : (q : Question) (x : ℕ) → Invariant l k q z → isInside S (at l id) x ≡ inRange S b n x
+    in-range : (q : Question) (x : ℕ) → Invariant l k q z → isInside S (at l id) x ≡ inRange there x
     unfolding isInside endOf bytesOf inRange
     in-range q x v = ap₂ (λ (from chunks : ℕ). leb from x && ltb x (from + chunks * S)) (v .stays .base) (v .stays .chunks)
 
     -- ---- one call
 
-    pub keeps : (q : Question) (ns : ℕ) (settings : Settings) (c : Call) → SoundQuestion l k q → Inv S p id b n l k q z
-        → ((f : Fed) → role S id b n q c ≡ feeds f → who ≡ p)
-        → (who ≡ p → isAnswer c ≡ false → q ≡ Idle)
-        → (z ≡ p → declines q c ≡ false)
-        → Fits S p id b n l q who z (role S id b n q c) (stepOn S l stamps k mark q ns settings c)
-    keeps q ns settings (reserve size commit large exclusive) h v alone idle agrees =
-        gated q aside _ v
-        (λ u. quiet l Idle who z _ refl (reserve-cases S l stamps k mark (Leaves _ [] who) size commit large exclusive (settings .page)
-        (rests _ who l k Idle _ stamps mark refl (holds l k Idle z refl u)) (asks-memory _ who l stamps k mark (holds l k Idle z refl u) size (settings .page) commit large exclusive Reserve)))
-        (λ e. refl)
-    keeps q ns settings (manage start size exclusive node mapped reserved) h v alone idle agrees =
-        gated q aside _ v
-        (λ u. let x = holds l k Idle z refl u in
+    acts : (ns : ℕ) (settings : Settings) (a : Act) → Invariant l k Idle z → (isNone (feeds there (entriesOf a)) ≡ false → who ≡ p) → Does l Idle who z (feeding (feeds there (entriesOf a))) (actOn S l stamps k mark Idle ns settings a)
+    acts ns settings (reserve size commit large exclusive) u alone =
+        quiet l Idle who z _ refl (reserve-cases S l stamps k mark (Leaves _ [] who) size commit large exclusive (settings .page)
+        (rests _ who l k Idle _ stamps mark refl (holds l k Idle z refl u)) (asks-memory _ who l stamps k mark (holds l k Idle z refl u) size (settings .page) commit large exclusive Reserve))
+    acts ns settings (manage start size exclusive node mapped reserved) u alone =
+        let x = holds l k Idle z refl u in
         quiet l Idle who z _ refl (manage-cases S l stamps k mark (Leaves _ [] who) start size exclusive node mapped reserved
-        (rests _ who l k Idle _ stamps mark refl x) (rests _ who l k Idle _ stamps mark refl x) (rests _ who l k Idle _ stamps mark refl x) (λ g. registers-one _ who l stamps k mark x _ _)))
-        (λ e. refl)
-    keeps q ns settings (adopt address size) h v alone idle agrees =
-        gated q aside _ v
-        (λ u. let x = holds l k Idle z refl u in
+        (rests _ who l k Idle _ stamps mark refl x) (rests _ who l k Idle _ stamps mark refl x) (rests _ who l k Idle _ stamps mark refl x) (λ g. registers-one _ who l stamps k mark x _ _))
+    acts ns settings (adopt address size) u alone =
+        let x = holds l k Idle z refl u in
         quiet l Idle who z _ refl (adopt-cases S l stamps k mark (Leaves _ [] who) address size
         (rests _ who l k Idle _ stamps mark refl x) (rests _ who l k Idle _ stamps mark refl x) (rests _ who l k Idle _ stamps mark refl x)
         (λ i w j e. rests _ who _ k Idle _ stamps mark refl (elsewhere _ who l k k i _ (omega arith) (not-grown _ who l stamps k mark x i address (size / S) e) x))
-        (λ w. registers-one _ who l stamps k mark x _ _)))
-        (λ e. refl)
-    keeps q ns settings (claim (pos i) m commits) h v alone idle agrees =
-        gated q (cond (eqb i id) (feeds (claims m)) aside) _ v (λ u. go (ℕ-discrete i id) u) (busy q (eqb i id) (claims m) (alone (claims m)) (λ w. idle w refl))
+        (λ w. registers-one _ who l stamps k mark x _ _))
+    acts ns settings (claim (pos i) m commits) u alone = go (ℕ-discrete i id)
       where
-        go : Dec (i ≡ id) → Invariant l k Idle z → Does l Idle who z (cond (eqb i id) (feeds (claims m)) aside) (claimOf S l stamps k mark (pos i) m commits settings)
-        go (yes e) u =
-            subst (λ (c : Bool). Does l Idle who z (cond c (feeds (claims m)) aside) (claimOf S l stamps k mark (pos i) m commits settings)) (sym (eq-eqb i id e))
-            (subst (λ (x : ℕ). Does l Idle who z (feeds (claims m)) (claimOf S l stamps k mark (pos x) m commits settings)) (sym e)
-            (matched (claims m) _ (own-claim u (alone (claims m) (ap (λ (c : Bool). cond c (feeds (claims m)) aside) (eq-eqb i id e))) m commits settings)))
-        go (no d) u =
-            subst (λ (c : Bool). Does l Idle who z (cond c (feeds (claims m)) aside) (claimOf S l stamps k mark (pos i) m commits settings)) (sym (ne-eqb i id d))
+        go : Dec (i ≡ id) → Does l Idle who z (feeding (cond (eqb i id) (claims lowest m ∷ []) [] ++ [])) (claimOf S l stamps k mark (pos i) m commits settings)
+        go (yes e) =
+            subst (λ (c : Bool). Does l Idle who z (feeding (cond c (claims lowest m ∷ []) [] ++ [])) (claimOf S l stamps k mark (pos i) m commits settings)) (sym (eq-eqb i id e))
+            (subst (λ (x : ℕ). Does l Idle who z (feeding (claims lowest m ∷ [])) (claimOf S l stamps k mark (pos x) m commits settings)) (sym e)
+            (matched (claims lowest m) _ (own-claim u (alone (ap (λ (c : Bool). isNone (cond c (claims lowest m ∷ []) [] ++ [])) (eq-eqb i id e))) m commits settings)))
+        go (no d) =
+            subst (λ (c : Bool). Does l Idle who z (feeding (cond c (claims lowest m ∷ []) [] ++ [])) (claimOf S l stamps k mark (pos i) m commits settings)) (sym (ne-eqb i id d))
             (quiet l Idle who z _ refl (claims-elsewhere _ who l stamps k mark (holds l k Idle z refl u) (pos i) m commits settings
             (λ j. not-named _ who l stamps k mark (holds l k Idle z refl u) i m j d)))
-    keeps q ns settings (claim (negsuc i) m commits) h v alone idle agrees =
-        gated q aside _ v
-        (λ u. let x = holds l k Idle z refl u in
-        quiet l Idle who z _ refl (claims-elsewhere _ who l stamps k mark x (negsuc i) m commits settings (not-exclusive _ who l stamps k mark x i m)))
-        (λ e. refl)
-    keeps q ns settings (release x m told pending) h v alone idle agrees =
-        gated q (cond (inRange S b n x) (feeds (releases x m)) aside) _ v (λ u. go (inRange S b n x) refl u) (busy q (inRange S b n x) (releases x m) (alone (releases x m)) (λ w. idle w refl))
+    acts ns settings (claim (negsuc i) m commits) u alone =
+        let x = holds l k Idle z refl u in
+        quiet l Idle who z _ refl (claims-elsewhere _ who l stamps k mark x (negsuc i) m commits settings (not-exclusive _ who l stamps k mark x i m))
+    acts ns settings (release x m told pending) u alone = go (inRange there x) refl
       where
-        range : isInside S (at l id) x ≡ inRange S b n x
-        range = in-range q x v
+        range : isInside S (at l id) x ≡ inRange there x
+        range = in-range Idle x u
 
-        go : (c : Bool) → inRange S b n x ≡ c → Invariant l k Idle z
-            → Does l Idle who z (cond c (feeds (releases x m)) aside) (releaseOf S l stamps k mark x m told pending (nowMs ns) (delayMs (settings .delay)))
-        go true e u = matched (releases x m) _ (own-release u x m told pending _ _ (range ∙ e))
-        go false e u = quiet l Idle who z _ refl (releases-elsewhere _ who l stamps k mark (holds l k Idle z refl u) x m told pending _ _ (range ∙ e))
-    keeps q ns settings (sweep force) h v alone idle agrees =
-        gated q aside _ v
-        (λ u. quiet l Idle who z _ refl (sweeps _ who stamps k mark _ (u .low) (t .few) (omega (arith, u .stays .chunks, t .each id (u .low) .range .few)) k 0 l (t .long)
-        (record { rows = t .rows id (u .low); stays = u .stays; shows = refl })))
-        (λ e. refl)
+        go : (c : Bool) → inRange there x ≡ c → Does l Idle who z (feeding (cond c (releases x m ∷ []) [] ++ [])) (releaseOf S l stamps k mark x m told pending (nowMs ns) (delayMs (settings .delay)))
+        go true e = matched (releases x m) _ (own-release u x m told pending _ _ (range ∙ e))
+        go false e = quiet l Idle who z _ refl (releases-elsewhere _ who l stamps k mark (holds l k Idle z refl u) x m told pending _ _ (range ∙ e))
+    acts ns settings (sweep force) u alone =
+        quiet l Idle who z _ refl (sweeps _ who stamps k mark _ (u .low) (t .few) (omega (arith, u .stays .chunks, t .each id (u .low) .range .few)) k 0 l (t .long)
+        (record { rows = t .rows id (u .low); stays = u .stays; shows = refl }))
+
+    pub keeps : (q : Question) (ns : ℕ) (settings : Settings) (c : Call) → SoundQuestion l k q → Inv S p id b n l k q z
+        → (isNone (fedOf (role there q c)) ≡ false → who ≡ p)
+        → (who ≡ p → isAnswer c ≡ false → q ≡ Idle)
+        → (z ≡ p → declines q c ≡ false)
+        → Fits S p id b n l q who z (role there q c) (stepOn S l stamps k mark q ns settings c)
+    keeps q ns settings (act a) h v alone idle agrees = gated q (feeds there (entriesOf a)) _ v (λ u. acts ns settings a u alone) (busy q (feeds there (entriesOf a)) alone (λ w. idle w refl))
+    keeps q ns settings (query c) h v alone idle agrees = same l k q who z _ stamps mark v
     keeps q ns settings (answer kind agreed base) h v alone idle agrees = answers q kind agreed base h v agrees
-    keeps q ns settings (owns address) h v alone idle agrees = same l k q who z _ stamps mark v
-    keeps q ns settings (area i) h v alone idle agrees = same l k q who z _ stamps mark v

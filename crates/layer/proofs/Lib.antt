@@ -9,7 +9,11 @@ pub mod View
 pub mod Cases
 pub mod Keeps
 pub mod Outcomes
+pub mod Asked
+pub mod Trails
+pub mod Plain
+pub mod Opened
+pub mod Ten
 pub mod Demand
 pub mod Consequences
-pub mod Opened
-pub mod Possible
+pub mod Elsewhere

@@ -1,58 +1,49 @@
--- The book opens where Registering's rules register an exclusive arena: a managed one, and a reserved one whose memory question the rules leave open until the
--- yes that registers it. Assumes nothing.
+-- The book opens where Registering's rules, in plain arithmetic, register an exclusive arena: a managed one, and a reserved one whose memory question is open.
+-- Assumes nothing.
 use mathlib.Core.Path.{_≡_, refl, sym, ap, ap₂, _∙_, subst}
-use mathlib.Core.Bool.{Bool, true, false, not, _&&_, _||_}
-use mathlib.Core.List.{List, [], _∷_, _++_}
-use Prim.Native.Nat.{ℕ, suc, _+_, _-_, _*_, _/_, _%_, _<_}
+use mathlib.Core.Bool.{Bool, true, false, not, _&&_, _||_, true≢false}
+use mathlib.Core.List.{List, []}
+use mathlib.Core.Logic.{⊎-elim}
+use Prim.Native.Nat.{ℕ, suc, _+_, _-_, _*_, _/_, _%_, _^_, _<_, _≤_}
 use native.Mathlib.Omega.{arith}
-use borrow.Author.Tests.{eq-eqb, lt-leb}
-use lib.Dec.{eqb, leb}
-use lib.IntN.{ℤ}
-use Rattle.words.proofs.Tests.{when, unless, by-cond}
+use borrow.Author.Tests.{eq-eqb, ne-eqb, lt-leb, ltb-true}
+use lib.Dec.{eqb, leb, ltb}
+use lib.IntN.{ℤ, negsuc}
+use Rattle.words.proofs.Tests.{when, unless}
+use Rattle.words.proofs.RowLaws.{lt-or-le}
+use Rattle.runs.proofs.SearchLaws.{and-both}
 use Rattle.arena.specs.declared.Arena.{Arena}
 use Rattle.arena.specs.Registering.{newArena, reservedArena, managedArena}
+use Rattle.lookup.specs.Place.{bytesOf, endOf}
+use Rattle.lookup.proofs.SoundLaws.{never}
 use Rattle.layer.specs.declared.Question.{Question}
-use Rattle.layer.specs.declared.Question.the-variants.{Idle, Reserving}
-use Rattle.layer.specs.declared.Waiting.the-variants.{Reserve}
+use Rattle.layer.specs.declared.Question.the-variants.{Idle, Committing, Purging, Reserving, GivingBack}
+use Rattle.layer.specs.declared.Waiting.the-variants.{Reserve, Claim}
 use Rattle.layer.specs.declared.Kind.the-variants.{ForMemory}
 use Rattle.layer.specs.declared.Answer.the-variants.{Registered}
 use Rattle.layer.specs.declared.Reply.{Reply}
-use Rattle.layer.specs.World.{Outcome, outcome, worldOf, calm}
-use Rattle.layer.specs.Table.{at, badRange}
-use Rattle.layer.specs.Registering.{chunksFor, bytesAsked, tooLarge, askMemory, reserveReply, badCount, registerReply, registers, withRecord, withStamps, register, firstWhole, pastWhole, noWholeChunk, reserveOf, manageOf}
+use Rattle.layer.specs.World.{Outcome, outcome, worldOf}
+use Rattle.layer.specs.World as W
+use Rattle.layer.specs.Table.{at, meets, badRange}
+use Rattle.layer.specs.Registering.{chunksFor, badCount, registerReply, registers, withRecord, withStamps, register, firstWhole, pastWhole, noWholeChunk, manageOf}
 use Rattle.layer.specs.Answering.{isFor, answerMemory, answerOf}
-use Rattle.layer.specs.Step.{Call, answer, stepOn}
-use Rattle.layer.specs.Sequence.{Marked, Trail, outcomeOf, brokenAt, next, after, start, Lent, Opens}
-use Rattle.layer.specs.Demand.{isSound, leavesOpen, StaysOpen, Reserves, RegistersManaged, RegistersReserved}
+use Rattle.layer.specs.Step.{claim, reserve, Call, act, answer, stepOn}
+use Rattle.layer.specs.Book.{opened}
+use Rattle.layer.specs.History.{Marked, Trail, openAt, follow, standing, Registrable, Manages, Reserves, Registers, OpensAt}
 use Rattle.layer.proofs.Tools.{at-same}
-use Rattle.layer.proofs.Facts.{SoundTable}
-use Rattle.layer.proofs.Rules.{left-open}
-use Rattle.layer.proofs.Kept.{SoundWorld}
-use Rattle.layer.proofs.Outcomes.{refused-1}
-use Rattle.layer.proofs.Demand.{IsLent, stands, lent-append, sound-next, sound-after, sound-empty}
-
--- ---- a record that is asked to be exclusive
-
-record Exclusive (b n : ℕ) (managed : Bool) (a : Arena) : Type 0 where
-  exclusive : a .exclusive ≡ true
-  base : a .base ≡ b
-  chunks : a .chunks ≡ n
-  owned : a .owned ≡ not managed
-
-managed-exclusive : (b n : ℕ) (node : ℤ) → Exclusive b n true (managedArena b n true node)
-unfolding managedArena newArena
-managed-exclusive b n node = record { exclusive = refl; base = refl; chunks = refl; owned = refl }
-
-reserved-exclusive : (b n : ℕ) (commit : Bool) → Exclusive b n false (reservedArena b n commit true)
-unfolding reservedArena newArena
-reserved-exclusive b n commit = record { exclusive = refl; base = refl; chunks = refl; owned = refl }
+use Rattle.layer.proofs.Facts.{none-overlaps}
+use Rattle.layer.proofs.Shown.{calm, bookIn, Stays, bookAt, owedAt, Inv}
+use Rattle.layer.proofs.View.{book-reserved, book-managed}
+use Rattle.layer.proofs.Plain.{not-12, not-6}
+use Rattle.layer.proofs.Asked.{Asked}
+use Rattle.layer.proofs.Trails.{S, Good, onTrail, gone, follow-sound}
 
 -- ---- the rules, where none turns the arena down
 
-module _ (S : ℕ) (l : List Arena) (stamps : List ℕ) (k : ℕ) (mark : Bool) where
+module _ (l : List Arena) (stamps : List ℕ) (k : ℕ) (mark : Bool) where
   -- the record stands at the end of the table
   abbrev added : Arena → Outcome
-  added a = outcome (Registered k) (worldOf (withRecord l k a) (withStamps stamps k) (calm (suc k) mark))
+  added a = outcome (Registered k) (worldOf (withRecord l k a) (withStamps stamps k) (W.calm (suc k) mark))
 
   register-adds : (n : ℕ) (a : Arena) → badCount n ≡ false → k < 32 → register l stamps k mark n a ≡ added a
   unfolding registers registerReply
@@ -60,14 +51,17 @@ module _ (S : ℕ) (l : List Arena) (stamps : List ℕ) (k : ℕ) (mark : Bool) 
       when (not (badCount n) && not (leb 32 k)) _ _ (ap₂ (λ (c d : Bool). not c && not d) e (lt-leb 32 k h))
       ∙ ap (λ (r : Reply). outcome (r .answer) (worldOf (withRecord l k a) (withStamps stamps k) (r .state))) (unless (badCount n) _ _ e ∙ unless (leb 32 k) _ _ (lt-leb 32 k h))
 
-  manage-adds : (from size : ℕ) (node : ℤ) (mapped reserved : Bool)
-      → let b = firstWhole S from in
-      let bytes = pastWhole S from size - firstWhole S from in
-      noWholeChunk S from size ≡ false → mapped || not reserved ≡ false → badRange S l k b bytes ≡ false → badCount (bytes / S) ≡ false → k < 32
-      → manageOf S l stamps k mark from size true node mapped reserved ≡ added (managedArena b (bytes / S) true node)
+  manage-adds : (from size : ℕ) (node : ℤ) (b n : ℕ) → firstWhole S from ≡ b → pastWhole S from size ≡ b + n * S
+      → noWholeChunk S from size ≡ false → badRange S l k b (n * S) ≡ false → badCount n ≡ false → k < 32
+      → manageOf S l stamps k mark from size true node false true ≡ added (managedArena b n true node)
   unfolding manageOf
-  manage-adds from size node mapped reserved whole host range count room =
-      unless (noWholeChunk S from size) _ _ whole ∙ unless (mapped || not reserved) _ _ host ∙ unless (badRange S l k _ _) _ _ range ∙ register-adds _ _ count room
+  manage-adds from size node b n first past whole range count room =
+      let bytes : pastWhole S from size - firstWhole S from ≡ n * S = omega (arith, first, past) in
+      let chunks : (pastWhole S from size - firstWhole S from) / S ≡ n = ap (λ (x : ℕ). x / S) bytes ∙ omega arith in
+      unless (noWholeChunk S from size) _ _ whole
+      ∙ unless (badRange S l k _ _) _ _ (ap₂ (badRange S l k) first bytes ∙ range)
+      ∙ register-adds _ _ (ap badCount chunks ∙ count) room
+      ∙ ap₂ (λ (x y : ℕ). added (managedArena x y true node)) first chunks
 
   memory-adds : (n bytes : ℕ) (commit : Bool) (b : ℕ) → badRange S l k b (n * S) ≡ false → badCount n ≡ false → b % S ≡ 0 → k < 32
       → answerMemory S l stamps k mark n bytes commit true Reserve true b ≡ added (reservedArena b n commit true)
@@ -75,98 +69,106 @@ module _ (S : ℕ) (l : List Arena) (stamps : List ℕ) (k : ℕ) (mark : Bool) 
       unless (badRange S l k b (n * S)) _ _ range ∙ unless (badCount n) _ _ count ∙ when (eqb (b % S) 0) _ _ (eq-eqb (b % S) 0 aligned)
       ∙ unless (leb 32 k) _ _ (lt-leb 32 k room)
 
--- ---- a sound call on the trail
+-- ---- the tests of manage, by plain arithmetic
 
-module _ (S : ℕ) (t : Trail) (m : Marked) (lent : IsLent S t m) where
-  abbrev pub stepped : Question → Call → Outcome
-  stepped q c = stepOn S (t .world .records) (t .world .stamps) (t .world .state .count) (t .world .state .mark) q (m .ns) (m .settings) c
+module _ (t : Trail) (g : Good t) (b n : ℕ) (r : Registrable (t .world) b n) where
+  abbrev l : List Arena
+  l = t .world .records
 
-  pub passes-1 : isSound S m ≡ true → brokenAt S m ≡ false
-  passes-1 e = refused-1 S (m .lent) (m .ns) (m .settings) (m .call) ∙ ap not e
+  abbrev k : ℕ
+  k = standing t
 
-  pub does : isSound S m ≡ true → (q : Question) → t .world .state .question ≡ q → (c : Call) → m .call ≡ c → outcomeOf S m ≡ stepped q c
-  does e q f c g = stands S t m lent (passes-1 e) ∙ ap₂ stepped f g
+  some-each : (i : ℕ) → i < k → 1 ≤ at l i .chunks
+  some-each i h = g .world .table .each i h .range .some
 
-  -- one that registers an exclusive arena at the end of the table opens its book
-  opens-by : (b n : ℕ) (managed : Bool) (a : Arena) → SoundTable S (t .world .records) (t .world .state .count) → t .world .state .count < 32 → Exclusive b n managed a
-      → outcomeOf S m ≡ added S (t .world .records) (t .world .stamps) (t .world .state .count) (t .world .state .mark) a → Opens S (t .world .state .count) b n managed m
-  opens-by b n managed a table room x e =
-      let k = t .world .state .count in
-      let there : at (outcomeOf S m .world .records) k ≡ a = ap (λ (o : Outcome). at (o .world .records) k) e ∙ at-same (t .world .records) k a (omega (arith, table .long, room)) in
-      record {
-        registered = ap (λ (o : Outcome). o .answer) e;
-        exclusive = ap (λ (c : Arena). c .exclusive) there ∙ x .exclusive;
-        base = ap (λ (c : Arena). c .base) there ∙ x .base;
-        chunks = ap (λ (c : Arena). c .chunks) there ∙ x .chunks;
-        owned = ap (λ (c : Arena). c .owned) there ∙ x .owned;
-      }
+  range-passes : badRange S l k b (n * S) ≡ false
+  range-passes = not-6 (t .world) some-each b n r
 
--- ---- a memory question stays open until the rules close it
+  count-passes : badCount n ≡ false
+  count-passes = not-12 (t .world) b n r
 
-module _ (S n bytes : ℕ) (commit : Bool) where
-  abbrev asked : Question
-  asked = Reserving n bytes commit true Reserve
+  module _ (m : Marked) (x : Manages t m b n) where
+    first : firstWhole S (x .from) ≡ b
+    unfolding chunksFor
+    first = let a : b % 33554432 ≡ 0 = r .whole in let lo : x .from ≤ b = x .first .0 in let hi : b < x .from + 33554432 = x .first .1 in omega arith
 
-  open-next : (t : Trail) (m : Marked) → IsLent S t m → not (isSound S m) || leavesOpen S n (t .world) (m .call) ≡ true → t .world .state .question ≡ asked
-      → next S t m .world .state .question ≡ asked
-  open-next t m lent e q =
-      by-cond (λ (u : Trail). u .world .state .question ≡ asked) (brokenAt S m) _ _ (λ f. q)
-      (λ f. let row-1 : not (isSound S m) ≡ false = sym (refused-1 S (m .lent) (m .ns) (m .settings) (m .call)) ∙ f in
-      ap (λ (o : Outcome). o .world .state .question) (stands S t m lent f ∙ ap (λ (z : Question). stepped S t m lent z (m .call)) q)
-      ∙ left-open S n bytes commit true Reserve (t .world) (m .ns) (m .settings) (m .call) (ap (λ (z : Bool). z || leavesOpen S n (t .world) (m .call)) (sym row-1) ∙ e))
+    past : pastWhole S (x .from) (x .bytes) ≡ b + n * S
+    past = let a : b % 33554432 ≡ 0 = r .whole in let lo : b + n * 33554432 ≤ x .from + x .bytes = x .last .0 in let hi : x .from + x .bytes < b + n * 33554432 + 33554432 = x .last .1 in omega arith
 
-  open-after : (t : Trail) (ms : List Marked) → Lent S t ms → StaysOpen S n t ms → t .world .state .question ≡ asked → after S t ms .world .state .question ≡ asked
-  open-after t [] lent e q = q
-  open-after t (m ∷ ms) lent e q = open-after (next S t m) ms (lent .1) (e .1) (open-next t m (lent .0) (e .0) q)
+    not-15 : noWholeChunk S (x .from) (x .bytes) ≡ false
+    unfolding noWholeChunk
+    not-15 =
+        ap₂ _||_ (ne-eqb (x .from) 0 (λ e. omega (arith, x .some-start)))
+        (ap₂ _||_ (lt-leb (2 ^ 64) (x .from + x .bytes) (x .sum-fits))
+        (ap₂ _||_ (lt-leb (2 ^ 64) (x .from + (S - 1)) (let lo : x .from ≤ b = x .first .0 in let up : b + n * 33554432 ≤ x .from + x .bytes = x .last .0 in let top : x .from + x .bytes < 2 ^ 64 = x .sum-fits in let some : 1 ≤ n = r .some in omega arith))
+        (lt-leb (pastWhole S (x .from) (x .bytes)) (firstWhole S (x .from)) (let some : 1 ≤ n = r .some in omega (arith, first, past)))))
 
--- a reserve puts it
-reserve-asks : (S : ℕ) (l : List Arena) (stamps : List ℕ) (k : ℕ) (mark : Bool) (size : ℕ) (commit large : Bool) (page : ℕ) → tooLarge S size ≡ false
-    → reserveOf S l stamps k mark size commit large true page .world .state .question ≡ Reserving (chunksFor S size) (bytesAsked S size page) commit true Reserve
-unfolding reserveOf reserveReply askMemory
-reserve-asks S l stamps k mark size commit large page e = ap (λ (r : Reply). r .state .question) (unless (tooLarge S size) _ _ e)
+  -- ---- the call registers it
 
-open-put : (S b n : ℕ) (t : Trail) (r : Marked) (between : List Marked) (m : Marked) → IsLent S t r → (x : Reserves S b n t r between m)
-    → next S t r .world .state .question ≡ Reserving n (bytesAsked S (x .size) (r .settings .page)) (x .commit) true Reserve
-open-put S b n t r between m lent x =
-    ap (λ (u : Trail). u .world .state .question) (unless (brokenAt S r) t _ (passes-1 S t r lent (x .is-sound)))
-    ∙ ap (λ (o : Outcome). o .world .state .question) (does S t r lent (x .is-sound) Idle (x .none-open) _ (x .is-call))
-    ∙ reserve-asks S (t .world .records) (t .world .stamps) (t .world .state .count) (t .world .state .mark) (x .size) (x .commit) (x .large) (r .settings .page) (x .asked)
-    ∙ ap (λ (z : ℕ). Reserving z (bytesAsked S (x .size) (r .settings .page)) (x .commit) true Reserve) (x .chunks)
+  module _ (m : Marked) where
+    abbrev does : Question → Call → Outcome
+    does q c = stepOn S l (t .world .stamps) k (t .world .state .mark) q (m .ns) (m .settings) c
 
--- ---- a managed arena
+    managed-adds : (x : Manages t m b n) → onTrail t m ≡ added l (t .world .stamps) k (t .world .state .mark) (managedArena b n true (x .node))
+    managed-adds x =
+        ap₂ does (x .none-open) (x .is-call)
+        ∙ manage-adds l (t .world .stamps) k (t .world .state .mark) (x .from) (x .bytes) (x .node) b n (first m x) (past m x) (not-15 m x) range-passes count-passes (r .room)
 
-pub registers-managed : (S : ℕ) → 0 < S → RegistersManaged S
-registers-managed S some b n before m lent x =
-    let t : Trail = after S start before in
-    let h = lent-append S start before (m ∷ []) lent in
-    let sound : SoundWorld S (t .world) = sound-after S some start before (h .0) (sound-empty S some) in
-    let bytes : ℕ = pastWhole S (x .from) (x .size) - firstWhole S (x .from) in
-    opens-by S t m (h .1 .0) b n true (managedArena (firstWhole S (x .from)) (bytes / S) true (x .node)) (sound .table) (x .not-13)
-    (subst (λ (z : ℕ). Exclusive z n true (managedArena (firstWhole S (x .from)) (bytes / S) true (x .node))) (x .base)
-    (subst (λ (z : ℕ). Exclusive (firstWhole S (x .from)) z true (managedArena (firstWhole S (x .from)) (bytes / S) true (x .node))) (x .chunks)
-    (managed-exclusive (firstWhole S (x .from)) (bytes / S) (x .node))))
-    (does S t m (h .1 .0) (x .is-sound) Idle (x .none-open) _ (x .is-call)
-    ∙ manage-adds S (t .world .records) (t .world .stamps) (t .world .state .count) (t .world .state .mark) (x .from) (x .size) (x .node) (x .mapped) (x .reserved)
-    (x .not-15) (x .not-16) (ap (λ (z : ℕ). badRange S (t .world .records) (t .world .state .count) z bytes) (x .base) ∙ x .not-6) (ap badCount (x .chunks) ∙ x .not-12) (x .not-13))
+    reserved-adds : (x : Reserves t m b n) → onTrail t m ≡ added l (t .world .stamps) k (t .world .state .mark) (reservedArena b n (x .commit) true)
+    unfolding answerOf isFor
+    reserved-adds x = ap (does (openAt t)) (x .is-call) ∙ go (openAt t) (x .memory-open) (g .asked)
+      where
+        go : (q : Question) → isFor q ForMemory ≡ true → Asked S l q (t .asked) → does q (answer ForMemory true b) ≡ added l (t .world .stamps) k (t .world .state .mark) (reservedArena b n (x .commit) true)
+        go Idle e a = absurd (true≢false (sym e))
+        go (Committing i s c) e a = absurd (true≢false (sym e))
+        go (Purging i j w) e a = absurd (true≢false (sym e))
+        go (GivingBack cause waiting) e a = absurd (true≢false (sym e))
+        go (Reserving chunks bytes commit exclusive (Claim c commits)) e a =
+            absurd (let y : act (claim (negsuc (a .0)) c commits) ≡ act (reserve (x .bytes) (x .commit) (x .large) true) = sym (a .1) ∙ x .asked-by in let z : _≡_ {A = ℕ} 0 1 = cc in omega arith)
+        go (Reserving chunks bytes commit exclusive Reserve) e a =
+            let y : act (reserve (a .0) commit (a .1) exclusive) ≡ act (reserve (x .bytes) (x .commit) (x .large) true) = sym (a .2) ∙ x .asked-by in
+            let size : a .0 ≡ x .bytes = cc in
+            let same : commit ≡ x .commit = cc in
+            let alone : exclusive ≡ true = cc in
+            let count : chunks ≡ n = a .3 ∙ ap (chunksFor S) size ∙ rounded in
+            ap₂ (λ (y : ℕ) (z : Bool). answerMemory S l (t .world .stamps) k (t .world .state .mark) y bytes z exclusive Reserve true b) count same
+            ∙ ap (λ (z : Bool). answerMemory S l (t .world .stamps) k (t .world .state .mark) n bytes (x .commit) z Reserve true b) alone
+            ∙ memory-adds l (t .world .stamps) k (t .world .state .mark) n bytes (x .commit) b range-passes count-passes (r .whole) (r .room)
+          where
+            rounded : chunksFor S (x .bytes) ≡ n
+            rounded = unfold chunksFor in let lo : x .bytes ≤ n * 33554432 = x .rounds .0 in let hi : n * 33554432 < x .bytes + 33554432 = x .rounds .1 in omega arith
 
--- ---- a reserved arena
+-- ---- then its book is as it is opened
 
-pub registers-reserved : (S : ℕ) → 0 < S → RegistersReserved S
-registers-reserved S some b n before r between m lent x =
-    let t : Trail = after S start before in
-    let h = lent-append S start before (r ∷ (between ++ m ∷ [])) lent in
-    let g = lent-append S (next S t r) between (m ∷ []) (h .1 .1) in
-    let u : Trail = after S (next S t r) between in
-    let sound : SoundWorld S (u .world) =
-    sound-after S some (next S t r) between (g .0) (sound-next S some t r (h .1 .0) (sound-after S some start before (h .0) (sound-empty S some))) in
-    let bytes : ℕ = bytesAsked S (x .size) (r .settings .page) in
-    let q : u .world .state .question ≡ Reserving n bytes (x .commit) true Reserve =
-    open-after S n bytes (x .commit) (next S t r) between (g .0) (x .stays-open) (open-put S b n t r between m (h .1 .0) x) in
-    opens-by S u m (g .1 .0) b n false (reservedArena b n (x .commit) true) (sound .table) (x .not-13) (reserved-exclusive b n (x .commit))
-    (does S u m (g .1 .0) (x .answer-sound) _ q _ (x .is-answer)
-    ∙ answers-memory n bytes (x .commit) b (u .world .records) (u .world .stamps) (u .world .state .count) (u .world .state .mark)
-    ∙ memory-adds S (u .world .records) (u .world .stamps) (u .world .state .count) (u .world .state .mark) n bytes (x .commit) b (x .not-6) (x .not-12) (x .not-7) (x .not-13))
-  where
-    answers-memory : (n bytes : ℕ) (commit : Bool) (b : ℕ) (l : List Arena) (stamps : List ℕ) (k : ℕ) (mark : Bool)
-        → answerOf S l stamps k mark (Reserving n bytes commit true Reserve) ForMemory true b ≡ answerMemory S l stamps k mark n bytes commit true Reserve true b
-    answers-memory n bytes commit b l stamps k mark = unfold answerOf isFor in refl
+pub record Opening (p id b n : ℕ) (managed : Bool) (u : Trail) : Type 0 where
+  pub inv : Inv S p id b n (u .world .records) (u .world .state .count) (openAt u) (u .asker)
+  pub book : bookAt S p id b n (u .world .records) (openAt u) ≡ opened S b n managed
+  pub owes : owedAt S p id b n (u .world .records) (openAt u) ≡ []
+
+module _ (p : ℕ) (t : Trail) (m : Marked) (g : Good t) (o : OpensAt t m) where
+  -- the record at the end of the table
+  stands : (a : Arena) → a .exclusive ≡ true → a .base ≡ o .base → a .chunks ≡ o .chunks → bookIn S calm a ≡ opened S (o .base) (o .chunks) (o .managed)
+      → onTrail t m ≡ added (t .world .records) (t .world .stamps) (standing t) (t .world .state .mark) a → Opening p (standing t) (o .base) (o .chunks) (o .managed) (gone t m (onTrail t m))
+  stands a x y z shows e =
+      subst (λ (c : Outcome). Opening p (standing t) (o .base) (o .chunks) (o .managed) (gone t m c)) (sym e)
+      (record {
+        inv = record { low = omega arith; stays = subst (Stays (o .base) (o .chunks)) (sym there) (record { exclusive = x; base = y; chunks = z }); mine = tt };
+        book = ap (bookIn S calm) there ∙ shows;
+        owes = refl;
+      })
+    where
+      there : at (withRecord (t .world .records) (standing t) a) (standing t) ≡ a
+      there = at-same (t .world .records) (standing t) a (omega (arith, g .world .table .long, o .registrable .room))
+
+  by-kind : (managed : Bool) → o .managed ≡ managed → Registers t m (o .base) (o .chunks) managed → Opening p (standing t) (o .base) (o .chunks) (o .managed) (gone t m (onTrail t m))
+  by-kind true e x =
+      stands (managedArena (o .base) (o .chunks) true (x .node)) (unfold managedArena newArena in refl) (unfold managedArena newArena in refl) (unfold managedArena newArena in refl)
+      (book-managed (o .base) (o .chunks) true (x .node) (o .registrable .few) ∙ ap (opened S (o .base) (o .chunks)) (sym e))
+      (managed-adds t g (o .base) (o .chunks) (o .registrable) m x)
+  by-kind false e x =
+      stands (reservedArena (o .base) (o .chunks) (x .commit) true) (unfold reservedArena newArena in refl) (unfold reservedArena newArena in refl) (unfold reservedArena newArena in refl)
+      (book-reserved (o .base) (o .chunks) (x .commit) true (o .registrable .few) ∙ ap (opened S (o .base) (o .chunks)) (sym e))
+      (reserved-adds t g (o .base) (o .chunks) (o .registrable) m x)
+
+  pub opening : Opening p (standing t) (o .base) (o .chunks) (o .managed) (follow t m)
+  opening = subst (Opening p (standing t) (o .base) (o .chunks) (o .managed)) (sym (follow-sound t m g (o .is-sound))) (by-kind (o .managed) refl (o .registers))

@@ -1,7 +1,7 @@
--- What the answer of a call on a sound table tells, whatever the call: a refusal is none of row 1's, an exclusive arena is registered as its book is
--- opened, and a grant lies in no exclusive arena but one that the call or the open question names. Assumes nothing.
+-- What the answer of a call on a sound table tells, whatever the call: a refusal is none of row 1's, and a grant lies in no exclusive arena but one that the
+-- call or the open question names. Assumes nothing.
 use mathlib.Core.Path.{_≡_, refl, sym, ap, ap₂, _∙_, subst}
-use mathlib.Core.Bool.{Bool, true, false, cond, not, true≢false}
+use mathlib.Core.Bool.{Bool, true, false, cond, not}
 use mathlib.Core.List.{List}
 use Prim.Native.Nat.{ℕ, zero, suc, _+_, _-_, _*_, _/_, _%_, _<_, _≤_}
 use native.Mathlib.Nat.{add-mul, mul-le-mul-right}
@@ -11,7 +11,6 @@ use lib.Dec.{leb, ltb, eqb}
 use lib.IntN.{ℤ, pos, negsuc}
 use lib.ListN.{length}
 use Rattle.words.proofs.Tests.{by-cond}
-use Rattle.words.proofs.WordLaws.{not-both}
 use Rattle.runs.specs.declared.Found.{Found}
 use Rattle.runs.specs.declared.Found.the-variants.{At, Nothing}
 use Rattle.runs.specs.Lowest.{all}
@@ -21,7 +20,7 @@ use Rattle.refusals.specs.declared.Refusal.{Refusal}
 use Rattle.refusals.specs.declared.Refusal.the-variants.{Broken}
 use Rattle.refusals.specs.Number.{number}
 use Rattle.arena.specs.declared.Arena.{Arena}
-use Rattle.arena.specs.Registering.{newArena, reservedArena, managedArena, adoptedArena, grownArena}
+use Rattle.arena.specs.Registering.{reservedArena}
 use Rattle.arena.specs.Sweeping.{sweepDue, disarm, nextAsked}
 use Rattle.lookup.specs.Place.{isInside}
 use Rattle.lookup.specs.Soundness.{soundArena}
@@ -41,21 +40,19 @@ use Rattle.layer.specs.declared.Kind.{Kind}
 use Rattle.layer.specs.declared.Ask.{Ask}
 use Rattle.layer.specs.declared.Answer.{Answer}
 use Rattle.layer.specs.declared.Answer.the-variants.{Refused, Asks, Registered, Claimed, Released, Swept, Owns, Area}
-use Rattle.layer.specs.World.{World, Outcome, stateOf, worldOf, after, turnDown, outcome}
+use Rattle.layer.specs.World.{World, Outcome, after, turnDown, outcome}
 use Rattle.layer.specs.Table.{at, meets, badRange, apart, soundTable, soundLent, sound}
-use Rattle.layer.specs.Registering.{askMemory, badCount, withRecord, withStamps, register, grows}
+use Rattle.layer.specs.Registering.{askMemory, badCount, withRecord, withStamps, register}
 use Rattle.layer.specs.Claiming.{serves, claimOf}
 use Rattle.layer.specs.Sweeping.{purgeReply, sweptReply, visitAt, visit, sweepFrom}
 use Rattle.layer.specs.Answering.{isFor, causeRefusal, counted, failReply, answerCommit, resume, answerMemory, answerTo, answerOf}
-use Rattle.layer.specs.Step.{Call, reserve, manage, adopt, claim, release, sweep, answer, owns, area, sweepOf, gate, stepOn, step}
-use Rattle.layer.proofs.Tools.{at-same, at-other}
+use Rattle.layer.specs.Step.{Act, reserve, manage, adopt, claim, release, sweep, Query, owns, area, Call, act, query, answer, sweepOf, gate, actOn, queryOn, stepOn, rules}
+use Rattle.layer.proofs.Tools.{at-other}
 use Rattle.layer.proofs.Facts.{SoundTable, SoundQuestion, question-facts}
-use Rattle.layer.proofs.Rules.{not-shared, served-named, grows-facts, Again, again, count-facts}
+use Rattle.layer.proofs.Rules.{not-shared, served-named, Again, again, count-facts}
 use Rattle.layer.proofs.Registered.{good-range, new-table, reserved-rows, reserved-sound, reserved-range}
-use Rattle.layer.specs.Book.{opened}
-use Rattle.layer.specs.Sequence.{isBroken, calm, asksIn, asksFor}
-use Rattle.layer.proofs.Shown.{bookIn}
-use Rattle.layer.proofs.View.{book-reserved, book-managed}
+use Rattle.layer.specs.History.{isBroken}
+use Rattle.layer.specs.Demand.{chunksOf}
 use Rattle.layer.proofs.Cases.{grant-cases, search-cases, miss-cases, claim-cases, release-in-cases, release-cases, reserve-cases, register-cases, manage-cases, adopt-cases, memory-cases}
 use Rattle.layer.proofs.Keeps.{only-one}
 
@@ -80,27 +77,34 @@ namesIn (Purging i c w) j = false
 namesIn (Reserving chunks bytes commit exclusive waiting) j = false
 namesIn (GivingBack cause waiting) j = false
 
+abbrev pub actNames : Act → ℕ → Bool
+actNames (claim (pos i) n commits) j = eqb i j
+actNames (claim (negsuc i) n commits) j = false
+actNames (reserve size commit large exclusive) j = false
+actNames (manage from size exclusive node mapped reserved) j = false
+actNames (adopt address size) j = false
+actNames (release address n tell pending) j = false
+actNames (sweep force) j = false
+
 abbrev pub names : Question → Call → ℕ → Bool
-names q (claim (pos i) n commits) j = eqb i j
-names q (claim (negsuc i) n commits) j = false
+names q (act a) j = actNames a j
+names q (query c) j = false
 names q (answer kind accepted base) j = namesIn q j
-names q (reserve size commit large exclusive) j = false
-names q (manage from size exclusive node mapped reserved) j = false
-names q (adopt address size) j = false
-names q (release address n tell pending) j = false
-names q (sweep force) j = false
-names q (owns address) j = false
-names q (area i) j = false
 
--- an exclusive record shows the book as it is opened
-abbrev pub Shows : Arena → Type 0
-Shows a = a .exclusive ≡ true → bookIn calm a ≡ opened (a .base) (a .chunks) (not (a .owned))
+-- how many chunks it is about
+abbrev pub asksIn : Question → ℕ
+asksIn Idle = 0
+asksIn (Committing i s n) = n
+asksIn (Purging i j w) = 0
+asksIn (Reserving chunks bytes commit exclusive Reserve) = 0
+asksIn (Reserving chunks bytes commit exclusive (Claim n commits)) = n
+asksIn (GivingBack cause Reserve) = 0
+asksIn (GivingBack cause (Claim n commits)) = n
 
--- arena i is registered
-pub record New (i : ℕ) (w : World) : Type 0 where
-  pub low : i < w .state .count
-  pub idle : w .state .question ≡ Idle
-  pub shows : Shows (at (w .records) i)
+abbrev pub asksFor : Question → Call → ℕ
+asksFor q (act a) = chunksOf (act a)
+asksFor q (query c) = 0
+asksFor q (answer kind accepted base) = asksIn q
 
 module _ (S : ℕ) (l : List Arena) (k : ℕ) where
   -- so many chunks from x on have no address of an exclusive arena that is not named
@@ -110,7 +114,7 @@ module _ (S : ℕ) (l : List Arena) (k : ℕ) where
   abbrev pub Tells : ℕ → (ℕ → Bool) → Answer → World → Type 0
   Tells n named (Refused why) w = _≡_ {A = Bool} (eqb (number why) 1) false
   Tells n named (Asks ask) w = Unit {0}
-  Tells n named (Registered i) w = SoundTable S l k → New i w
+  Tells n named (Registered i) w = Unit {0}
   Tells n named (Claimed x fresh committed) w = SoundTable S l k → Away n named x
   Tells n named Released w = Unit {0}
   Tells n named (Swept count) w = Unit {0}
@@ -128,41 +132,21 @@ module _ (S : ℕ) (l : List Arena) (stamps : List ℕ) (k : ℕ) (mark : Bool) 
   unfolding askMemory
   asks-memory n named size page commit large exclusive waiting = tt
 
-  claim-tells : (id : ℤ) (n : ℕ) (commits : Bool) (settings : Settings) → TellsOf S l k n (names Idle (claim id n commits)) (claimOf S l stamps k mark id n commits settings)
+  claim-tells : (id : ℤ) (n : ℕ) (commits : Bool) (settings : Settings) → TellsOf S l k n (actNames (claim id n commits)) (claimOf S l stamps k mark id n commits settings)
   claim-tells id n commits settings =
-      claim-cases S l stamps k mark (TellsOf S l k n (names Idle (claim id n commits))) id n commits settings (λ e. refl) (λ e f. refl)
-      (λ e f. search-cases S l stamps k mark (TellsOf S l k n (names Idle (claim id n commits))) id n commits _
-      (λ g. miss-cases S l stamps k mark (TellsOf S l k n (names Idle (claim id n commits))) id n commits settings refl refl
-      (asks-memory n (names Idle (claim id n commits)) (settings .reserve) (settings .page) false false false (Claim n commits)))
-      (λ i h g. grant-cases S l stamps k mark (TellsOf S l k n (names Idle (claim id n commits))) i n commits (λ _. refl)
+      claim-cases S l stamps k mark (TellsOf S l k n (actNames (claim id n commits))) id n commits settings (λ e. refl) (λ e f. refl)
+      (λ e f. search-cases S l stamps k mark (TellsOf S l k n (actNames (claim id n commits))) id n commits _
+      (λ g. miss-cases S l stamps k mark (TellsOf S l k n (actNames (claim id n commits))) id n commits settings refl refl
+      (asks-memory n (actNames (claim id n commits)) (settings .reserve) (settings .page) false false false (Claim n commits)))
+      (λ i h g. grant-cases S l stamps k mark (TellsOf S l k n (actNames (claim id n commits))) i n commits (λ _. refl)
       (λ s r t j u x z. elsewhere S l k i j s n t h u (other id i j g x z) (found-inside (at l i) n s r)) (λ s _. tt)))
     where
-      other : (id : ℤ) (i j : ℕ) → serves id n l i ≡ true → at l j .exclusive ≡ true → names Idle (claim id n commits) j ≡ false → i ≡ j → ⊥
+      other : (id : ℤ) (i j : ℕ) → serves id n l i ≡ true → at l j .exclusive ≡ true → actNames (claim id n commits) j ≡ false → i ≡ j → ⊥
       other (pos x) i j e f g d = eqb-false x j g (sym (served-named x n l i e) ∙ d)
       other (negsuc x) i j e f g d = not-shared x n l i j f e d
 
-  -- ---- registering
-
-  new : (a : Arena) → Shows a → k < 32 → SoundTable S l k → New k (worldOf (withRecord l k a) (withStamps stamps k) (stateOf (suc k) mark Idle))
-  new a shows h t = record { low = omega arith; idle = refl; shows = subst Shows (sym (at-same l k a (omega (arith, t .long)))) shows }
-
-  register-tells : (m : ℕ) (named : ℕ → Bool) (chunks : ℕ) (a : Arena) → (chunks ≤ 1024 → Shows a) → TellsOf S l k m named (register l stamps k mark chunks a)
-  register-tells m named chunks a shows = register-cases S l stamps k mark (TellsOf S l k m named) chunks a refl refl (λ f h. new a (shows (count-facts chunks f .1)) h)
-
-  managed-shows : (base n : ℕ) (exclusive : Bool) (node : ℤ) → n ≤ 1024 → Shows (managedArena base n exclusive node)
-  managed-shows base n exclusive node h x = book-managed base n exclusive node h ∙ (unfold managedArena newArena in refl)
-
-  reserved-shows : (base n : ℕ) (commit exclusive : Bool) → n ≤ 1024 → Shows (reservedArena base n commit exclusive)
-  reserved-shows base n commit exclusive h x = book-reserved base n commit exclusive h ∙ (unfold reservedArena newArena in refl)
-
-  -- an adopted arena is not exclusive, and so is one that grows
-  adopted-shows : (base n : ℕ) → Shows (adoptedArena base n)
-  unfolding adoptedArena newArena
-  adopted-shows base n x = absurd (true≢false (sym x))
-
-  grown-shows : (i address n : ℕ) → grows S (at l i) address n ≡ true → Shows (grownArena (at l i) n)
-  unfolding grownArena
-  grown-shows i address n e x = absurd (not-both (at l i .exclusive) (grows-facts S (at l i) address n e .0) x)
+  register-tells : (m : ℕ) (named : ℕ → Bool) (chunks : ℕ) (a : Arena) → TellsOf S l k m named (register l stamps k mark chunks a)
+  register-tells m named chunks a = register-cases S l stamps k mark (TellsOf S l k m named) chunks a refl refl (λ f h. tt)
 
   -- ---- answers
 
@@ -177,7 +161,7 @@ module _ (S : ℕ) (l : List Arena) (stamps : List ℕ) (k : ℕ) (mark : Bool) 
   -- the reserved range is registered, and who waits goes on
   resume-tells : (base chunks bytes : ℕ) (commit exclusive : Bool) (waiting : Waiting) → badRange S l k base (chunks * S) ≡ false → badCount chunks ≡ false → base % S ≡ 0 → k < 32
       → TellsOf S l k (asksIn (Reserving chunks bytes commit exclusive waiting)) (λ j. false) (resume S l stamps k mark (reservedArena base chunks commit exclusive) waiting)
-  resume-tells base chunks bytes commit exclusive Reserve e f g h = new (reservedArena base chunks commit exclusive) (reserved-shows base chunks commit exclusive (count-facts chunks f .1)) h
+  resume-tells base chunks bytes commit exclusive Reserve e f g h = tt
   resume-tells base chunks bytes commit exclusive (Claim n commits) e f g h =
       subst (TellsOf S l k n (λ j. false)) (sym (once .is))
       (search-cases S m (withStamps stamps k) (suc k) mark (TellsOf S l k n (λ j. false)) (once .id) n commits _ (λ _. refl)
@@ -255,32 +239,33 @@ module _ (S : ℕ) (l : List Arena) (stamps : List ℕ) (k : ℕ) (mark : Bool) 
   gated m named (Reserving chunks bytes commit exclusive waiting) o stop x y = y
   gated m named (GivingBack cause waiting) o stop x y = y
 
+  act-tells : (q : Question) (ns : ℕ) (settings : Settings) (a : Act) → TellsOf S l k (chunksOf (act a)) (actNames a) (actOn S l stamps k mark q ns settings a)
+  act-tells q ns settings (reserve size commit large exclusive) =
+      reserve-cases S l stamps k mark (TellsOf S l k 0 (λ j. false)) size commit large exclusive (settings .page) refl
+      (asks-memory S l stamps k mark 0 (λ j. false) size (settings .page) commit large exclusive Reserve)
+  act-tells q ns settings (manage start size exclusive node mapped reserved) =
+      manage-cases S l stamps k mark (TellsOf S l k 0 (λ j. false)) start size exclusive node mapped reserved refl refl refl
+      (λ g. register-tells S l stamps k mark 0 (λ j. false) _ _)
+  act-tells q ns settings (adopt address size) =
+      adopt-cases S l stamps k mark (TellsOf S l k 0 (λ j. false)) address size refl refl refl
+      (λ i w u g. tt) (λ w. register-tells S l stamps k mark 0 (λ j. false) (size / S) _)
+  act-tells q ns settings (claim (pos i) n commits) = claim-tells S l stamps k mark (pos i) n commits settings
+  act-tells q ns settings (claim (negsuc i) n commits) = claim-tells S l stamps k mark (negsuc i) n commits settings
+  act-tells q ns settings (release x n told pending) =
+      release-cases S l stamps k mark (TellsOf S l k 0 (λ j. false)) n told pending _ _ x (λ e. refl) (λ e f. refl)
+      (λ i e u f. release-in-cases S l stamps k mark (TellsOf S l k 0 (λ j. false)) n told pending _ _ i _ (λ g. refl) (λ g v. refl) (λ g v. tt))
+  act-tells q ns settings (sweep force) =
+      sweep-cases S stamps k mark (sweepOf force ns settings) (TellsOf S l k 0 (λ j. false)) (λ ask v. tt) (λ n v. tt) k 0 l
+
+  query-tells : (q : Question) (ns : ℕ) (settings : Settings) (c : Query) (w : World) → Tells S l k 0 (λ j. false) (queryOn S l stamps k mark q ns settings c) w
+  query-tells q ns settings (owns address) w = tt
+  query-tells q ns settings (area (pos i)) w = by-cond (λ (r : Answer). Tells S l k 0 (λ j. false) r w) (ltb i k) _ _ (λ e. tt) (λ e. tt)
+  query-tells q ns settings (area (negsuc i)) w = tt
+
   pub step-tells : (q : Question) (ns : ℕ) (settings : Settings) (c : Call) → SoundQuestion l k q → TellsOf S l k (asksFor q c) (names q c) (stepOn S l stamps k mark q ns settings c)
-  step-tells q ns settings (reserve size commit large exclusive) h =
-      gated 0 _ q _ _
-      (reserve-cases S l stamps k mark (TellsOf S l k 0 (λ j. false)) size commit large exclusive (settings .page) refl
-      (asks-memory S l stamps k mark 0 (λ j. false) size (settings .page) commit large exclusive Reserve)) refl
-  step-tells q ns settings (manage start size exclusive node mapped reserved) h =
-      gated 0 _ q _ _
-      (manage-cases S l stamps k mark (TellsOf S l k 0 (λ j. false)) start size exclusive node mapped reserved refl refl refl
-      (λ g. register-tells S l stamps k mark 0 (λ j. false) _ _ (managed-shows S l stamps k mark _ _ exclusive node))) refl
-  step-tells q ns settings (adopt address size) h =
-      gated 0 _ q _ _
-      (adopt-cases S l stamps k mark (TellsOf S l k 0 (λ j. false)) address size refl refl refl
-      (λ i w u g t. record { low = u; idle = refl; shows = subst Shows (sym (at-same l i (grownArena (at l i) (size / S)) (omega (arith, u, t .long, t .few)))) (grown-shows S l stamps k mark i address (size / S) g) })
-      (λ w. register-tells S l stamps k mark 0 (λ j. false) (size / S) _ (λ _. adopted-shows S l stamps k mark address (size / S)))) refl
-  step-tells q ns settings (claim (pos i) n commits) h = gated n _ q _ _ (claim-tells S l stamps k mark (pos i) n commits settings) refl
-  step-tells q ns settings (claim (negsuc i) n commits) h = gated n _ q _ _ (claim-tells S l stamps k mark (negsuc i) n commits settings) refl
-  step-tells q ns settings (release x n told pending) h =
-      gated 0 _ q _ _
-      (release-cases S l stamps k mark (TellsOf S l k 0 (λ j. false)) n told pending _ _ x (λ e. refl) (λ e f. refl)
-      (λ i e u f. release-in-cases S l stamps k mark (TellsOf S l k 0 (λ j. false)) n told pending _ _ i _ (λ g. refl) (λ g v. refl) (λ g v. tt))) refl
-  step-tells q ns settings (sweep force) h =
-      gated 0 _ q _ _ (sweep-cases S stamps k mark (sweepOf force ns settings) (TellsOf S l k 0 (λ j. false)) (λ ask v. tt) (λ n v. tt) k 0 l) refl
+  step-tells q ns settings (act a) h = gated (chunksOf (act a)) (actNames a) q _ _ (act-tells q ns settings a) refl
+  step-tells q ns settings (query c) h = query-tells q ns settings c _
   step-tells q ns settings (answer kind accepted base) h = answer-tells q kind accepted base h
-  step-tells q ns settings (owns address) h = tt
-  step-tells q ns settings (area (pos i)) h = by-cond (λ (r : Answer). Tells S l k 0 (λ j. false) r (worldOf l stamps (stateOf k mark q))) (ltb i k) _ _ (λ e. tt) (λ e. tt)
-  step-tells q ns settings (area (negsuc i)) h = tt
 
 -- ---- a call is refused with 1 exactly if row 1 does not let pass what it is lent
 
@@ -305,8 +290,8 @@ sound-question S w page e =
     let g = and-both (apart S (w .records) (w .state .count)) _ (f .1) in
     question-facts S (w .records) (w .state .count) (w .state .question) (g .1)
 
-pub refused-1 : (S : ℕ) (w : World) (ns : ℕ) (settings : Settings) (c : Call) → isBroken (step S w ns settings c .answer) ≡ not (sound S w (settings .page))
-unfolding step
+pub refused-1 : (S : ℕ) (w : World) (ns : ℕ) (settings : Settings) (c : Call) → isBroken (rules S w ns settings c .answer) ≡ not (sound S w (settings .page))
+unfolding rules
 refused-1 S w ns settings c = go (sound S w (settings .page)) refl
   where
     o : Outcome

@@ -2,29 +2,22 @@
 use mathlib.Core.Path.{_≡_, refl, sym, ap, _∙_}
 use mathlib.Core.Bool.{Bool, true, false, not, _&&_, true≢false}
 use mathlib.Core.List.{List}
-use Prim.Native.Nat.{ℕ, zero, suc, _+_, _*_, _≤_}
+use Prim.Native.Nat.{ℕ, zero, suc, _+_, _≤_}
 use native.Mathlib.Omega.{arith}
 use borrow.Author.Tests.{eqb-true, eqb-false, leb-true, ltb-false}
 use lib.Dec.{eqb, leb}
 use lib.IntN.{ℤ, pos, negsuc}
 use Rattle.refusals.specs.declared.Refusal.the-variants.{NoRun}
-use Rattle.words.proofs.Tests.{when}
 use Rattle.runs.proofs.SearchLaws.{and-both}
 use Rattle.arena.specs.declared.Arena.{Arena}
 use Rattle.arena.specs.Claiming.{findRun}
 use Rattle.lookup.specs.Place.{endOf}
-use Rattle.layer.specs.declared.Settings.{Settings}
-use Rattle.layer.specs.declared.Question.the-variants.{Reserving}
-use Rattle.layer.specs.declared.Waiting.{Waiting}
 use Rattle.layer.specs.declared.Waiting.the-variants.{Claim}
-use Rattle.layer.specs.declared.Kind.the-variants.{ForCommit, ForPurge, ForMemory, ForGiveBack, ForNone}
-use Rattle.layer.specs.World.{World, Outcome, turnDown, calm}
-use Rattle.layer.specs.Table.{at, isAt, badRange}
+use Rattle.layer.specs.World.{turnDown, calm}
+use Rattle.layer.specs.Table.{at, isAt}
 use Rattle.layer.specs.Registering.{grows, badCount, withRecord, withStamps}
 use Rattle.layer.specs.Claiming.{eligible, serves, searchOf}
-use Rattle.layer.specs.Answering.{isFor, answerCommit, resume, answerOf}
-use Rattle.layer.specs.Step.{Call, reserve, manage, adopt, claim, release, sweep, answer, owns, area, stepOn}
-use Rattle.layer.specs.Demand.{leavesOpen}
+use Rattle.layer.specs.Answering.{answerCommit, resume}
 use Rattle.layer.proofs.Tools.{or-false, at-other}
 
 -- ---- claims
@@ -75,29 +68,6 @@ grows-facts S a address n g =
     go o true p q = λ g. absurd (true≢false (sym g ∙ never-grows S a address n q))
     go true false p q = rw q (rw p (λ g. (refl, g)))
     go false false p q = rw q (rw p (λ g. absurd (true≢false (sym g))))
-
--- ---- memory questions
-
--- "a question is open from where the rules above put it until they close it": a call that the rules say leaves it open does
-pub left-open : (S n bytes : ℕ) (commit exclusive : Bool) (waiting : Waiting) (w : World) (ns : ℕ) (settings : Settings) (c : Call) → leavesOpen S n w c ≡ true
-    → let q = Reserving n bytes commit exclusive waiting in
-    stepOn S (w .records) (w .stamps) (w .state .count) (w .state .mark) q ns settings c .world .state .question ≡ q
-unfolding answerOf isFor
-left-open S n bytes commit exclusive waiting w ns settings (answer ForMemory true base) e =
-    ap (λ (o : Outcome). o .world .state .question) (when (badRange S (w .records) (w .state .count) base (n * S)) _ _ e)
-left-open S n bytes commit exclusive waiting w ns settings (answer ForMemory false base) e = absurd (true≢false (sym e))
-left-open S n bytes commit exclusive waiting w ns settings (answer ForCommit accepted base) e = refl
-left-open S n bytes commit exclusive waiting w ns settings (answer ForPurge accepted base) e = refl
-left-open S n bytes commit exclusive waiting w ns settings (answer ForGiveBack accepted base) e = refl
-left-open S n bytes commit exclusive waiting w ns settings (answer ForNone accepted base) e = refl
-left-open S n bytes commit exclusive waiting w ns settings (reserve size give large alone) e = refl
-left-open S n bytes commit exclusive waiting w ns settings (manage from size alone node mapped reserved) e = refl
-left-open S n bytes commit exclusive waiting w ns settings (adopt address size) e = refl
-left-open S n bytes commit exclusive waiting w ns settings (claim id c commits) e = refl
-left-open S n bytes commit exclusive waiting w ns settings (release address c tell pending) e = refl
-left-open S n bytes commit exclusive waiting w ns settings (sweep force) e = refl
-left-open S n bytes commit exclusive waiting w ns settings (owns address) e = refl
-left-open S n bytes commit exclusive waiting w ns settings (area id) e = refl
 
 -- ---- answers
 

@@ -1,17 +1,90 @@
--- The share book that a record and what is open about it show; the invariant of a sequence, and what one call does to it. The book shown knows no id and no
--- table. Assumes nothing.
+-- The share book that a record and what is open about it show; what a call is to one arena; the invariant of a history, and what one call does to it. The book
+-- shown knows no id and no table. Assumes nothing.
 use mathlib.Core.Path.{_≡_}
-use mathlib.Core.Bool.{Bool, true, not, _&&_, _||_}
-use mathlib.Core.List.{List, _++_}
-use Prim.Native.Nat.{ℕ, _<_}
+use mathlib.Core.Bool.{Bool, true, false, cond, not, _&&_, _||_}
+use mathlib.Core.List.{List, [], _∷_, _++_}
+use Prim.Native.Nat.{ℕ, _+_, _*_, _<_}
+use lib.Dec.{eqb}
 use Rattle.words.specs.Bits.{bitAt, within}
-use Rattle.runs.specs.Lowest.{lowestRun}
 use Rattle.arena.specs.declared.Arena.{Arena}
+use Rattle.arena.specs.Claiming.{runFresh}
 use Rattle.layer.specs.declared.Question.{Question}
+use Rattle.layer.specs.declared.Question.the-variants.{Idle, Committing, Purging, Reserving, GivingBack}
+use Rattle.layer.specs.declared.Kind.{Kind}
+use Rattle.layer.specs.declared.Answer.{Answer}
 use Rattle.layer.specs.World.{Outcome}
 use Rattle.layer.specs.Table.{at}
-use Rattle.layer.specs.Book.{Book, Say, enterAll, sayAll}
-use Rattle.layer.specs.Sequence.{askerAfter, Role, fedOf, toldOf, View, calm, committing, purging, viewOf, owedIn}
+use Rattle.layer.specs.Answering.{isFor}
+use Rattle.layer.specs.Step.{Call, act, query, answer}
+use Rattle.layer.specs.Book.{Book, lowest, Fed, claims, Say, granted, enterAll, sayAll}
+use Rattle.layer.specs.History.{isIdle, entriesOf, said, Place, feeds}
+
+-- ---- what is open about an arena
+
+pub data View : Type 0 where
+  calm : View
+  committing : ℕ → ℕ → View
+  purging : ℕ → View
+
+abbrev pub viewOf : ℕ → Question → View
+viewOf id Idle = calm
+viewOf id (Committing i s n) = cond (eqb i id) (committing s n) calm
+viewOf id (Purging i j w) = cond (eqb i id) (purging j) calm
+viewOf id (Reserving chunks bytes commit exclusive waiting) = calm
+viewOf id (GivingBack cause waiting) = calm
+
+-- the claim that waits for its yes, and the grant
+abbrev pub waitsIn : View → List Fed
+waitsIn calm = []
+waitsIn (committing s n) = claims lowest n ∷ []
+waitsIn (purging j) = []
+
+abbrev pub owedIn : ℕ → View → Arena → List Say
+owedIn S calm a = []
+owedIn S (committing s n) a = granted (a .base + s * S) (runFresh a s n) ∷ []
+owedIn S (purging j) a = []
+
+-- ---- what a call is to an arena
+
+-- it feeds the book so much; or it answers the commit question about the arena
+pub data Role : Type 0 where
+  feeding : List Fed → Role
+  closing : Role
+
+abbrev pub aside : Role
+aside = feeding []
+
+-- a commit question about arena id is open, and the answer is for it
+abbrev pub ends : ℕ → Question → Kind → Bool
+ends id Idle kind = false
+ends id (Committing i s n) kind = isFor (Committing i s n) kind && eqb i id
+ends id (Purging i j w) kind = false
+ends id (Reserving chunks bytes commit exclusive waiting) kind = false
+ends id (GivingBack cause waiting) kind = false
+
+abbrev pub role : Place → Question → Call → Role
+role a q (act x) = feeding (feeds a (entriesOf x))
+role a q (query c) = aside
+role a q (answer kind accepted base) = cond (ends (a .id) q kind) closing aside
+
+abbrev pub fedOf : Role → List Fed
+fedOf (feeding fs) = fs
+fedOf closing = []
+
+-- what is said is told if something was fed
+abbrev pub heard : List Fed → List Say → List Say
+heard [] ss = []
+heard (f ∷ fs) ss = ss
+
+abbrev pub toldOf : Role → Answer → List Say
+toldOf (feeding fs) r = heard fs (said r)
+toldOf closing r = said r
+
+-- whoever calls while no question is open asks the one that the call puts
+abbrev pub askerAfter : Question → ℕ → ℕ → ℕ
+askerAfter q who asker = cond (isIdle q) who asker
+
+-- ---- the book
 
 -- a borrowed used bit is not held
 abbrev pub heldIn : View → Arena → ℕ → Bool
@@ -25,8 +98,8 @@ touchedIn calm a j = bitAt (a .dirty) j
 touchedIn (committing s n) a j = within s n j || bitAt (a .dirty) j
 touchedIn (purging c) a j = bitAt (a .dirty) j
 
-abbrev pub bookIn : View → Arena → Book
-bookIn v a = record { base = a .base; chunks = a .chunks; held = heldIn v a; touched = touchedIn v a }
+abbrev pub bookIn : ℕ → View → Arena → Book
+bookIn S v a = record { size = S; base = a .base; chunks = a .chunks; held = heldIn v a; touched = touchedIn v a }
 
 -- a commit question about the arena is p's; z put the open question
 abbrev pub Mine : ℕ → ℕ → View → Type 0
@@ -43,7 +116,7 @@ pub record Stays (b n : ℕ) (a : Arena) : Type 0 where
 module _ (S p id b n : ℕ) where
   -- the book that arena id of a table shows, and what is owed
   abbrev pub bookAt : List Arena → Question → Book
-  bookAt l q = bookIn (viewOf id q) (at l id)
+  bookAt l q = bookIn S (viewOf id q) (at l id)
 
   abbrev pub owedAt : List Arena → Question → List Say
   owedAt l q = owedIn S (viewOf id q) (at l id)
@@ -57,5 +130,5 @@ module _ (S p id b n : ℕ) where
   -- what one call does: r is what the call is to the arena, o what comes out
   pub record Fits (l : List Arena) (q : Question) (who z : ℕ) (r : Role) (o : Outcome) : Type 0 where
     pub inv : Inv (o .world .records) (o .world .state .count) (o .world .state .question) (askerAfter q who z)
-    pub book : bookAt (o .world .records) (o .world .state .question) ≡ enterAll S lowestRun (bookAt l q) (fedOf r)
-    pub says : owedAt l q ++ sayAll S lowestRun (bookAt l q) (fedOf r) ≡ toldOf r (o .answer) ++ owedAt (o .world .records) (o .world .state .question)
+    pub book : bookAt (o .world .records) (o .world .state .question) ≡ enterAll (bookAt l q) (fedOf r)
+    pub says : owedAt l q ++ sayAll (bookAt l q) (fedOf r) ≡ toldOf r (o .answer) ++ owedAt (o .world .records) (o .world .state .question)

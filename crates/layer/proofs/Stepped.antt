@@ -37,7 +37,7 @@ use Rattle.layer.specs.Registering.{askMemory, withRecord, withStamps}
 use Rattle.layer.specs.Claiming.{missReply, claimOf}
 use Rattle.layer.specs.Answering.{isFor, counted, failReply, answerCommit, answerPurge, resume, answerMemory, answerTo, answerOf}
 use Rattle.layer.specs.Sweeping.{sweepFrom}
-use Rattle.layer.specs.Step.{Call, reserve, manage, adopt, claim, release, sweep, answer, owns, area, sweepOf, gate, stepOn, step}
+use Rattle.layer.specs.Step.{Act, reserve, manage, adopt, claim, release, sweep, Call, act, query, answer, sweepOf, gate, actOn, stepOn, rules}
 use Rattle.layer.proofs.Facts.{SoundTable, SoundQuestion, apart-facts, apart-test, question-facts, question-test, put-sound}
 use Rattle.layer.proofs.Rules.{count-facts}
 use Rattle.layer.proofs.Cases.{miss-cases, claim-cases, memory-cases}
@@ -141,22 +141,18 @@ module _ (S : ℕ) (pos : 0 < S) (l : List Arena) (stamps : List ℕ) (k : ℕ) 
   gate-kept (Reserving chunks bytes commit exclusive waiting) o stop x y = y
   gate-kept (GivingBack cause waiting) o stop x y = y
 
+  act-kept : (q : Question) (ns : ℕ) (settings : Settings) (a : Act) → Kept S (actOn S l stamps k mark q ns settings a)
+  act-kept q ns settings (reserve size commit large exclusive) = reserve-kept S l stamps k mark t ls size commit large exclusive (settings .page)
+  act-kept q ns settings (manage start size exclusive node mapped reserved) = manage-kept S l stamps k mark t ls pos start size exclusive node mapped reserved
+  act-kept q ns settings (adopt address size) = adopt-kept S l stamps k mark t ls pos address size
+  act-kept q ns settings (claim id n commits) = claim-kept id n commits settings
+  act-kept q ns settings (release address n told pending) = release-kept S l stamps k mark t ls address n told pending _ _
+  act-kept q ns settings (sweep force) = sweep-kept S stamps k mark (sweepOf force ns settings) ls k 0 l t (omega arith) (omega arith)
+
   pub step-on-kept : (q : Question) (ns : ℕ) (settings : Settings) (c : Call) → SoundQuestion l k q → Kept S (stepOn S l stamps k mark q ns settings c)
-  step-on-kept q ns settings (reserve size commit large exclusive) h =
-      gate-kept q _ _ (reserve-kept S l stamps k mark t ls size commit large exclusive (settings .page)) (record { table = t; stamps = ls; question = h })
-  step-on-kept q ns settings (manage start size exclusive node mapped reserved) h =
-      gate-kept q _ _ (manage-kept S l stamps k mark t ls pos start size exclusive node mapped reserved) (record { table = t; stamps = ls; question = h })
-  step-on-kept q ns settings (adopt address size) h =
-      gate-kept q _ _ (adopt-kept S l stamps k mark t ls pos address size) (record { table = t; stamps = ls; question = h })
-  step-on-kept q ns settings (claim id n commits) h =
-      gate-kept q _ _ (claim-kept id n commits settings) (record { table = t; stamps = ls; question = h })
-  step-on-kept q ns settings (release address n told pending) h =
-      gate-kept q _ _ (release-kept S l stamps k mark t ls address n told pending _ _) (record { table = t; stamps = ls; question = h })
-  step-on-kept q ns settings (sweep force) h =
-      gate-kept q _ _ (sweep-kept S stamps k mark (sweepOf force ns settings) ls k 0 l t (omega arith) (omega arith)) (record { table = t; stamps = ls; question = h })
+  step-on-kept q ns settings (act a) h = gate-kept q _ _ (act-kept q ns settings a) (record { table = t; stamps = ls; question = h })
+  step-on-kept q ns settings (query c) h = record { table = t; stamps = ls; question = h }
   step-on-kept q ns settings (answer kind granted base) h = answer-kept q kind granted base h
-  step-on-kept q ns settings (owns address) h = record { table = t; stamps = ls; question = h }
-  step-on-kept q ns settings (area id) h = record { table = t; stamps = ls; question = h }
 
 -- ---- by the tests: what row 1 lets pass, it lets pass after every call
 
@@ -199,12 +195,12 @@ sound-test S w page x p =
 
 -- a call on a table that row 1 lets pass leaves one that row 1 lets pass, at any sound page size
 pub step-sound : (S : ℕ) → 0 < S → (w : World) (ns : ℕ) (settings : Settings) (c : Call) → Words w → sound S w (settings .page) ≡ true
-    → (page : ℕ) → pageSizeSound page ≡ true → (sound S (step S w ns settings c .world) page ≡ true) × Words (step S w ns settings c .world)
-unfolding step
+    → (page : ℕ) → pageSizeSound page ≡ true → (sound S (rules S w ns settings c .world) page ≡ true) × Words (rules S w ns settings c .world)
+unfolding rules
 step-sound S pos w ns settings c r e page p =
     let f = sound-facts S w (settings .page) r e in
-    let kept : Kept S (step S w ns settings c) =
+    let kept : Kept S (rules S w ns settings c) =
     by-cond (Kept S) (sound S w (settings .page)) _ _
     (λ g. step-on-kept S pos (w .records) (w .stamps) (w .state .count) (w .state .mark) (f .0 .table) (f .0 .stamps) (w .state .question) ns settings c (f .0 .question))
     (λ g. f .0) in
-    (sound-test S (step S w ns settings c .world) page kept p, kept .table .rows)
+    (sound-test S (rules S w ns settings c .world) page kept p, kept .table .rows)

@@ -25,8 +25,7 @@ use Rattle.layer.specs.declared.Sweep.{Sweep}
 use Rattle.layer.specs.declared.Question.the-variants.{Committing, Purging}
 use Rattle.layer.proofs.Kept.{take-range, release-range}
 use Rattle.layer.specs.Book.{Book, granted, opened, hold, unhold, claimed}
-use Rattle.layer.specs.Sequence.{calm, committing, purging, viewOf, owedIn}
-use Rattle.layer.proofs.Shown.{bookIn, Stays}
+use Rattle.layer.proofs.Shown.{calm, committing, purging, viewOf, owedIn, bookIn, Stays}
 
 -- ---- a written bit, in the book's words
 
@@ -39,8 +38,8 @@ clear-and true b = refl
 clear-and false b = refl
 
 -- two books that say the same
-pub book-same : (x y : Book) → x .base ≡ y .base → x .chunks ≡ y .chunks → ((j : ℕ) → x .held j ≡ y .held j) → ((j : ℕ) → x .touched j ≡ y .touched j) → x ≡ y
-book-same x y b c h t = λ i. record { base = b i; chunks = c i; held = λ j. h j i; touched = λ j. t j i }
+pub book-same : (x y : Book) → x .size ≡ y .size → x .base ≡ y .base → x .chunks ≡ y .chunks → ((j : ℕ) → x .held j ≡ y .held j) → ((j : ℕ) → x .touched j ≡ y .touched j) → x ≡ y
+book-same x y z b c h t = λ i. record { size = z i; base = b i; chunks = c i; held = λ j. h j i; touched = λ j. t j i }
 
 -- ---- what is open about an arena
 
@@ -67,30 +66,30 @@ module _ (a : Arena) (s n : ℕ) (r : Rows a) (h : s + n ≤ 1024) where
   dirty-set j = dirty-dirty a s n r h j ∙ set-or (within s n j) (bitAt (a .dirty) j)
 
   -- a grant that puts no question
-  pub book-granted : bookIn calm (dirtyRun (takeRun a s n) s n) ≡ hold (bookIn calm a) s n
+  pub book-granted : {S : ℕ} → bookIn S calm (dirtyRun (takeRun a s n) s n) ≡ hold (bookIn S calm a) s n
   unfolding dirtyRun takeRun
-  book-granted = book-same _ _ refl refl used-set dirty-set
+  book-granted = book-same _ _ refl refl refl used-set dirty-set
 
   -- one that waits for its yes
-  pub book-taken : bookIn (committing s n) (takeRun a s n) ≡ hold (bookIn calm a) s n
+  pub book-taken : {S : ℕ} → bookIn S (committing s n) (takeRun a s n) ≡ hold (bookIn S calm a) s n
   unfolding takeRun
-  book-taken = book-same _ _ refl refl used-set (λ j. refl)
+  book-taken = book-same _ _ refl refl refl used-set (λ j. refl)
 
   -- the yes
-  pub book-committed : (commit : Bool) → bookIn calm (finishGrant a s n commit) ≡ bookIn (committing s n) a
+  pub book-committed : {S : ℕ} → (commit : Bool) → bookIn S calm (finishGrant a s n commit) ≡ bookIn S (committing s n) a
   unfolding finishGrant dirtyRun commitRun
-  book-committed true = book-same _ _ refl refl (λ j. refl) (λ j. finish-dirty a s n r h j true ∙ set-or (within s n j) (bitAt (a .dirty) j))
-  book-committed false = book-same _ _ refl refl (λ j. refl) (λ j. finish-dirty a s n r h j false ∙ set-or (within s n j) (bitAt (a .dirty) j))
+  book-committed true = book-same _ _ refl refl refl (λ j. refl) (λ j. finish-dirty a s n r h j true ∙ set-or (within s n j) (bitAt (a .dirty) j))
+  book-committed false = book-same _ _ refl refl refl (λ j. refl) (λ j. finish-dirty a s n r h j false ∙ set-or (within s n j) (bitAt (a .dirty) j))
 
   -- a release, whatever is told and pending
-  pub book-released : (told : Commitment) (pending : Bool) (now delay : ℕ) → bookIn calm (releaseRun a s n told pending now delay) ≡ unhold (bookIn calm a) s n
+  pub book-released : {S : ℕ} → (told : Commitment) (pending : Bool) (now delay : ℕ) → bookIn S calm (releaseRun a s n told pending now delay) ≡ unhold (bookIn S calm a) s n
   book-released told pending now delay =
-      book-same _ _ (release-range a s n told pending now delay .0) (release-range a s n told pending now delay .1)
+      book-same _ _ refl (release-range a s n told pending now delay .0) (release-range a s n told pending now delay .1)
       (λ j. release-used a s n r h j told pending now delay ∙ clear-and (within s n j) (bitAt (a .used) j))
       (λ j. ap (λ (ws : List ℕ). bitAt ws j) (release-dirty a s n told pending now delay))
 
 -- what a claim is told: the book's fresh is the record's
-pub say-fresh : (S : ℕ) (a : Arena) (s n : ℕ) → claimed S (bookIn calm a) n (At s) .say ≡ granted (a .base + s * S) (runFresh a s n)
+pub say-fresh : (S : ℕ) (a : Arena) (s n : ℕ) → claimed (bookIn S calm a) n (At s) .say ≡ granted (a .base + s * S) (runFresh a s n)
 unfolding runFresh
 say-fresh S a s n = refl
 
@@ -100,24 +99,24 @@ owed-taken S a s n = refl
 
 -- ---- sweeps and their answers
 
-pub book-disarmed : (a : Arena) → bookIn calm (disarm a) ≡ bookIn calm a
+pub book-disarmed : {S : ℕ} → (a : Arena) → bookIn S calm (disarm a) ≡ bookIn S calm a
 unfolding disarm
 book-disarmed a = refl
 
-pub book-rearmed : (a : Arena) (stamps : List ℕ) (force : Bool) (now delay : ℕ) → bookIn calm (rearm a stamps force now delay) ≡ bookIn calm a
+pub book-rearmed : {S : ℕ} → (a : Arena) (stamps : List ℕ) (force : Bool) (now delay : ℕ) → bookIn S calm (rearm a stamps force now delay) ≡ bookIn S calm a
 unfolding rearm
-book-rearmed a stamps true now delay = refl
-book-rearmed a stamps false now delay = go (nextWait a stamps now delay)
+book-rearmed {S = S} a stamps true now delay = refl
+book-rearmed {S = S} a stamps false now delay = go (nextWait a stamps now delay)
   where
-    go : (f : Found) → bookIn calm (rearmAt a now f) ≡ bookIn calm a
+    go : (f : Found) → bookIn S calm (rearmAt a now f) ≡ bookIn S calm a
     go (At w) = refl
     go Nothing = refl
 
 -- a sweep borrows the used bit of a chunk that is not held
-pub book-borrowed : (a : Arena) (c : ℕ) → Rows a → c < 1024 → bitAt (a .used) c ≡ false → bookIn (purging c) (borrowChunk a c) ≡ bookIn calm a
+pub book-borrowed : {S : ℕ} → (a : Arena) (c : ℕ) → Rows a → c < 1024 → bitAt (a .used) c ≡ false → bookIn S (purging c) (borrowChunk a c) ≡ bookIn S calm a
 unfolding borrowChunk
 book-borrowed a c r h e =
-    book-same _ _ (take-range a c 1 .0) (take-range a c 1 .1)
+    book-same _ _ refl (take-range a c 1 .0) (take-range a c 1 .1)
     (λ j. ap (λ (b : Bool). not (within c 1 j) && b) (used-set a c 1 r (omega arith) j) ∙ go j (stands c 1 j)) (λ j. taken-dirty j)
   where
     go : (j : ℕ) → Stands c 1 j → not (within c 1 j) && (within c 1 j || bitAt (a .used) j) ≡ bitAt (a .used) j
@@ -131,25 +130,25 @@ book-borrowed a c r h e =
     taken-dirty j = unfold takeRun in refl
 
 -- and gives it back, whatever the answer
-pub book-returned : (a : Arena) (c : ℕ) (agreed decommit : Bool) → Rows a → c < 1024 → bookIn calm (returnChunk a c agreed decommit) ≡ bookIn (purging c) a
+pub book-returned : {S : ℕ} → (a : Arena) (c : ℕ) (agreed decommit : Bool) → Rows a → c < 1024 → bookIn S calm (returnChunk a c agreed decommit) ≡ bookIn S (purging c) a
 unfolding returnChunk unpendChunk giveBackRun tellRun
-book-returned a c agreed decommit r h = go agreed decommit
+book-returned {S = S} a c agreed decommit r h = go agreed decommit
   where
     cleared : (j : ℕ) → bitAt (clearRun (a .used) c 1) j ≡ not (within c 1 j) && bitAt (a .used) j
     cleared j = bit-write false (a .used) c 1 (r .used) (omega arith) j ∙ clear-and (within c 1 j) (bitAt (a .used) j)
 
-    go : (agreed decommit : Bool) → bookIn calm (returnChunk a c agreed decommit) ≡ bookIn (purging c) a
-    go true true = book-same _ _ refl refl cleared (λ j. refl)
-    go true false = book-same _ _ refl refl cleared (λ j. refl)
-    go false decommit = book-same _ _ refl refl cleared (λ j. refl)
+    go : (agreed decommit : Bool) → bookIn S calm (returnChunk a c agreed decommit) ≡ bookIn S (purging c) a
+    go true true = book-same _ _ refl refl refl cleared (λ j. refl)
+    go true false = book-same _ _ refl refl refl cleared (λ j. refl)
+    go false decommit = book-same _ _ refl refl refl cleared (λ j. refl)
 
 -- ---- registering
 
 -- a new record shows the book as it is opened: all touched if all are dirty, else none
-pub book-new : (base chunks : ℕ) (exclusive owned : Bool) (node : ℤ) (dirty committed : Bool) → chunks ≤ 1024
-    → bookIn calm (newArena base chunks exclusive owned node dirty committed) ≡ opened base chunks dirty
+pub book-new : {S : ℕ} → (base chunks : ℕ) (exclusive owned : Bool) (node : ℤ) (dirty committed : Bool) → chunks ≤ 1024
+    → bookIn S calm (newArena base chunks exclusive owned node dirty committed) ≡ opened S base chunks dirty
 unfolding newArena
-book-new base chunks exclusive owned node dirty committed h = book-same _ _ refl refl no-bits (go dirty)
+book-new base chunks exclusive owned node dirty committed h = book-same _ _ refl refl refl no-bits (go dirty)
   where
     and-both-ways : (t : Bool) → (cond t true false ≡ t && true) × (false ≡ t && false)
     and-both-ways true = (refl, refl)
@@ -160,11 +159,11 @@ book-new base chunks exclusive owned node dirty committed h = book-same _ _ refl
         bit-write true noBits 0 chunks no-bits-row (omega arith) j ∙ ap (cond (within 0 chunks j) true) (no-bits j) ∙ and-both-ways (within 0 chunks j) .0
     go false j = no-bits j ∙ and-both-ways (within 0 chunks j) .1
 
-pub book-reserved : (base chunks : ℕ) (commit exclusive : Bool) → chunks ≤ 1024 → bookIn calm (reservedArena base chunks commit exclusive) ≡ opened base chunks false
+pub book-reserved : {S : ℕ} → (base chunks : ℕ) (commit exclusive : Bool) → chunks ≤ 1024 → bookIn S calm (reservedArena base chunks commit exclusive) ≡ opened S base chunks false
 unfolding reservedArena
 book-reserved base chunks commit exclusive h = book-new base chunks exclusive true _ false commit h
 
-pub book-managed : (base chunks : ℕ) (exclusive : Bool) (node : ℤ) → chunks ≤ 1024 → bookIn calm (managedArena base chunks exclusive node) ≡ opened base chunks true
+pub book-managed : {S : ℕ} → (base chunks : ℕ) (exclusive : Bool) (node : ℤ) → chunks ≤ 1024 → bookIn S calm (managedArena base chunks exclusive node) ≡ opened S base chunks true
 unfolding managedArena
 book-managed base chunks exclusive node h = book-new base chunks exclusive false node true true h
 

@@ -1,8 +1,8 @@
 -- The answer to an open question. Document 01: "A second call brings yes or no, for memory a base too." Assumes nothing.
-use mathlib.Core.Bool.{Bool, true, false, cond, not, _&&_, _||_}
+use mathlib.Core.Bool.{Bool, true, false, cond}
 use mathlib.Core.List.{List}
 use Prim.Native.Nat.{ℕ, suc, _+_, _-_, _*_, _%_}
-use lib.Dec.{eqb, leb, ltb}
+use lib.Dec.{eqb, leb}
 use lib.IntN.{negsuc}
 use lib.ListN.{set}
 use Rattle.refusals.specs.declared.Refusal.{Refusal}

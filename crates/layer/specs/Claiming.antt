@@ -1,8 +1,8 @@
 -- The three claims, where no question is open. Document 01, "Claiming". k arenas stand; S is the size of a chunk. Assumes nothing.
-use mathlib.Core.Bool.{Bool, true, false, cond, not, _&&_, _||_}
+use mathlib.Core.Bool.{Bool, true, false, cond, not, _&&_}
 use mathlib.Core.List.{List}
 use Prim.Native.Nat.{ℕ, _+_, _*_}
-use lib.Dec.{eqb, leb, ltb}
+use lib.Dec.{eqb, leb}
 use lib.IntN.{ℤ, pos, negsuc}
 use lib.ListN.{set}
 use Rattle.refusals.specs.declared.Refusal.the-variants.{Zero, ArenasOff, NoRun}

@@ -1,181 +1,115 @@
--- Demand 3 and what follows from it, as statements; proofs/ proves each. S is the size of a chunk. Assumes nothing.
+-- Demand 3, of any layer; proofs/ proves it of every layer that answers and leaves what the rules say. Each statement is about every history from the empty
+-- layer, lent as the order says, and every exclusive arena whose book opened in it and whose program keeps the premises. Assumes nothing.
 use mathlib.Core.Path.{_≡_}
-use mathlib.Core.Bool.{Bool, true, false, not, _&&_, _||_}
+use mathlib.Core.Bool.{Bool, false, cond, not, _&&_, _||_}
 use mathlib.Core.List.{List, [], _∷_, _++_}
-use mathlib.Core.Logic.{_↔_}
-use Prim.Native.Nat.{ℕ, _+_, _-_, _*_, _/_, _%_, _<_, _≤_}
-use lib.IntN.{ℤ, pos}
+use mathlib.Core.Logic.{_⊎_, inr, _↔_}
+use Prim.Native.Nat.{ℕ, _+_, _-_, _*_, _/_, _<_, _≤_}
+use lib.ListN.{length}
 use Rattle.words.specs.Bits.{within}
 use Rattle.runs.specs.declared.Found.the-variants.{At}
-use Rattle.runs.specs.Lowest.{Starts, Lowest, lowestRun}
-use Rattle.layer.specs.declared.Question.the-variants.{Idle}
-use Rattle.layer.specs.declared.Kind.the-variants.{ForCommit, ForPurge, ForMemory, ForGiveBack, ForNone}
+use Rattle.runs.specs.Lowest.{Starts, Lowest}
 use Rattle.layer.specs.declared.Answer.the-variants.{Claimed}
-use Rattle.layer.specs.World.{World}
-use Rattle.layer.specs.Table.{badRange, sound}
-use Rattle.layer.specs.Registering.{chunksFor, tooLarge, badCount, firstWhole, pastWhole, noWholeChunk}
-use Rattle.layer.specs.Step.{Call, reserve, manage, adopt, claim, release, sweep, answer, owns, area}
-use Rattle.layer.specs.Book.{Fed, claims, releases, Say, refused, granted, released, opened, sayAll}
-use Rattle.layer.specs.Sequence.{Marked, Trail, outcomeOf, next, after, start, Lent, inRange, said, fed, told, owed, Premise, Opens, claimant, asksFor}
+use Rattle.layer.specs.Step.{reserve, manage, adopt, claim, release, sweep, Call, act, query, answer}
+use Rattle.layer.specs.Book.{Book, lowest, Fed, claims, releases, Say, refused, granted, released, opened, sayAll}
+use Rattle.layer.specs.History.{Marked, History, next, Layer, outcomeBy, Lent, Trail, ruled, goesOn, Place, inRange, waits, Where, place, fed, told, isAnswer, Keeps}
 
--- where the calls stand once m has registered the arena
-abbrev pub opening : ℕ → List Marked → Marked → Trail
-opening S before m = next S (after S start before) m
+-- the book as it is opened
+abbrev pub bookOf : Place → Book
+bookOf a = opened (a .size) (a .base) (a .chunks) (a .managed)
 
--- a sequence from the empty layer: calls before, the call m that registers the exclusive arena id of n chunks from b on, and calls that keep the premises
--- for the program p
-pub record Course (S p id b n : ℕ) (managed : Bool) (before : List Marked) (m : Marked) (calls : List Marked) : Type 0 where
-  pub lent : Lent S start (before ++ m ∷ calls)
-  pub opens : Opens S id b n managed m
-  pub premise : Premise S p id b n (opening S before m) calls
+-- all is told in order but what still waits for its yes
+abbrev pub AllBut : List Fed → List Say → List Say → Type 0
+AllBut waiting ss all = (rest : List Say) × (ss ++ rest ≡ all) × (length rest ≡ length waiting)
 
--- "then its claims and releases there get the answers of document 01's share book": what it is told there over the whole sequence, with the grant that
--- still waits for its yes, is what the book says
-abbrev pub Demand3 : ℕ → Type 0
-Demand3 S =
-    (p id b n : ℕ) (managed : Bool) (before : List Marked) (m : Marked) (calls : List Marked) → Course S p id b n managed before m calls
-    → told S id b n (opening S before m) calls ++ owed S id (after S (opening S before m) calls)
-    ≡ sayAll S lowestRun (opened b n managed) (fed S id b n (opening S before m) calls)
-
--- ---- that the book opens: "The book of an exclusive arena opens when Registering's rules register it (a layer that turns such an arena down fails 3)"
-
--- "Sound is what row 1 lets pass."
-abbrev pub isSound : ℕ → Marked → Bool
-isSound S m = sound S (m .lent) (m .settings .page)
-
--- the range of so many bytes from base on is refused with 6, where the last calls left w
-abbrev pub refused6 : ℕ → World → ℕ → ℕ → Bool
-refused6 S w base bytes = badRange S (w .records) (w .state .count) base bytes
-
--- m manages a range as an exclusive arena of n chunks from b on, and no rule turns it down: "Manage: 15, 16, 6, 12, 13." w is what the calls before left.
-pub record Manages (S b n : ℕ) (w : World) (m : Marked) : Type 0 where
-  pub from : ℕ
-  pub size : ℕ
-  pub node : ℤ
-  pub mapped : Bool
-  pub reserved : Bool
-  pub is-call : m .call ≡ manage from size true node mapped reserved
-  pub is-sound : isSound S m ≡ true
-  pub none-open : w .state .question ≡ Idle
-  -- "keeps the whole chunks inside the range"
-  pub base : firstWhole S from ≡ b
-  pub chunks : (pastWhole S from size - firstWhole S from) / S ≡ n
-  pub not-15 : noWholeChunk S from size ≡ false
-  pub not-16 : mapped || not reserved ≡ false
-  pub not-6 : refused6 S w b (pastWhole S from size - firstWhole S from) ≡ false
-  pub not-12 : badCount n ≡ false
-  pub not-13 : w .state .count < 32
-
--- "a question is open from where the rules above put it until they close it, whatever a layer says": while memory for an arena of so many chunks is asked for,
--- each call leaves that question open but the answer of its kind, which closes it with a no, and with a yes unless it is refused with 6: "answering closes
--- the question (1, 3 and 6 keep it open)"
-abbrev pub leavesOpen : ℕ → ℕ → World → Call → Bool
-leavesOpen S chunks w (answer ForMemory true base) = refused6 S w base (chunks * S)
-leavesOpen S chunks w (answer ForMemory false base) = false
-leavesOpen S chunks w (answer ForCommit accepted base) = true
-leavesOpen S chunks w (answer ForPurge accepted base) = true
-leavesOpen S chunks w (answer ForGiveBack accepted base) = true
-leavesOpen S chunks w (answer ForNone accepted base) = true
-leavesOpen S chunks w (reserve size commit large exclusive) = true
-leavesOpen S chunks w (manage from size exclusive node mapped reserved) = true
-leavesOpen S chunks w (adopt address size) = true
-leavesOpen S chunks w (claim id n commits) = true
-leavesOpen S chunks w (release address n tell pending) = true
-leavesOpen S chunks w (sweep force) = true
-leavesOpen S chunks w (owns address) = true
-leavesOpen S chunks w (area id) = true
-
--- each of the calls after t leaves it open
-abbrev pub StaysOpen : ℕ → ℕ → Trail → List Marked → Type 0
-StaysOpen S chunks t [] = Unit {0}
-StaysOpen S chunks t (m ∷ ms) = (not (isSound S m) || leavesOpen S chunks (t .world) (m .call) ≡ true) × StaysOpen S chunks (next S t m) ms
-
--- r, called where t stands, puts a memory question for an exclusive arena of n chunks; it stays open over the calls between; and m brings a yes and the base
--- b, which no rule turns down: "Reserve after yes: 6, 12, 7, 13."
-pub record Reserves (S b n : ℕ) (t : Trail) (r : Marked) (between : List Marked) (m : Marked) : Type 0 where
-  pub size : ℕ
-  pub commit : Bool
-  pub large : Bool
-  pub is-call : r .call ≡ reserve size commit large true
-  pub is-sound : isSound S r ≡ true
-  pub none-open : t .world .state .question ≡ Idle
-  -- "rounds up to whole chunks"
-  pub chunks : chunksFor S size ≡ n
-  -- "the answer is 12 unasked"
-  pub asked : tooLarge S size ≡ false
-  pub stays-open : StaysOpen S n (next S t r) between
-  pub is-answer : m .call ≡ answer ForMemory true b
-  pub answer-sound : isSound S m ≡ true
-  pub not-6 : refused6 S (after S (next S t r) between .world) b (n * S) ≡ false
-  pub not-12 : badCount n ≡ false
-  pub not-7 : b % S ≡ 0
-  pub not-13 : after S (next S t r) between .world .state .count < 32
-
--- then m registers it, whatever the calls before were
-abbrev pub RegistersManaged : ℕ → Type 0
-RegistersManaged S =
-    (b n : ℕ) (before : List Marked) (m : Marked) → Lent S start (before ++ m ∷ [])
-    → let w = after S start before .world in
-    Manages S b n w m → Opens S (w .state .count) b n true m
-
-abbrev pub RegistersReserved : ℕ → Type 0
-RegistersReserved S =
-    (b n : ℕ) (before : List Marked) (r : Marked) (between : List Marked) (m : Marked) → Lent S start (before ++ r ∷ (between ++ m ∷ []))
-    → let t = after S start before in
-    Reserves S b n t r between m → Opens S (after S (next S t r) between .world .state .count) b n false m
+-- "then its claims and releases there get the answers of document 01's share book"
+abbrev pub ByTheBook : Layer → Type 0
+ByTheBook L =
+    (p : ℕ) (h : History) (w : Where h) → Lent L h → Keeps p h w
+    → AllBut (waits (place h w) (ruled h)) (told L h w) (sayAll (bookOf (place h w)) (fed h w))
 
 -- ---- in the order's words
 
 -- the chunks that past grants and releases leave held, read off the program's own calls and what it was told; h are held at first
-abbrev pub heldFrom : ℕ → ℕ → (ℕ → Bool) → List Fed → List Say → ℕ → Bool
-heldFrom S b h (claims c ∷ fs) (granted x fresh ∷ ss) = heldFrom S b (λ j. within ((x - b) / S) c j || h j) fs ss
-heldFrom S b h (claims c ∷ fs) (refused why ∷ ss) = heldFrom S b h fs ss
-heldFrom S b h (claims c ∷ fs) (released ∷ ss) = heldFrom S b h fs ss
-heldFrom S b h (releases x c ∷ fs) (released ∷ ss) = heldFrom S b (λ j. not (within ((x - b) / S) c j) && h j) fs ss
-heldFrom S b h (releases x c ∷ fs) (granted y fresh ∷ ss) = heldFrom S b h fs ss
-heldFrom S b h (releases x c ∷ fs) (refused why ∷ ss) = heldFrom S b h fs ss
-heldFrom S b h [] ss = h
-heldFrom S b h (f ∷ fs) [] = h
+abbrev pub heldFrom : Place → (ℕ → Bool) → List Fed → List Say → ℕ → Bool
+heldFrom a h (claims how c ∷ fs) (granted x fresh ∷ ss) = heldFrom a (λ j. within ((x - a .base) / a .size) c j || h j) fs ss
+heldFrom a h (claims how c ∷ fs) (refused why ∷ ss) = heldFrom a h fs ss
+heldFrom a h (claims how c ∷ fs) (released ∷ ss) = heldFrom a h fs ss
+heldFrom a h (releases x c ∷ fs) (released ∷ ss) = heldFrom a (λ j. not (within ((x - a .base) / a .size) c j) && h j) fs ss
+heldFrom a h (releases x c ∷ fs) (granted y fresh ∷ ss) = heldFrom a h fs ss
+heldFrom a h (releases x c ∷ fs) (refused why ∷ ss) = heldFrom a h fs ss
+heldFrom a h [] ss = h
+heldFrom a h (f ∷ fs) [] = h
 
--- a chunk that the program's own past grants and releases leave unheld
-abbrev pub leftUnheld : ℕ → ℕ → ℕ → ℕ → Trail → List Marked → ℕ → Bool
-leftUnheld S id b n t calls j = not (heldFrom S b (λ i. false) (fed S id b n t calls) (told S id b n t calls) j)
+abbrev pub leftUnheld : Place → List Fed → List Say → ℕ → Bool
+leftUnheld a fs ss j = not (heldFrom a (λ i. false) fs ss j)
 
--- what a call at t there is told, at once or with the yes
-abbrev pub toldBy : ℕ → ℕ → Trail → Marked → List Say
-toldBy S id t m = said (outcomeOf S m .answer) ++ owed S id (next S t m)
+-- one of its claims there, of n chunks, and what it was told of it: fs and ss are what went before
+pub record Claims (a : Place) (all : List Fed) (heard : List Say) : Type 0 where
+  pub fs : List Fed
+  pub ss : List Say
+  pub n : ℕ
+  pub say : Say
+  pub later : List Fed
+  pub more : List Say
+  pub is-claim : all ≡ fs ++ claims lowest n ∷ later
+  pub is-told : heard ≡ ss ++ say ∷ more
+  pub beside : length fs ≡ length ss
+  pub some : 1 ≤ n
 
 -- "Its claim of n chunks, n at least 1, is granted exactly when the arena has n neighbouring chunks that its own past grants and releases leave unheld"
-abbrev pub GrantedExactly : ℕ → Type 0
-GrantedExactly S =
-    (p id b n : ℕ) (managed : Bool) (before : List Marked) (m : Marked) (calls : List Marked) (last : Marked) → Course S p id b n managed before m (calls ++ last ∷ [])
-    → (c : ℕ) (commits : Bool) → last .who ≡ p → last .call ≡ claim (pos id) c commits → 1 ≤ c
-    → ((x : ℕ) × (fresh : Bool) × (toldBy S id (after S (opening S before m) calls) last ≡ granted x fresh ∷ []))
-    ↔ ((s : ℕ) × Starts (leftUnheld S id b n (opening S before m) calls) n c s)
+abbrev pub GrantedExactly : Layer → Type 0
+GrantedExactly L =
+    (p : ℕ) (h : History) (w : Where h) → Lent L h → Keeps p h w → (c : Claims (place h w) (fed h w) (told L h w))
+    → ((x : ℕ) × (fresh : Bool) × (c .say ≡ granted x fresh))
+    ↔ ((s : ℕ) × Starts (leftUnheld (place h w) (c .fs) (c .ss)) (place h w .chunks) (c .n) s)
 
 -- "it gets the lowest such run"
-abbrev pub GrantedLowest : ℕ → Type 0
-GrantedLowest S =
-    (p id b n : ℕ) (managed : Bool) (before : List Marked) (m : Marked) (calls : List Marked) (last : Marked) → Course S p id b n managed before m (calls ++ last ∷ [])
-    → (c : ℕ) (commits : Bool) → last .who ≡ p → last .call ≡ claim (pos id) c commits → 1 ≤ c
-    → (x : ℕ) (fresh : Bool) → toldBy S id (after S (opening S before m) calls) last ≡ granted x fresh ∷ []
-    → (s : ℕ) × (x ≡ b + s * S) × Lowest (leftUnheld S id b n (opening S before m) calls) n c (At s)
+abbrev pub GrantedLowest : Layer → Type 0
+GrantedLowest L =
+    (p : ℕ) (h : History) (w : Where h) → Lent L h → Keeps p h w → (c : Claims (place h w) (fed h w) (told L h w))
+    → (x : ℕ) (fresh : Bool) → c .say ≡ granted x fresh
+    → (s : ℕ) × (x ≡ place h w .base + s * place h w .size) × Lowest (leftUnheld (place h w) (c .fs) (c .ss)) (place h w .chunks) (c .n) (At s)
+
+-- whose claim a call makes or goes on with, and of how many chunks
+abbrev pub claimant : Trail → Marked → ℕ
+claimant t m = cond (isAnswer (m .call)) (t .asker) (m .who)
+
+abbrev pub chunksOf : Call → ℕ
+chunksOf (act (claim id n commits)) = n
+chunksOf (act (reserve size commit large exclusive)) = 0
+chunksOf (act (manage from size exclusive node mapped reserved)) = 0
+chunksOf (act (adopt address size)) = 0
+chunksOf (act (release address n tell pending)) = 0
+chunksOf (act (sweep force)) = 0
+chunksOf (query c) = 0
+chunksOf (answer kind accepted base) = 0
 
 -- "no other's claim is granted a chunk there": not by a claim, and not by an answer that ends one
-abbrev pub OthersElsewhere : ℕ → Type 0
-OthersElsewhere S =
-    (p id b n : ℕ) (managed : Bool) (before : List Marked) (m : Marked) (calls : List Marked) (last : Marked) → Course S p id b n managed before m (calls ++ last ∷ [])
-    → let t = after S (opening S before m) calls in
-    (claimant t last ≡ p → ⊥) → (x : ℕ) (fresh committed : Bool) → outcomeOf S last .answer ≡ Claimed x fresh committed
-    → (y : ℕ) → x ≤ y → y < x + asksFor (t .world .state .question) (last .call) * S → inRange S b n y ≡ false
+abbrev pub OthersElsewhere : Layer → Type 0
+OthersElsewhere L =
+    (p : ℕ) (h : History) (m : Marked) (w : Where h) → Lent L (next h m) → Keeps p (next h m) (inr w)
+    → (claimant (ruled h) m ≡ p → ⊥) → (x : ℕ) (fresh committed : Bool) → outcomeBy L m .answer ≡ Claimed x fresh committed
+    → (y : ℕ) → x ≤ y → y < x + chunksOf (goesOn (ruled h) (m .call)) * place h w .size → inRange (place h w) y ≡ false
+
+-- one is the beginning of the other
+abbrev pub Begins : List Say → List Say → Type 0
+Begins x y = (rest : List Say) × (x ++ rest ≡ y)
 
 -- "two such sequences alike in how the arena is registered and in its own calls there give it the same addresses and fresh marks, whatever the others claim,
--- release, adopt or sweep and the clock and OS say": the id and the program's mark may differ too
-abbrev pub Alike : ℕ → Type 0
-Alike S =
-    (b n : ℕ) (managed : Bool)
-    (p id : ℕ) (before : List Marked) (m : Marked) (calls : List Marked) → Course S p id b n managed before m calls
-    → (p′ id′ : ℕ) (before′ : List Marked) (m′ : Marked) (calls′ : List Marked) → Course S p′ id′ b n managed before′ m′ calls′
-    → fed S id b n (opening S before m) calls ≡ fed S id′ b n (opening S before′ m′) calls′
-    → told S id b n (opening S before m) calls ++ owed S id (after S (opening S before m) calls)
-    ≡ told S id′ b n (opening S before′ m′) calls′ ++ owed S id′ (after S (opening S before′ m′) calls′)
+-- release, adopt or sweep and the clock and OS say": the id and the program's mark may differ too. "Alike means that the book is told and fed the same." Where
+-- a claim still waits for its yes in one of them, the other may be told one more.
+abbrev pub Alike : Layer → Type 0
+Alike L =
+    (p : ℕ) (h : History) (w : Where h) → Lent L h → Keeps p h w
+    → (p′ : ℕ) (h′ : History) (w′ : Where h′) → Lent L h′ → Keeps p′ h′ w′
+    → bookOf (place h w) ≡ bookOf (place h′ w′) → fed h w ≡ fed h′ w′
+    → Begins (told L h w) (told L h′ w′) ⊎ Begins (told L h′ w′) (told L h w)
+
+-- DEMAND 3
+pub record Demand3 (L : Layer) : Type 0 where
+  pub by-the-book : ByTheBook L
+  pub granted-exactly : GrantedExactly L
+  pub granted-lowest : GrantedLowest L
+  pub others-elsewhere : OthersElsewhere L
+  pub alike : Alike L

@@ -7,5 +7,6 @@ pub mod Sweeping
 pub mod Answering
 pub mod Step
 pub mod Book
-pub mod Sequence
+pub mod History
 pub mod Demand
+pub mod Ten

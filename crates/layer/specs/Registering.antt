@@ -1,6 +1,6 @@
 -- The calls that register arenas, where no question is open. Document 01, "Registering", and the orders of "Turned down". k arenas stand; S is the size
 -- of a chunk. Assumes nothing.
-use mathlib.Core.Bool.{Bool, true, false, cond, not, _&&_, _||_}
+use mathlib.Core.Bool.{Bool, cond, not, _&&_, _||_}
 use mathlib.Core.List.{List}
 use Prim.Native.Nat.{ℕ, suc, _+_, _-_, _*_, _/_, _%_, _^_}
 use lib.Dec.{eqb, leb, ltb}

@@ -1,7 +1,7 @@
 -- One call: the rules of document 01 put together. Assumes nothing.
-use mathlib.Core.Bool.{Bool, true, false, cond}
+use mathlib.Core.Bool.{Bool, cond}
 use mathlib.Core.List.{List}
-use Prim.Native.Nat.{ℕ, _+_, _*_}
+use Prim.Native.Nat.{ℕ}
 use lib.Dec.{ltb}
 use lib.IntN.{ℤ, pos, negsuc}
 use Rattle.refusals.specs.declared.Refusal.the-variants.{Broken, QuestionOpen}
@@ -11,13 +11,12 @@ use Rattle.arena.specs.declared.Commitment.{Commitment}
 use Rattle.lookup.specs.Place.{bytesOf}
 use Rattle.layer.specs.declared.Settings.{Settings}
 use Rattle.layer.specs.declared.Sweep.{Sweep}
-use Rattle.layer.specs.declared.State.{State}
 use Rattle.layer.specs.declared.Question.{Question}
 use Rattle.layer.specs.declared.Question.the-variants.{Idle, Committing, Purging, Reserving, GivingBack}
 use Rattle.layer.specs.declared.Kind.{Kind}
 use Rattle.layer.specs.declared.Answer.{Answer}
 use Rattle.layer.specs.declared.Answer.the-variants.{Owns, Area}
-use Rattle.layer.specs.World.{World, Outcome, stateOf, reply, after, turnDown}
+use Rattle.layer.specs.World.{World, Outcome, sizeOf, stateOf, reply, after, turnDown}
 use Rattle.layer.specs.Table.{at, isAt, findArena, sound}
 use Rattle.layer.specs.Registering.{reserveOf, manageOf, adoptOf}
 use Rattle.layer.specs.Claiming.{claimOf}
@@ -25,26 +24,34 @@ use Rattle.layer.specs.Releasing.{releaseOf}
 use Rattle.layer.specs.Sweeping.{sweepFrom}
 use Rattle.layer.specs.Answering.{answerOf}
 
--- the calls of the layer; later requests add cases
-pub data Call : Type 0 where
+-- what is done where no question is open; later requests add cases
+pub data Act : Type 0 where
   -- size, commit, allow large, exclusive
-  reserve : ℕ → Bool → Bool → Bool → Call
+  reserve : ℕ → Bool → Bool → Bool → Act
   -- start, size, exclusive, node; the host's facts: in the segment map, reserved
-  manage : ℕ → ℕ → Bool → ℤ → Bool → Bool → Call
+  manage : ℕ → ℕ → Bool → ℤ → Bool → Bool → Act
   -- address, size
-  adopt : ℕ → ℕ → Call
+  adopt : ℕ → ℕ → Act
   -- arena id, chunks, whether a commit question is put: `chunk_alloc` (1, true), `chunk_claim` (1, false), `chunk_alloc_n` (n, true)
-  claim : ℤ → ℕ → Bool → Call
+  claim : ℤ → ℕ → Bool → Act
   -- address, chunks, what is told of commitment, pending
-  release : ℕ → ℕ → Commitment → Bool → Call
+  release : ℕ → ℕ → Commitment → Bool → Act
   -- force
-  sweep : Bool → Call
+  sweep : Bool → Act
+
+-- "Queries (`owns`, `arena_area`) know 1 only."
+pub data Query : Type 0 where
+  -- address
+  owns : ℕ → Query
+  -- arena id
+  area : ℤ → Query
+
+-- the calls of the layer
+pub data Call : Type 0 where
+  act : Act → Call
+  query : Query → Call
   -- kind, yes, base
   answer : Kind → Bool → ℕ → Call
-  -- address
-  owns : ℕ → Call
-  -- arena id
-  area : ℤ → Call
 
 -- "A sweep keeps its first clock and settings until it ends."
 abbrev pub sweepOf : Bool → ℕ → Settings → Sweep
@@ -66,23 +73,32 @@ gate (GivingBack cause waiting) go stop = stop
 
 -- a call on a sound table
 module _ (S : ℕ) (l : List Arena) (stamps : List ℕ) (k : ℕ) (mark : Bool) (q : Question) (ns : ℕ) (settings : Settings) where
-  abbrev pub stepOn : Call → Outcome
-  stepOn (reserve size commit large exclusive) =
-      gate q (reserveOf S l stamps k mark size commit large exclusive (settings .page)) (after (turnDown QuestionOpen (stateOf k mark q)) l stamps)
-  stepOn (manage start size exclusive node mapped reserved) =
-      gate q (manageOf S l stamps k mark start size exclusive node mapped reserved) (after (turnDown QuestionOpen (stateOf k mark q)) l stamps)
-  stepOn (adopt address size) = gate q (adoptOf S l stamps k mark address size) (after (turnDown QuestionOpen (stateOf k mark q)) l stamps)
-  stepOn (claim id n commits) = gate q (claimOf S l stamps k mark id n commits settings) (after (turnDown QuestionOpen (stateOf k mark q)) l stamps)
-  stepOn (release address n told pending) =
-      gate q (releaseOf S l stamps k mark address n told pending (nowMs ns) (delayMs (settings .delay))) (after (turnDown QuestionOpen (stateOf k mark q)) l stamps)
-  stepOn (sweep force) = gate q (sweepFrom S stamps k mark (sweepOf force ns settings) k 0 l) (after (turnDown QuestionOpen (stateOf k mark q)) l stamps)
-  stepOn (answer kind granted base) = answerOf S l stamps k mark q kind granted base
-  stepOn (owns address) = after (reply (Owns (isAt (findArena S l k address))) (stateOf k mark q)) l stamps
-  stepOn (area id) = after (reply (areaOf S l k id) (stateOf k mark q)) l stamps
+  -- the rows of the call's own, and what it does
+  abbrev pub actOn : Act → Outcome
+  actOn (reserve size commit large exclusive) = reserveOf S l stamps k mark size commit large exclusive (settings .page)
+  actOn (manage start size exclusive node mapped reserved) = manageOf S l stamps k mark start size exclusive node mapped reserved
+  actOn (adopt address size) = adoptOf S l stamps k mark address size
+  actOn (claim id n commits) = claimOf S l stamps k mark id n commits settings
+  actOn (release address n told pending) = releaseOf S l stamps k mark address n told pending (nowMs ns) (delayMs (settings .delay))
+  actOn (sweep force) = sweepFrom S stamps k mark (sweepOf force ns settings) k 0 l
 
--- any call on any lent table: "Order: 1; then 2, or 3 for answers; then the call's own."
-unfoldable pub step : ℕ → World → ℕ → Settings → Call → Outcome
-step S w ns settings c =
+  abbrev pub queryOn : Query → Answer
+  queryOn (owns address) = Owns (isAt (findArena S l k address))
+  queryOn (area id) = areaOf S l k id
+
+  -- "then 2, or 3 for answers; then the call's own"
+  abbrev pub stepOn : Call → Outcome
+  stepOn (act a) = gate q (actOn a) (after (turnDown QuestionOpen (stateOf k mark q)) l stamps)
+  stepOn (query c) = after (reply (queryOn c) (stateOf k mark q)) l stamps
+  stepOn (answer kind granted base) = answerOf S l stamps k mark q kind granted base
+
+-- THE RULES, of chunks of S bytes: any call on any lent table. "Order: 1; then 2, or 3 for answers; then the call's own."
+unfoldable pub rules : ℕ → World → ℕ → Settings → Call → Outcome
+rules S w ns settings c =
     cond (sound S w (settings .page))
     (stepOn S (w .records) (w .stamps) (w .state .count) (w .state .mark) (w .state .question) ns settings c)
     (after (turnDown Broken (w .state)) (w .records) (w .stamps))
+
+-- a call of the layer, on a table of its own chunk size
+abbrev pub step : World → ℕ → Settings → Call → Outcome
+step w ns settings c = rules (sizeOf (w .state)) w ns settings c

@@ -12,7 +12,6 @@ use Rattle.arena.specs.Registering.{noBits}
 use Rattle.layer.specs.declared.State.{State}
 use Rattle.layer.specs.declared.Question.{Question}
 use Rattle.layer.specs.declared.Question.the-variants.{Idle}
-use Rattle.layer.specs.declared.Ask.{Ask}
 use Rattle.layer.specs.declared.Answer.{Answer}
 use Rattle.layer.specs.declared.Reply.{Reply}
 use Rattle.layer.specs.declared.Answer.the-variants.{Refused, Asks, Registered, Claimed, Released, Swept, Owns, Area}
@@ -21,6 +20,10 @@ pub record World : Type 0 where
   pub records : List Arena
   pub stamps : List ℕ
   pub state : State
+
+-- "A chunk is S = 33,554,432 bytes"
+abbrev pub sizeOf : State → ℕ
+sizeOf state = 33554432
 
 -- what a call answers, and the world that it leaves
 pub record Outcome : Type 0 where

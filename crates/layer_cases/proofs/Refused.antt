@@ -16,9 +16,9 @@ use Rattle.layer.specs.Claiming.{eligible, serves, asksCommit, grantArena, gran
 use Rattle.layer.specs.Releasing.{releases, releaseReply, releaseOf}
 use Rattle.layer.specs.Sweeping.{purgeReply, sweptReply, visit, sweepFrom}
 use Rattle.layer.specs.Answering.{isFor, answerOf}
-use Rattle.layer.specs.Step.{step}
+use Rattle.layer.specs.Step.{step, rules}
 use Rattle.layer_cases.specs.Refused.{blocks, computed, stated}
 
 pub refused : computed ≡ stated
-unfolding blocks computed stated bit bitAt within number pack writeRun all least lowestRun orOne nowMs delayMs keeps armed isDue arenaAllowed pageSizeSound newArena reservedArena managedArena adoptedArena grownArena findRun runCommitted runFresh takeRun giveBackRun commitRun dirtyRun finishGrant tellRun pendRun releaseRun stampRun bytesOf endOf isInside soundRange clearPast clearPastAll soundArena meets overlaps badRange findArena apart soundQuestion soundTable soundLent chunksFor tooLarge bytesAsked askMemory reserveReply badCount registerReply registers noWholeChunk grows reserveOf manageOf adoptOf eligible serves asksCommit grantArena grantReply missReply searchOf claimOf releases releaseReply releaseOf purgeReply sweptReply visit sweepFrom isFor answerOf step
+unfolding blocks computed stated bit bitAt within number pack writeRun all least lowestRun orOne nowMs delayMs keeps armed isDue arenaAllowed pageSizeSound newArena reservedArena managedArena adoptedArena grownArena findRun runCommitted runFresh takeRun giveBackRun commitRun dirtyRun finishGrant tellRun pendRun releaseRun stampRun bytesOf endOf isInside soundRange clearPast clearPastAll soundArena meets overlaps badRange findArena apart soundQuestion soundTable soundLent chunksFor tooLarge bytesAsked askMemory reserveReply badCount registerReply registers noWholeChunk grows reserveOf manageOf adoptOf eligible serves asksCommit grantArena grantReply missReply searchOf claimOf releases releaseReply releaseOf purgeReply sweptReply visit sweepFrom isFor answerOf rules
 refused = refl

@@ -14,7 +14,7 @@ use Rattle.layer.specs.declared.Question.the-variants.{Idle, Purging}
 use Rattle.layer.specs.declared.Kind.the-variants.{ForCommit, ForMemory}
 use Rattle.layer.specs.World.{World, Outcome, blank, stateOf, worldOf, calm, answerNumber}
 use Rattle.layer.specs.Table.{at}
-use Rattle.layer.specs.Step.{Call, reserve, manage, adopt, claim, release, answer, step}
+use Rattle.layer.specs.Step.{Call, reserve, manage, adopt, claim, release, answer, step, act, rules}
 
 -- a chunk: 33,554,432 bytes
 abbrev pub S : ℕ
@@ -54,35 +54,35 @@ full = worldOf (blocks 0 32) (replicate 32768 0) (calm 32 false)
 
 -- the layer after a call, and the number that it answers
 abbrev pub then : World → Call → World
-then w c = step S w 0 plain c .world
+then w c = rules S w 0 plain c .world
 
 abbrev pub says : World → Call → ℕ
-says w c = answerNumber (step S w 0 plain c .answer)
+says w c = answerNumber (rules S w 0 plain c .answer)
 
 unfoldable pub computed : List ℕ
 computed =
-    says short (claim (pos 0) 1 true)
-    ∷ says sweeping (claim (pos 0) 1 true)
+    says short (act (claim (pos 0) 1 true))
+    ∷ says sweeping (act (claim (pos 0) 1 true))
     ∷ says example (answer ForCommit true 0)
-    ∷ says example (claim (pos 0) 0 true)
-    ∷ answerNumber (step S example 0 arenasOff (claim (negsuc 0) 1 true) .answer)
-    ∷ says example (adopt 1073741824 S)
-    ∷ says example (release 1073741825 1 Untold false)
-    ∷ says example (release 1207959552 1 Untold false)
-    ∷ says example (release 1073741824 5 Untold false)
-    ∷ says example (claim (pos 0) 5 true)
-    ∷ says (then example (claim (pos 0) 1 true)) (answer ForCommit false 0)
-    ∷ says example (adopt 68719476736 34393292800)
+    ∷ says example (act (claim (pos 0) 0 true))
+    ∷ answerNumber (rules S example 0 arenasOff (act (claim (negsuc 0) 1 true)) .answer)
+    ∷ says example (act (adopt 1073741824 S))
+    ∷ says example (act (release 1073741825 1 Untold false))
+    ∷ says example (act (release 1207959552 1 Untold false))
+    ∷ says example (act (release 1073741824 5 Untold false))
+    ∷ says example (act (claim (pos 0) 5 true))
+    ∷ says (then example (act (claim (pos 0) 1 true))) (answer ForCommit false 0)
+    ∷ says example (act (adopt 68719476736 34393292800))
     -- a block with a chunk between it and the last arena
-    ∷ says full (adopt (33 * (1024 * S) + S) S)
-    ∷ says (then example (reserve S false false false)) (answer ForMemory false 0)
-    ∷ says example (manage 1 S false (negsuc 0) false true)
-    ∷ says example (manage S (2 * S) false (negsuc 0) false false)
+    ∷ says full (act (adopt (33 * (1024 * S) + S) S))
+    ∷ says (then example (act (reserve S false false false))) (answer ForMemory false 0)
+    ∷ says example (act (manage 1 S false (negsuc 0) false true))
+    ∷ says example (act (manage S (2 * S) false (negsuc 0) false false))
     -- "Manage 1, size 67,108,864: one chunk at S."
-    ∷ at (then example (manage 1 67108864 false (negsuc 0) false true) .records) 1 .base
-    ∷ at (then example (manage 1 67108864 false (negsuc 0) false true) .records) 1 .chunks
+    ∷ at (then example (act (manage 1 67108864 false (negsuc 0) false true)) .records) 1 .base
+    ∷ at (then example (act (manage 1 67108864 false (negsuc 0) false true)) .records) 1 .chunks
     -- "Adopt S at 1,207,959,552 in the example: arena 0 has 5 chunks."
-    ∷ at (then example (adopt 1207959552 S) .records) 0 .chunks
+    ∷ at (then example (act (adopt 1207959552 S)) .records) 0 .chunks
     ∷ []
 
 unfoldable pub stated : List ℕ

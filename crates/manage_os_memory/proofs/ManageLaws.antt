@@ -14,7 +14,7 @@ use Rattle.layer.specs.declared.Settings.{Settings}
 use Rattle.layer.specs.declared.State.{State}
 use Rattle.layer.specs.World.{worldOf, after, Leaves}
 use Rattle.layer.specs.Registering.{firstWhole}
-use Rattle.layer.specs.Step.{manage, step}
+use Rattle.layer.specs.Step.{manage, step, act, rules}
 use Rattle.judge.specs.Scan.{hit, scanOf}
 use Rattle.registers.specs.Core.{recordsWith, stampsWith}
 use Rattle.registers.proofs.DecisionLaws.{either}
@@ -54,7 +54,7 @@ module _ (S : ℕ) (l : List Arena) (stamps : List ℕ) (state : State) (ns : �
     same = manage-met S l stamps (state .count) (state .mark) (state .question) ok start size exclusive node mapped reserved
 
     pub manage-done : (w : Writing) → length l < 2 ^ 64 → ManageWrites S l (length stamps) state (settings .page) start size exclusive node mapped reserved w
-        → Leaves (step S (worldOf l stamps state) ns settings (manage start size exclusive node mapped reserved)) (w .reply) (set l (recordPlace (w .id)) (w .arena)) (stampsWith stamps (w .stamped))
+        → Leaves (rules S (worldOf l stamps state) ns settings (act (manage start size exclusive node mapped reserved))) (w .reply) (set l (recordPlace (w .id)) (w .arena)) (stampsWith stamps (w .stamped))
     manage-done w fits e =
         as-left _ _ _ _
         (wrote l stamps w (manageAnswer S ok state start size mapped reserved found) (manageId S ok state start size mapped reserved found) (manageId S ok state start size mapped reserved found) record-made fits (e .0) (e .1) (e .2) (e .3 ∙ e .1)

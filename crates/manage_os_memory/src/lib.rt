@@ -4,7 +4,7 @@ ghost use mathlib.Core.Path.{_≡_};
 ghost use Prim.Native.Nat.{_<_, _≤_};
 ghost use Rattle.judge.specs.declared.Query.the-variants.{Meets};
 ghost use Rattle.layer.specs.World.{worldOf, Leaves};
-ghost use Rattle.layer.specs.Step.{manage, step};
+ghost use Rattle.layer.specs.Step.{manage, step, act};
 ghost use Rattle.registering.specs.Managing.{manageBase, manageLength};
 ghost use Rattle.entry.specs.Places.{writingOf};
 ghost use Rattle.manage_os_memory.specs.Writes.{ManageWrites};
@@ -86,7 +86,7 @@ pub fn manage_os_memory_ex(
     mapped: bool,
     reserved: bool,
 ) -> Reply
-    ensures { λ r. ⌜ Leaves (step 33554432 (worldOf (now (records .entry)) (now (stamps .entry)) state) ns settings (manage start size exclusive node mapped reserved)) r (now (records .exit)) (now (stamps .exit)) ⌝ }
+    ensures { λ r. ⌜ Leaves (step (worldOf (now (records .entry)) (now (stamps .entry)) state) ns settings (act (manage start size exclusive node mapped reserved))) r (now (records .exit)) (now (stamps .exit)) ⌝ }
 {
     let page = entry::page_of(settings);
     let w = manage_writing(

@@ -16,7 +16,7 @@ use Rattle.layer.specs.declared.Question.the-variants.{Idle, Committing, Purgin
 use Rattle.layer.specs.World.{Outcome, stateOf, worldOf, after, turnDown, replyOf}
 use Rattle.layer.specs.Table.{at, soundLent}
 use Rattle.layer.specs.Sweeping.{sweepFrom}
-use Rattle.layer.specs.Step.{sweep, sweepOf, stepOn, step}
+use Rattle.layer.specs.Step.{sweep, sweepOf, stepOn, step, act, rules}
 use Rattle.words.proofs.Tests.{by-cond}
 use Rattle.registers.specs.Core.{isIdle, gated}
 use Rattle.sweeps.specs.Core.{isAsked, arriveFound, arriveArena}
@@ -62,7 +62,7 @@ module _ (S : ℕ) (l : List Arena) (stamps : List ℕ) (ns : ℕ) (settings : S
   unfolding sweepFrom
   no-sweep mark = refl
 
-  on-sound : (k : ℕ) (mark : Bool) (q : Question) → Comes true (stateOf k mark q) (stepOn S l stamps k mark q ns settings (sweep force))
+  on-sound : (k : ℕ) (mark : Bool) (q : Question) → Comes true (stateOf k mark q) (stepOn S l stamps k mark q ns settings (act (sweep force)))
   on-sound k mark Idle =
       let z : k - 0 ≡ k = omega arith in
       let e : swept k mark ≡ sweepFrom S stamps k mark (sweepOf force ns settings) k 0 l = ap (λ (f : ℕ). sweepFrom S stamps k mark (sweepOf force ns settings) f 0 l) z in
@@ -72,10 +72,10 @@ module _ (S : ℕ) (l : List Arena) (stamps : List ℕ) (ns : ℕ) (settings : S
   on-sound k mark (Reserving chunks bytes commit exclusive waiting) = (refl, no-sweep mark, refl)
   on-sound k mark (GivingBack cause waiting) = (refl, no-sweep mark, refl)
 
-  pub comes : (state : State) → Comes (soundLent S l (length stamps) state (settings .page)) state (step S (worldOf l stamps state) ns settings (sweep force))
-  unfolding step
+  pub comes : (state : State) → Comes (soundLent S l (length stamps) state (settings .page)) state (rules S (worldOf l stamps state) ns settings (act (sweep force)))
+  unfolding rules
   comes state = go (soundLent S l (length stamps) state (settings .page))
     where
-      go : (b : Bool) → Comes b state (cond b (stepOn S l stamps (state .count) (state .mark) (state .question) ns settings (sweep force)) (after (turnDown Broken state) l stamps))
+      go : (b : Bool) → Comes b state (cond b (stepOn S l stamps (state .count) (state .mark) (state .question) ns settings (act (sweep force))) (after (turnDown Broken state) l stamps))
       go true = on-sound (state .count) (state .mark) (state .question)
       go false = (refl, no-sweep (state .mark), refl)

@@ -1,6 +1,6 @@
 // `purge_due` over the lent table: a sweep over the arenas, until it has a question or ends.
 ghost use Rattle.layer.specs.World.{worldOf, Leaves};
-ghost use Rattle.layer.specs.Step.{sweep, step};
+ghost use Rattle.layer.specs.Step.{sweep, step, act};
 use arena::Arena;
 use layer::CHUNK;
 use layer::Reply;
@@ -16,7 +16,7 @@ pub fn purge_due(
     settings: Settings,
     force: bool,
 ) -> Reply
-    ensures { λ r. ⌜ Leaves (step 33554432 (worldOf (now (records .entry)) (now (stamps .entry)) state) ns settings (sweep force)) r (now (records .exit)) (now (stamps .exit)) ⌝ }
+    ensures { λ r. ⌜ Leaves (step (worldOf (now (records .entry)) (now (stamps .entry)) state) ns settings (act (sweep force))) r (now (records .exit)) (now (stamps .exit)) ⌝ }
 {
     let page = entry::page_of(settings);
     let ok = table::row_one(records, stamps.len(), state, page, CHUNK);

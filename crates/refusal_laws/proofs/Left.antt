@@ -34,7 +34,7 @@ use Rattle.layer.specs.Registering.{tooLarge, askMemory, badCount, withRecord, 
 use Rattle.layer.specs.Claiming.{serves, asksCommit, grantArena, grantReply, isNegative, missReply, grantFound, searchAt, searchOf}
 use Rattle.layer.specs.Sweeping.{purgeReply, sweptReply, visitAt, visit, sweepFrom}
 use Rattle.layer.specs.Answering.{causeRefusal, counted, failReply, answerCommit, answerPurge, resume, answerMemory, answerTo}
-use Rattle.layer.specs.Step.{Call, reserve, manage, adopt, claim, release, sweep, answer, owns, area, sweepOf, step}
+use Rattle.layer.specs.Step.{Call, reserve, manage, adopt, claim, release, sweep, answer, owns, area, sweepOf, step, act, query, rules}
 use Rattle.refusal_laws.proofs.Answers.{same-refusal, asks-not, registered-not, claimed-not, released-not, swept-not}
 use Rattle.refusal_laws.proofs.Order.{first-each, idle-of, claim-order, release-order, adopt-order, manage-order, reserve-order, sweep-order, answer-order}
 use Rattle.refusal_laws.specs.Order.{broken, questionOpen, noSuchQuestion, claimChecks, releaseChecks, adoptChecks, manageChecks, reserveChecks}
@@ -184,28 +184,28 @@ claim-leaves S l stamps k mark q id n commits settings e =
     (missReply S k mark id n commits settings) (inl refl) (miss-leaves S l stamps k mark id n commits settings))
 
 -- "Each refusal leaves all state and lent memory untouched, but [..]": of every call, on every lent table
-pub refusal-leaves : (S : ℕ) (w : World) (ns : ℕ) (settings : Settings) (c : Call) (why : Refusal) → step S w ns settings c .answer ≡ Refused why
-    → LeftBy w c why (step S w ns settings c .world)
-unfolding step askMemory
-refusal-leaves S w ns settings (reserve size commit large exclusive) =
+pub refusal-leaves : (S : ℕ) (w : World) (ns : ℕ) (settings : Settings) (c : Call) (why : Refusal) → rules S w ns settings c .answer ≡ Refused why
+    → LeftBy w c why (rules S w ns settings c .world)
+unfolding rules askMemory
+refusal-leaves S w ns settings (act (reserve size commit large exclusive)) =
     subst (Untouched w) (sym (reserve-order S w settings ns size commit large exclusive))
     (first-each (Untouched w) (broken S w settings ∷ questionOpen S w settings ∷ reserveChecks S w settings size) _ (same w _, (same w _, (same w _, tt))) (λ p why e. absurd (asks-not _ why e)))
-refusal-leaves S w ns settings (manage start size exclusive node mapped reserved) =
+refusal-leaves S w ns settings (act (manage start size exclusive node mapped reserved)) =
     subst (Untouched w) (sym (manage-order S w settings ns start size exclusive node mapped reserved))
     (first-each (Untouched w) (broken S w settings ∷ questionOpen S w settings ∷ manageChecks S w settings start size mapped reserved) _ (same w _, (same w _, (same w _, (same w _, (same w _, (same w _, (same w _, tt))))))) (λ p why e. absurd (registered-not _ why e)))
-refusal-leaves S w ns settings (adopt address size) =
+refusal-leaves S w ns settings (act (adopt address size)) =
     subst (Untouched w) (sym (adopt-order S w settings ns address size))
     (first-each (Untouched w) (broken S w settings ∷ questionOpen S w settings ∷ adoptChecks S w settings address size) _
     (same w _, (same w _, (same w _, (same w _, (same w _, ((λ why e. absurd (registered-not _ why e)), (same w _, (same w _, tt))))))))
     (λ p why e. absurd (registered-not _ why e)))
-refusal-leaves S w ns settings (claim id n commits) =
+refusal-leaves S w ns settings (act (claim id n commits)) =
     subst (Marked w) (sym (claim-order S w settings ns id n commits))
     (first-each (Marked w) (broken S w settings ∷ questionOpen S w settings ∷ claimChecks S w settings id n) _ (kept w _, (kept w _, (kept w _, (kept w _, tt))))
     (λ p. claim-leaves S (w .records) (w .stamps) (w .state .count) (w .state .mark) (w .state .question) id n commits settings (idle-of (w .state .question) (p .1 .0))))
-refusal-leaves S w ns settings (release address n told pending) =
+refusal-leaves S w ns settings (act (release address n told pending)) =
     subst (Untouched w) (sym (release-order S w settings ns address n told pending))
     (first-each (Untouched w) (broken S w settings ∷ questionOpen S w settings ∷ releaseChecks S w settings address n) _ (same w _, (same w _, (same w _, (same w _, (same w _, (same w _, tt)))))) (λ p why e. absurd (released-not why e)))
-refusal-leaves S w ns settings (sweep force) =
+refusal-leaves S w ns settings (act (sweep force)) =
     subst (Untouched w) (sym (sweep-order S w settings ns force))
     (first-each (Untouched w) (broken S w settings ∷ questionOpen S w settings ∷ []) _ (same w _, (same w _, tt))
     (λ p why e. absurd (sweep-grants S (w .stamps) (w .state .count) (w .state .mark) (sweepOf force ns settings) (w .state .count) 0 (w .records) why e)))
@@ -213,5 +213,5 @@ refusal-leaves S w ns settings (answer kind granted base) =
     subst (Says w base) (sym (answer-order S w settings ns kind granted base))
     (first-each (Says w base) (broken S w settings ∷ noSuchQuestion S w settings kind ∷ []) _ ((λ why e. line w base w Broken why refl e), ((λ why e. line w base w NoSuchQuestion why refl e), tt))
     (λ p. answer-to-says S (w .records) (w .stamps) (w .state .count) (w .state .mark) base (w .state .question) granted))
-refusal-leaves S w ns settings (owns address) = by-cond (Untouched w) (sound S w (settings .page)) _ _ (λ e why f. refl) (λ e why f. refl)
-refusal-leaves S w ns settings (area id) = by-cond (Untouched w) (sound S w (settings .page)) _ _ (λ e why f. refl) (λ e why f. refl)
+refusal-leaves S w ns settings (query (owns address)) = by-cond (Untouched w) (sound S w (settings .page)) _ _ (λ e why f. refl) (λ e why f. refl)
+refusal-leaves S w ns settings (query (area id)) = by-cond (Untouched w) (sound S w (settings .page)) _ _ (λ e why f. refl) (λ e why f. refl)

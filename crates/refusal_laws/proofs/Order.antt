@@ -29,7 +29,7 @@ use Rattle.layer.specs.Claiming.{missReply, searchOf, claimOf}
 use Rattle.layer.specs.Releasing.{releases, releaseReply, releaseAt, releaseOf}
 use Rattle.layer.specs.Sweeping.{sweepFrom}
 use Rattle.layer.specs.Answering.{kindOpen, isFor, resume, answerTo, answerOf}
-use Rattle.layer.specs.Step.{reserve, manage, adopt, claim, release, sweep, answer, sweepOf, gate, step}
+use Rattle.layer.specs.Step.{reserve, manage, adopt, claim, release, sweep, answer, sweepOf, gate, step, act, rules}
 use Rattle.refusal_laws.specs.Order.{Check, firstOf, idOf, registered, row, chunkCount, tableFull, broken, questionOpen, noSuchQuestion, claimChecks, releaseChecks, releasedAt, growing, grown, adoptChecks, manageChecks, reserveChecks, yesChecks}
 
 -- what holds of each check's end, and of the way on where no check holds, holds of the call
@@ -95,19 +95,19 @@ module _ (S : ℕ) (w : World) (settings : Settings) where
       ∙ ap (cond (not (sound S w (settings .page))) (broken S w settings .ends)) (gate-order (w .state .question) it _ (λ q. firstOf (own (asking q)) go) e)
 
   pub claim-order : (ns : ℕ) (id : ℤ) (n : ℕ) (commits : Bool)
-      → step S w ns settings (claim id n commits)
+      → rules S w ns settings (act (claim id n commits))
       ≡ firstOf (broken S w settings ∷ questionOpen S w settings ∷ claimChecks S w settings id n)
       (searchOf S (w .records) (w .stamps) (w .state .count) (w .state .mark) id n commits (missReply S (w .state .count) (w .state .mark) id n commits settings))
-  unfolding step claimOf
+  unfolding rules claimOf
   claim-order ns id n commits =
       call-order (λ v. claimChecks S v settings id n) _ _ (ap (cond (eqb n 0) _) (turned (arenaAllowed (settings .off) id) _ _))
 
   pub release-order : (ns address n : ℕ) (told : Commitment) (pending : Bool)
-      → step S w ns settings (release address n told pending)
+      → rules S w ns settings (act (release address n told pending))
       ≡ firstOf (broken S w settings ∷ questionOpen S w settings ∷ releaseChecks S w settings address n)
       (let i = idOf (findArena S (w .records) (w .state .count) address) in
       releasedAt S w settings i (address - at (w .records) i .base) n told pending (nowMs ns) (delayMs (settings .delay)))
-  unfolding step releaseOf releases releaseReply
+  unfolding rules releaseOf releases releaseReply
   release-order ns address n told pending =
       call-order (λ v. releaseChecks S v settings address n) _ _ (ap (cond (eqb n 0) _) (found (findArena S (w .records) (w .state .count) address)))
     where
@@ -130,9 +130,9 @@ module _ (S : ℕ) (w : World) (settings : Settings) where
   register-order chunks a = register-cases (badCount chunks) (leb 32 (w .state .count)) _ _ _ _ _ _ _
 
   pub adopt-order : (ns address size : ℕ)
-      → step S w ns settings (adopt address size)
+      → rules S w ns settings (act (adopt address size))
       ≡ firstOf (broken S w settings ∷ questionOpen S w settings ∷ adoptChecks S w settings address size) (registered w (adoptedArena address (size / S)))
-  unfolding step adoptOf
+  unfolding rules adoptOf
   adopt-order ns address size =
       call-order (λ v. adoptChecks S v settings address size) _ _
       (ap (cond (eqb size 0) _)
@@ -148,10 +148,10 @@ module _ (S : ℕ) (w : World) (settings : Settings) where
       found Nothing = register-order (size / S) (adoptedArena address (size / S))
 
   pub manage-order : (ns start size : ℕ) (exclusive : Bool) (node : ℤ) (mapped reserved : Bool)
-      → step S w ns settings (manage start size exclusive node mapped reserved)
+      → rules S w ns settings (act (manage start size exclusive node mapped reserved))
       ≡ firstOf (broken S w settings ∷ questionOpen S w settings ∷ manageChecks S w settings start size mapped reserved)
       (registered w (managedArena (firstWhole S start) ((pastWhole S start size - firstWhole S start) / S) exclusive node))
-  unfolding step manageOf
+  unfolding rules manageOf
   manage-order ns start size exclusive node mapped reserved =
       call-order (λ v. manageChecks S v settings start size mapped reserved) _ _
       (ap (cond (noWholeChunk S start size) _)
@@ -160,10 +160,10 @@ module _ (S : ℕ) (w : World) (settings : Settings) where
       (register-order ((pastWhole S start size - firstWhole S start) / S) _))))
 
   pub reserve-order : (ns size : ℕ) (commit large exclusive : Bool)
-      → step S w ns settings (reserve size commit large exclusive)
+      → rules S w ns settings (act (reserve size commit large exclusive))
       ≡ firstOf (broken S w settings ∷ questionOpen S w settings ∷ reserveChecks S w settings size)
       (after (askMemory S (w .state .count) (w .state .mark) size (settings .page) commit large exclusive Reserve) (w .records) (w .stamps))
-  unfolding step reserveOf reserveReply
+  unfolding rules reserveOf reserveReply
   reserve-order ns size commit large exclusive = call-order (λ v. reserveChecks S v settings size) _ _ (over (tooLarge S size) _ _)
     where
       over : (b : Bool) (x y : Reply) → after (cond b x y) (w .records) (w .stamps) ≡ cond b (after x (w .records) (w .stamps)) (after y (w .records) (w .stamps))
@@ -171,25 +171,25 @@ module _ (S : ℕ) (w : World) (settings : Settings) where
       over false x y = refl
 
   pub sweep-order : (ns : ℕ) (force : Bool)
-      → step S w ns settings (sweep force)
+      → rules S w ns settings (act (sweep force))
       ≡ firstOf (broken S w settings ∷ questionOpen S w settings ∷ [])
       (sweepFrom S (w .stamps) (w .state .count) (w .state .mark) (sweepOf force ns settings) (w .state .count) 0 (w .records))
-  unfolding step
+  unfolding rules
   sweep-order ns force = call-order (λ v. []) _ _ refl
 
   -- "or 3 for answers"
   pub answer-order : (ns : ℕ) (kind : Kind) (granted : Bool) (base : ℕ)
-      → step S w ns settings (answer kind granted base)
+      → rules S w ns settings (answer kind granted base)
       ≡ firstOf (broken S w settings ∷ noSuchQuestion S w settings kind ∷ [])
       (answerTo S (w .records) (w .stamps) (w .state .count) (w .state .mark) (w .state .question) granted base)
-  unfolding step answerOf
+  unfolding rules answerOf
   answer-order ns kind granted base =
       turned (sound S w (settings .page)) _ _
       ∙ ap (cond (not (sound S w (settings .page))) (broken S w settings .ends)) (turned (isFor (w .state .question) kind) _ _)
 
   -- a yes to a memory question
   pub yes-order : (ns base chunks bytes : ℕ) (commit exclusive : Bool) (waiting : Waiting) → w .state .question ≡ Reserving chunks bytes commit exclusive waiting
-      → step S w ns settings (answer ForMemory true base)
+      → rules S w ns settings (answer ForMemory true base)
       ≡ firstOf (broken S w settings ∷ noSuchQuestion S w settings ForMemory ∷ yesChecks S w settings chunks bytes waiting base)
       (resume S (w .records) (w .stamps) (w .state .count) (w .state .mark) (reservedArena base chunks commit exclusive) waiting)
   yes-order ns base chunks bytes commit exclusive waiting e =

@@ -39,7 +39,7 @@ use Rattle.layer.specs.Table.{at, badRange, sound}
 use Rattle.layer.specs.Registering.{tooLarge, askMemory, badCount, withRecord, withStamps}
 use Rattle.layer.specs.Claiming.{serves, asksCommit, grantArena, grantReply, missReply, isNegative, grantFound, searchAt, searchOf}
 use Rattle.layer.specs.Answering.{isFor, resume, answerOf}
-use Rattle.layer.specs.Step.{claim, answer, step}
+use Rattle.layer.specs.Step.{claim, answer, step, act, rules}
 use Rattle.layer.proofs.Tools.{or-false, at-same, by-set}
 use Rattle.layer.proofs.Registered.{reserved-rows}
 use Rattle.layer.proofs.Stepped.{Words, sound-facts, step-sound}
@@ -66,16 +66,16 @@ undone l i n s h r c e =
 
 module _ (S : ℕ) (later : ℕ) (others : Settings) (base : ℕ) where
   no-step : (l : List Arena) (stamps : List ℕ) (k : ℕ) (mark : Bool) (i s n : ℕ) → sound S (worldOf l stamps (stateOf k mark (Committing i s n))) (others .page) ≡ true
-      → step S (worldOf l stamps (stateOf k mark (Committing i s n))) later others (answer ForCommit false base)
+      → rules S (worldOf l stamps (stateOf k mark (Committing i s n))) later others (answer ForCommit false base)
       ≡ outcome (Refused CommitRefused) (worldOf (set l i (giveBackRun (at l i) s n)) stamps (calm k mark))
-  unfolding step answerOf isFor
+  unfolding rules answerOf isFor
   no-step l stamps k mark i s n e = when (sound S (worldOf l stamps (stateOf k mark (Committing i s n))) (others .page)) _ _ e
 
   -- the outcome that asks for a commit is undone by a no: the world v is left
   abbrev Undone : World → Outcome → Type 0
   Undone v o =
       (address bytes : ℕ) → o .answer ≡ Asks (AskCommit address bytes) → sound S (o .world) (others .page) ≡ true
-      → step S (o .world) later others (answer ForCommit false base) ≡ outcome (Refused CommitRefused) v
+      → rules S (o .world) later others (answer ForCommit false base) ≡ outcome (Refused CommitRefused) v
 
   module _ (l : List Arena) (stamps : List ℕ) (k : ℕ) (mark : Bool) (long : length l ≡ 32) (few : k ≤ 32)
       (fit : (i : ℕ) → i < k → Rows (at l i) × (at l i .chunks ≤ 1024)) where
@@ -116,8 +116,8 @@ module _ (S : ℕ) (later : ℕ) (others : Settings) (base : ℕ) where
 
 -- a claim that asked for a commit, answered no: the world is the one before the claim
 pub claim-then-no : (S : ℕ) → 0 < S → (w : World) (ns later : ℕ) (settings others : Settings) (id : ℤ) (n : ℕ) (commits : Bool) (address bytes base : ℕ) → Words w
-    → sound S w (settings .page) ≡ true → pageSizeSound (others .page) ≡ true → step S w ns settings (claim id n commits) .answer ≡ Asks (AskCommit address bytes)
-    → step S (step S w ns settings (claim id n commits) .world) later others (answer ForCommit false base) ≡ outcome (Refused CommitRefused) w
+    → sound S w (settings .page) ≡ true → pageSizeSound (others .page) ≡ true → rules S w ns settings (act (claim id n commits)) .answer ≡ Asks (AskCommit address bytes)
+    → rules S (rules S w ns settings (act (claim id n commits)) .world) later others (answer ForCommit false base) ≡ outcome (Refused CommitRefused) w
 claim-then-no S pos w ns later settings others id n commits address bytes base words e p asked =
     let f = sound-facts S w (settings .page) words e .0 in
     subst (U w) (sym (claim-order S w settings ns id n commits))
@@ -125,7 +125,7 @@ claim-then-no S pos w ns later settings others id n commits address bytes base w
     (λ h. subst (λ (q : Question). U (worldOf (w .records) (w .stamps) (stateOf (w .state .count) (w .state .mark) q)) (searchOf S (w .records) (w .stamps) (w .state .count) (w .state .mark) id n commits (missReply S (w .state .count) (w .state .mark) id n commits settings)))
     (sym (idle-of (w .state .question) (h .1 .0)))
     (claim-undone S later others base (w .records) (w .stamps) (w .state .count) (w .state .mark) (f .table .long) (f .table .few) (λ i u. (f .table .rows i u, f .table .each i u .range .few)) id n commits settings)))
-    address bytes asked (step-sound S pos w ns settings (claim id n commits) words e (others .page) p .0)
+    address bytes asked (step-sound S pos w ns settings (act (claim id n commits)) words e (others .page) p .0)
   where
     U : World → Outcome → Type 0
     U = Undone S later others base
@@ -140,8 +140,8 @@ module _ (S : ℕ) (later : ℕ) (others : Settings) (base : ℕ) (l : List Aren
   abbrev Stays : Question → Outcome → Type 0
   Stays q o =
       (address bytes : ℕ) → o .answer ≡ Asks (AskCommit address bytes) → sound S (o .world) (others .page) ≡ true
-      → (step S (o .world) later others (answer ForCommit false base) .answer ≡ Refused CommitRefused)
-      × Reserved (worldOf l stamps (stateOf k mark q)) place (step S (o .world) later others (answer ForCommit false base) .world)
+      → (rules S (o .world) later others (answer ForCommit false base) .answer ≡ Refused CommitRefused)
+      × Reserved (worldOf l stamps (stateOf k mark q)) place (rules S (o .world) later others (answer ForCommit false base) .world)
 
 module _ (S : ℕ) (later : ℕ) (others : Settings) (base : ℕ) (l : List Arena) (stamps : List ℕ) (k : ℕ) (mark : Bool) (place : ℕ) (long : length l ≡ 32) (few : k ≤ 32)
     (fit : (i : ℕ) → i < k → Rows (at l i) × (at l i .chunks ≤ 1024)) where
@@ -183,10 +183,10 @@ module _ (S : ℕ) (later : ℕ) (others : Settings) (base : ℕ) (l : List Aren
 
 -- a yes at `place` to a memory question, whereupon the claim that waits asks for a commit, answered no: 11, and the new arena stands, all else as before
 pub yes-then-no : (S : ℕ) → 0 < S → (w : World) (ns later : ℕ) (settings others : Settings) (place address bytes base : ℕ) → Words w → sound S w (settings .page) ≡ true
-    → pageSizeSound (others .page) ≡ true → step S w ns settings (answer ForMemory true place) .answer ≡ Asks (AskCommit address bytes)
-    → (step S (step S w ns settings (answer ForMemory true place) .world) later others (answer ForCommit false base) .answer ≡ Refused CommitRefused)
-    × Reserved w place (step S (step S w ns settings (answer ForMemory true place) .world) later others (answer ForCommit false base) .world)
-unfolding step
+    → pageSizeSound (others .page) ≡ true → rules S w ns settings (answer ForMemory true place) .answer ≡ Asks (AskCommit address bytes)
+    → (rules S (rules S w ns settings (answer ForMemory true place) .world) later others (answer ForCommit false base) .answer ≡ Refused CommitRefused)
+    × Reserved w place (rules S (rules S w ns settings (answer ForMemory true place) .world) later others (answer ForCommit false base) .world)
+unfolding rules
 yes-then-no S pos w ns later settings others place address bytes base words e p asked =
     let f = sound-facts S w (settings .page) words e .0 in
     by-cond Q (sound S w (settings .page)) _ _

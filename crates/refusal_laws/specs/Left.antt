@@ -16,7 +16,7 @@ use Rattle.layer.specs.declared.Waiting.the-variants.{Claim}
 use Rattle.layer.specs.World.{World, worldOf, calm}
 use Rattle.layer.specs.Table.{at}
 use Rattle.layer.specs.Registering.{withRecord, withStamps}
-use Rattle.layer.specs.Step.{Call, reserve, manage, adopt, claim, release, sweep, answer, owns, area}
+use Rattle.layer.specs.Step.{Call, reserve, manage, adopt, claim, release, sweep, answer, owns, area, act, query}
 
 -- ---- the world w with its question closed, and
 
@@ -70,12 +70,12 @@ LeftByAnswer w base HostRefused v = ⊥
 
 -- by any call: of the calls that are no answers, a claim alone may leave more than it found, the mark
 abbrev pub LeftBy : World → Call → Refusal → World → Type 0
-LeftBy w (reserve size commit large exclusive) why v = v ≡ w
-LeftBy w (manage start size exclusive node mapped reserved) why v = v ≡ w
-LeftBy w (adopt address size) why v = v ≡ w
-LeftBy w (claim id n commits) why v = (v ≡ w) ⊎ ((why ≡ NoRun) × (v ≡ markSet w))
-LeftBy w (release address n told pending) why v = v ≡ w
-LeftBy w (sweep force) why v = v ≡ w
+LeftBy w (act (reserve size commit large exclusive)) why v = v ≡ w
+LeftBy w (act (manage start size exclusive node mapped reserved)) why v = v ≡ w
+LeftBy w (act (adopt address size)) why v = v ≡ w
+LeftBy w (act (claim id n commits)) why v = (v ≡ w) ⊎ ((why ≡ NoRun) × (v ≡ markSet w))
+LeftBy w (act (release address n told pending)) why v = v ≡ w
+LeftBy w (act (sweep force)) why v = v ≡ w
 LeftBy w (answer kind granted base) why v = LeftByAnswer w base why v
-LeftBy w (owns address) why v = v ≡ w
-LeftBy w (area id) why v = v ≡ w
+LeftBy w (query (owns address)) why v = v ≡ w
+LeftBy w (query (area id)) why v = v ≡ w

@@ -23,7 +23,7 @@ use Rattle.layer.specs.declared.Question.{Question}
 use Rattle.layer.specs.World.{Outcome, stateOf, worldOf, after, turnDown, calm}
 use Rattle.layer.specs.Table.{at, meets, overlaps, badRange, soundLent}
 use Rattle.layer.specs.Registering.{grows, adoptAt, adoptOf}
-use Rattle.layer.specs.Step.{adopt, step}
+use Rattle.layer.specs.Step.{adopt, step, act, rules}
 use Rattle.registers.specs.Core.{isIdle, rangeBad, recordsWith, stampsWith}
 use Rattle.registers.proofs.DecisionLaws.{either, and-first, and-second}
 use Rattle.registers.proofs.WriteLaws.{records-none, records-below, stamps-none, sound-count}
@@ -155,9 +155,9 @@ pub adopt-step : (S : ℕ) (l : List Arena) (stamps : List ℕ) (k : ℕ) (mark 
     let growing = adoptGrowing S l stamps k mark q ok address size in
     let id = adoptId S ok (stateOf k mark q) address size met growing in
     ((i : ℕ) → growing ≡ At i → a ≡ at l i)
-    → step S (worldOf l stamps (stateOf k mark q)) ns settings (adopt address size)
+    → rules S (worldOf l stamps (stateOf k mark q)) ns settings (act (adopt address size))
     ≡ after (adoptAnswer S ok (stateOf k mark q) address size met growing) (recordsWith l id (adoptArena S a address size growing)) (stampsWith stamps (adoptStamped growing id))
-unfolding step
+unfolding rules
 adopt-step S l stamps k mark q ns settings address size a found =
     adopt-wrote S l stamps k mark q (soundLent S l (length stamps) (stateOf k mark q) (settings .page)) address size a found
     (sound-count S l (length stamps) (stateOf k mark q) (settings .page))

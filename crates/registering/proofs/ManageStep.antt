@@ -17,7 +17,7 @@ use Rattle.layer.specs.declared.Question.{Question}
 use Rattle.layer.specs.World.{Outcome, stateOf, worldOf, after, turnDown, calm}
 use Rattle.layer.specs.Table.{at, meets, overlaps, badRange, soundLent}
 use Rattle.layer.specs.Registering.{registerReply, register, firstWhole, noWholeChunk, manageOf}
-use Rattle.layer.specs.Step.{manage, step}
+use Rattle.layer.specs.Step.{manage, step, act, rules}
 use Rattle.registers.specs.Core.{isIdle, rangeBad, recordsWith, stampsWith}
 use Rattle.registers.proofs.DecisionLaws.{either}
 use Rattle.registers.proofs.WriteLaws.{records-none, stamps-none}
@@ -95,8 +95,8 @@ pub manage-step : (S : ℕ) (l : List Arena) (stamps : List ℕ) (k : ℕ) (mark
     → let ok = soundLent S l (length stamps) (stateOf k mark q) (settings .page) in
     let met = manageMet S l stamps k mark q ok start size exclusive node mapped reserved in
     let id = manageId S ok (stateOf k mark q) start size mapped reserved met in
-    step S (worldOf l stamps (stateOf k mark q)) ns settings (manage start size exclusive node mapped reserved)
+    rules S (worldOf l stamps (stateOf k mark q)) ns settings (act (manage start size exclusive node mapped reserved))
     ≡ after (manageAnswer S ok (stateOf k mark q) start size mapped reserved met) (recordsWith l id (managedArena (firstWhole S start) (manageBytes S start size / S) exclusive node)) (stampsWith stamps id)
-unfolding step
+unfolding rules
 manage-step S l stamps k mark q ns settings start size exclusive node mapped reserved =
     manage-wrote S l stamps k mark q (soundLent S l (length stamps) (stateOf k mark q) (settings .page)) start size exclusive node mapped reserved

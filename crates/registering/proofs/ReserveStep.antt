@@ -10,14 +10,14 @@ use Rattle.layer.specs.declared.Question.{Question}
 use Rattle.layer.specs.World.{stateOf, worldOf, after}
 use Rattle.layer.specs.Table.{soundLent}
 use Rattle.layer.specs.Registering.{reserveReply, reserveOf}
-use Rattle.layer.specs.Step.{reserve, step}
+use Rattle.layer.specs.Step.{reserve, step, act, rules}
 use Rattle.registering.specs.Reserving.{reserveAnswer}
 use Rattle.registering.proofs.Around.{around-writes}
 
 pub reserve-step : (S : ℕ) (l : List Arena) (stamps : List ℕ) (k : ℕ) (mark : Bool) (q : Question) (ns : ℕ) (settings : Settings) (size : ℕ) (commit large exclusive : Bool)
-    → step S (worldOf l stamps (stateOf k mark q)) ns settings (reserve size commit large exclusive)
+    → rules S (worldOf l stamps (stateOf k mark q)) ns settings (act (reserve size commit large exclusive))
     ≡ after (reserveAnswer S (soundLent S l (length stamps) (stateOf k mark q) (settings .page)) (stateOf k mark q) size commit large exclusive (settings .page)) l stamps
-unfolding step reserveAnswer reserveOf
+unfolding rules reserveAnswer reserveOf
 reserve-step S l stamps k mark q ns settings size commit large exclusive =
     around-writes l stamps k mark (soundLent S l (length stamps) (stateOf k mark q) (settings .page)) q _ (reserveReply S k mark size commit large exclusive (settings .page)) l stamps
     (λ o i. refl) (λ e. (refl, refl))

@@ -30,7 +30,7 @@ use Rattle.layer.specs.declared.Reply.{Reply}
 use Rattle.layer.specs.World.{Outcome, stateOf, worldOf, after, turnDown, calm}
 use Rattle.layer.specs.Table.{at, findArena, soundTable, soundLent}
 use Rattle.layer.specs.Releasing.{releases, releaseReply, releaseAt, releaseOf}
-use Rattle.layer.specs.Step.{release, gate, step}
+use Rattle.layer.specs.Step.{release, gate, step, act, rules}
 use Rattle.registers.specs.Core.{isIdle, gated, storedAt}
 use Rattle.words.proofs.Tests.{when, unless}
 use Rattle.registers.proofs.DecisionLaws.{and-first, and-second}
@@ -152,8 +152,8 @@ module _ (S : ℕ) (l : List Arena) (stamps : List ℕ) (k : ℕ) (mark : Bool) 
       ∙ found-step (scan (releaseCount ok state n))
       ∙ ap (λ (r : Reply). written r (scan (releaseCount ok state n))) (sym (answer-found (scan (releaseCount ok state n)) (arenaAt (scan (releaseCount ok state n))) e i z))
 
-  whole : step S (worldOf l stamps state) ns settings (release address n told pending) ≡ out (scan (releaseCount ok state n))
-  unfolding step
+  whole : rules S (worldOf l stamps state) ns settings (act (release address n told pending)) ≡ out (scan (releaseCount ok state n))
+  unfolding rules
   whole = by-ok ok refl
     where
       by-question : ok ≡ true → (b : Bool) → isIdle q ≡ b
@@ -161,7 +161,7 @@ module _ (S : ℕ) (l : List Arena) (stamps : List ℕ) (k : ℕ) (mark : Bool) 
       by-question e true i = go-on q _ _ i ∙ released e i (eqb n 0) refl
       by-question e false i = stops q _ _ i ∙ unsearched (turnDown QuestionOpen state) (count-asked ok state n e i) (answer-asked Nothing (at l 32) e i)
 
-      by-ok : (b : Bool) → ok ≡ b → step S (worldOf l stamps state) ns settings (release address n told pending) ≡ out (scan (releaseCount ok state n))
+      by-ok : (b : Bool) → ok ≡ b → rules S (worldOf l stamps state) ns settings (act (release address n told pending)) ≡ out (scan (releaseCount ok state n))
       by-ok true e = when _ _ _ e ∙ by-question e (isIdle q) refl
       by-ok false e = unless _ _ _ e ∙ unsearched (turnDown Broken state) (count-broken ok state n e) (answer-broken Nothing (at l 32) e)
 
@@ -171,7 +171,7 @@ pub release-step : (S : ℕ) (l : List Arena) (stamps : List ℕ) (k : ℕ) (mar
     let ok = soundLent S l (length stamps) state (settings .page) in
     let f = least (λ i. isInside S (at l i) address) 0 (releaseCount ok state n) in
     let a = at l (storedAt f) in
-    step S (worldOf l stamps state) ns settings (release address n told pending)
+    rules S (worldOf l stamps state) ns settings (act (release address n told pending))
     ≡ after (releaseAnswer S ok state address n f a) (recordsAfter S l address n told pending (nowMs ns) (delayMs (settings .delay)) f a)
     (stampsAfter S stamps address n pending (nowMs ns) f a)
 release-step S l stamps k mark q ns settings address n told pending = whole S l stamps k mark q ns settings address n told pending

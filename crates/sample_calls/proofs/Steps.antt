@@ -85,49 +85,49 @@ module _ {M : Type 1} {𝓤 : URA M} {H : Heap 𝓤} {A : Atoms 𝓤} {K : Type 
   pub registers-step : K → Site K W Γ C E #sample-registers·registers xs G after → (mem : Memory → SProp 𝓤) (run : Routine → Fun 𝓤) → Triple 𝓤 (C #sample-registers·registers) (Registers 𝓤 H A mem run)
       → (L L′ : Loan) (ys : List Arena) (us : List ℕ) → (z : State) (vz : Val) → Is Z.the-row z (vz ∷ []) → (ns : ℕ) → ns < 2 ^ 64 → (s : Settings) (vs : Val) → Is Y.the-row s (vs ∷ []) → (c : Made) (vc : Val) → Is X.the-row c (vc ∷ [])
       → ((h : Item 𝓤) → Opds K W (h ∷ Γ) E xs (sliceOf L ∷ sliceOf L′ ∷ vz ∷ vint w64 ns ∷ vs ∷ vc ∷ []))
-      → ((v : Val) (r : Reply) (zs : List Arena) (ts : List ℕ) → Is P.the-row r (v ∷ []) → Leaves (step 33554432 (worldOf ys us z) ns s (registering c)) r zs ts → length zs ≡ length ys → length ts ≡ length us → Seq K W ((‵ (lent T.the-row L zs) ⊛ (‵ (lent u32 L′ ts) ⊛ i)) ∷ Γ) (after v))
+      → ((v : Val) (r : Reply) (zs : List Arena) (ts : List ℕ) → Is P.the-row r (v ∷ []) → Leaves (step (worldOf ys us z) ns s (registering c)) r zs ts → length zs ≡ length ys → length ts ≡ length us → Seq K W ((‵ (lent T.the-row L zs) ⊛ (‵ (lent u32 L′ ts) ⊛ i)) ∷ Γ) (after v))
       → Seq K W ((‵ (lent T.the-row L ys) ⊛ (‵ (lent u32 L′ us) ⊛ i)) ∷ Γ) G
   registers-step t site mem run known L L′ ys us z vz gz ns fns s vs gs c vc gc ops k =
       mut2-call t site T.the-row u32 L L′ P.the-row (plain (λ _. Z.the-row) ∷ plain (λ _. u64) ∷ plain (λ _. Y.the-row) ∷ plain (λ _. X.the-row) ∷ []) (yes, (yes, (yes, (yes, tt)))) (registers′.clauses 𝓤 H A mem run) known ys us (λ _. (z, (ns, (s, (c, tt))))) (λ _. (vz ∷ [], (vint w64 ns ∷ [], (vs ∷ [], (vc ∷ [], tt)))))
       (λ _. owns-make 𝓤 H A (Z.the-row ∷ u64 ∷ Y.the-row ∷ X.the-row ∷ []) (Ises (Z.the-row ∷ u64 ∷ Y.the-row ∷ X.the-row ∷ [])) (LL.makes Z.the-type Z′.the-plain 𝓤 H A, (uint-makes 𝓤 H A W w64, (LL.makes Y.the-type Y′.the-plain 𝓤 H A, (LL.makes X.the-type X′.the-plain 𝓤 H A, tt)))) (z, (ns, (s, (c, tt)))) (vz ∷ [], (vint w64 ns ∷ [], (vs ∷ [], (vc ∷ [], tt)))) (gz, ((refl, fns), (gs, (gc, tt))))) (λ _ _ _. tt) (λ _ _ _. id⊢ 𝓤 _)
-      (Leaves (step 33554432 (worldOf ys us z) ns s (registering c))) (λ _ _ _ r ws. id⊢ 𝓤 _) (λ h _. ops h) (λ v r zs ts is e l l′. k v r zs ts is e l l′)
+      (Leaves (step (worldOf ys us z) ns s (registering c))) (λ _ _ _ r ws. id⊢ 𝓤 _) (λ h _. ops h) (λ v r zs ts is e l l′. k v r zs ts is e l l′)
 
   pub claims-step : K → Site K W Γ C E #sample-claims·claims xs G after → (mem : Memory → SProp 𝓤) (run : Routine → Fun 𝓤) → Triple 𝓤 (C #sample-claims·claims) (Claims 𝓤 H A mem run)
       → (L L′ : Loan) (ys : List Arena) (us : List ℕ) → (z : State) (vz : Val) → Is Z.the-row z (vz ∷ []) → (ns : ℕ) → ns < 2 ^ 64 → (s : Settings) (vs : Val) → Is Y.the-row s (vs ∷ []) → (c : Made) (vc : Val) → Is X.the-row c (vc ∷ [])
       → ((h : Item 𝓤) → Opds K W (h ∷ Γ) E xs (sliceOf L ∷ sliceOf L′ ∷ vz ∷ vint w64 ns ∷ vs ∷ vc ∷ []))
-      → ((v : Val) (r : Reply) (zs : List Arena) (ts : List ℕ) → Is P.the-row r (v ∷ []) → Leaves (step 33554432 (worldOf ys us z) ns s (claiming c)) r zs ts → length zs ≡ length ys → length ts ≡ length us → Seq K W ((‵ (lent T.the-row L zs) ⊛ (‵ (lent u32 L′ ts) ⊛ i)) ∷ Γ) (after v))
+      → ((v : Val) (r : Reply) (zs : List Arena) (ts : List ℕ) → Is P.the-row r (v ∷ []) → Leaves (step (worldOf ys us z) ns s (claiming c)) r zs ts → length zs ≡ length ys → length ts ≡ length us → Seq K W ((‵ (lent T.the-row L zs) ⊛ (‵ (lent u32 L′ ts) ⊛ i)) ∷ Γ) (after v))
       → Seq K W ((‵ (lent T.the-row L ys) ⊛ (‵ (lent u32 L′ us) ⊛ i)) ∷ Γ) G
   claims-step t site mem run known L L′ ys us z vz gz ns fns s vs gs c vc gc ops k =
       mut2-call t site T.the-row u32 L L′ P.the-row (plain (λ _. Z.the-row) ∷ plain (λ _. u64) ∷ plain (λ _. Y.the-row) ∷ plain (λ _. X.the-row) ∷ []) (yes, (yes, (yes, (yes, tt)))) (claims′.clauses 𝓤 H A mem run) known ys us (λ _. (z, (ns, (s, (c, tt))))) (λ _. (vz ∷ [], (vint w64 ns ∷ [], (vs ∷ [], (vc ∷ [], tt)))))
       (λ _. owns-make 𝓤 H A (Z.the-row ∷ u64 ∷ Y.the-row ∷ X.the-row ∷ []) (Ises (Z.the-row ∷ u64 ∷ Y.the-row ∷ X.the-row ∷ [])) (LL.makes Z.the-type Z′.the-plain 𝓤 H A, (uint-makes 𝓤 H A W w64, (LL.makes Y.the-type Y′.the-plain 𝓤 H A, (LL.makes X.the-type X′.the-plain 𝓤 H A, tt)))) (z, (ns, (s, (c, tt)))) (vz ∷ [], (vint w64 ns ∷ [], (vs ∷ [], (vc ∷ [], tt)))) (gz, ((refl, fns), (gs, (gc, tt))))) (λ _ _ _. tt) (λ _ _ _. id⊢ 𝓤 _)
-      (Leaves (step 33554432 (worldOf ys us z) ns s (claiming c))) (λ _ _ _ r ws. id⊢ 𝓤 _) (λ h _. ops h) (λ v r zs ts is e l l′. k v r zs ts is e l l′)
+      (Leaves (step (worldOf ys us z) ns s (claiming c))) (λ _ _ _ r ws. id⊢ 𝓤 _) (λ h _. ops h) (λ v r zs ts is e l l′. k v r zs ts is e l l′)
 
   pub changes-step : K → Site K W Γ C E #sample-changes·changes xs G after → (mem : Memory → SProp 𝓤) (run : Routine → Fun 𝓤) → Triple 𝓤 (C #sample-changes·changes) (Changes 𝓤 H A mem run)
       → (L L′ : Loan) (ys : List Arena) (us : List ℕ) → (z : State) (vz : Val) → Is Z.the-row z (vz ∷ []) → (ns : ℕ) → ns < 2 ^ 64 → (s : Settings) (vs : Val) → Is Y.the-row s (vs ∷ []) → (told : Commitment) (vtold : Val) → Is D.the-row told (vtold ∷ []) → (question : Kind) (vquestion : Val) → Is Q.the-row question (vquestion ∷ []) → (c : Made) (vc : Val) → Is X.the-row c (vc ∷ [])
       → ((h : Item 𝓤) → Opds K W (h ∷ Γ) E xs (sliceOf L ∷ sliceOf L′ ∷ vz ∷ vint w64 ns ∷ vs ∷ vtold ∷ vquestion ∷ vc ∷ []))
-      → ((v : Val) (r : Reply) (zs : List Arena) (ts : List ℕ) → Is P.the-row r (v ∷ []) → Leaves (step 33554432 (worldOf ys us z) ns s (changing told question c)) r zs ts → length zs ≡ length ys → length ts ≡ length us → Seq K W ((‵ (lent T.the-row L zs) ⊛ (‵ (lent u32 L′ ts) ⊛ i)) ∷ Γ) (after v))
+      → ((v : Val) (r : Reply) (zs : List Arena) (ts : List ℕ) → Is P.the-row r (v ∷ []) → Leaves (step (worldOf ys us z) ns s (changing told question c)) r zs ts → length zs ≡ length ys → length ts ≡ length us → Seq K W ((‵ (lent T.the-row L zs) ⊛ (‵ (lent u32 L′ ts) ⊛ i)) ∷ Γ) (after v))
       → Seq K W ((‵ (lent T.the-row L ys) ⊛ (‵ (lent u32 L′ us) ⊛ i)) ∷ Γ) G
   changes-step t site mem run known L L′ ys us z vz gz ns fns s vs gs told vtold gtold question vquestion gquestion c vc gc ops k =
       mut2-call t site T.the-row u32 L L′ P.the-row (plain (λ _. Z.the-row) ∷ plain (λ _. u64) ∷ plain (λ _. Y.the-row) ∷ plain (λ _. D.the-row) ∷ plain (λ _. Q.the-row) ∷ plain (λ _. X.the-row) ∷ []) (yes, (yes, (yes, (yes, (yes, (yes, tt)))))) (changes′.clauses 𝓤 H A mem run) known ys us (λ _. (z, (ns, (s, (told, (question, (c, tt))))))) (λ _. (vz ∷ [], (vint w64 ns ∷ [], (vs ∷ [], (vtold ∷ [], (vquestion ∷ [], (vc ∷ [], tt)))))))
       (λ _. owns-make 𝓤 H A (Z.the-row ∷ u64 ∷ Y.the-row ∷ D.the-row ∷ Q.the-row ∷ X.the-row ∷ []) (Ises (Z.the-row ∷ u64 ∷ Y.the-row ∷ D.the-row ∷ Q.the-row ∷ X.the-row ∷ [])) (LL.makes Z.the-type Z′.the-plain 𝓤 H A, (uint-makes 𝓤 H A W w64, (LL.makes Y.the-type Y′.the-plain 𝓤 H A, (EL.makes D.the-type D′.the-plain 𝓤 H A, (EL.makes Q.the-type Q′.the-plain 𝓤 H A, (LL.makes X.the-type X′.the-plain 𝓤 H A, tt)))))) (z, (ns, (s, (told, (question, (c, tt)))))) (vz ∷ [], (vint w64 ns ∷ [], (vs ∷ [], (vtold ∷ [], (vquestion ∷ [], (vc ∷ [], tt)))))) (gz, ((refl, fns), (gs, (gtold, (gquestion, (gc, tt))))))) (λ _ _ _. tt) (λ _ _ _. id⊢ 𝓤 _)
-      (Leaves (step 33554432 (worldOf ys us z) ns s (changing told question c))) (λ _ _ _ r ws. id⊢ 𝓤 _) (λ h _. ops h) (λ v r zs ts is e l l′. k v r zs ts is e l l′)
+      (Leaves (step (worldOf ys us z) ns s (changing told question c))) (λ _ _ _ r ws. id⊢ 𝓤 _) (λ h _. ops h) (λ v r zs ts is e l l′. k v r zs ts is e l l′)
 
   pub asks-step : K → Site K W Γ C E #sample-asks·asks xs G after → (mem : Memory → SProp 𝓤) (run : Routine → Fun 𝓤) → Triple 𝓤 (C #sample-asks·asks) (Asks 𝓤 H A mem run)
       → (L L′ : Loan) (ys : List Arena) (us : List ℕ) → (z : State) (vz : Val) → Is Z.the-row z (vz ∷ []) → (ns : ℕ) → ns < 2 ^ 64 → (s : Settings) (vs : Val) → Is Y.the-row s (vs ∷ []) → (c : Made) (vc : Val) → Is X.the-row c (vc ∷ [])
       → ((h : Item 𝓤) → Opds K W (h ∷ Γ) E xs (sliceOf L ∷ sliceOf L′ ∷ vz ∷ vint w64 ns ∷ vs ∷ vc ∷ []))
-      → ((v : Val) (r : Reply) → Is P.the-row r (v ∷ []) → r ≡ replyOf (step 33554432 (worldOf ys us z) ns s (asking c)) → Seq K W ((‵ (shared T.the-row L ys) ⊛ (‵ (shared u32 L′ us) ⊛ i)) ∷ Γ) (after v))
+      → ((v : Val) (r : Reply) → Is P.the-row r (v ∷ []) → r ≡ replyOf (step (worldOf ys us z) ns s (asking c)) → Seq K W ((‵ (shared T.the-row L ys) ⊛ (‵ (shared u32 L′ us) ⊛ i)) ∷ Γ) (after v))
       → Seq K W ((‵ (shared T.the-row L ys) ⊛ (‵ (shared u32 L′ us) ⊛ i)) ∷ Γ) G
   asks-step t site mem run known L L′ ys us z vz gz ns fns s vs gs c vc gc ops k =
       ss-call t site T.the-row u32 L L′ P.the-row (plain (λ _. Z.the-row) ∷ plain (λ _. u64) ∷ plain (λ _. Y.the-row) ∷ plain (λ _. X.the-row) ∷ []) (yes, (yes, (yes, (yes, tt)))) (asks′.clauses 𝓤 H A mem run) known ys us (λ _. (z, (ns, (s, (c, tt))))) (λ _. (vz ∷ [], (vint w64 ns ∷ [], (vs ∷ [], (vc ∷ [], tt)))))
       (λ _. owns-make 𝓤 H A (Z.the-row ∷ u64 ∷ Y.the-row ∷ X.the-row ∷ []) (Ises (Z.the-row ∷ u64 ∷ Y.the-row ∷ X.the-row ∷ [])) (LL.makes Z.the-type Z′.the-plain 𝓤 H A, (uint-makes 𝓤 H A W w64, (LL.makes Y.the-type Y′.the-plain 𝓤 H A, (LL.makes X.the-type X′.the-plain 𝓤 H A, tt)))) (z, (ns, (s, (c, tt)))) (vz ∷ [], (vint w64 ns ∷ [], (vs ∷ [], (vc ∷ [], tt)))) (gz, ((refl, fns), (gs, (gc, tt))))) (λ _. tt) (λ _. id⊢ 𝓤 _)
-      (λ r. r ≡ replyOf (step 33554432 (worldOf ys us z) ns s (asking c))) (λ _ r ws. id⊢ 𝓤 _) (λ h _. ops h) (λ v r is e. k v r is e)
+      (λ r. r ≡ replyOf (step (worldOf ys us z) ns s (asking c))) (λ _ r ws. id⊢ 𝓤 _) (λ h _. ops h) (λ v r is e. k v r is e)
 
   pub call-step : K → Site K W Γ C E #sample-calls·call xs G after → (mem : Memory → SProp 𝓤) (run : Routine → Fun 𝓤) → Triple 𝓤 (C #sample-calls·call) (Call 𝓤 H A mem run)
       → (L L′ : Loan) (ys : List Arena) (us : List ℕ) → (z : State) (vz : Val) → Is Z.the-row z (vz ∷ []) → (ns : ℕ) → ns < 2 ^ 64 → (s : Settings) (vs : Val) → Is Y.the-row s (vs ∷ []) → (told : Commitment) (vtold : Val) → Is D.the-row told (vtold ∷ []) → (question : Kind) (vquestion : Val) → Is Q.the-row question (vquestion ∷ []) → (c : Made) (vc : Val) → Is X.the-row c (vc ∷ [])
       → ((h : Item 𝓤) → Opds K W (h ∷ Γ) E xs (sliceOf L ∷ sliceOf L′ ∷ vz ∷ vint w64 ns ∷ vs ∷ vtold ∷ vquestion ∷ vc ∷ []))
-      → ((v : Val) (r : Reply) (zs : List Arena) (ts : List ℕ) → Is P.the-row r (v ∷ []) → Leaves (step 33554432 (worldOf ys us z) ns s (callOf told question c)) r zs ts → length zs ≡ length ys → length ts ≡ length us → Seq K W ((‵ (lent T.the-row L zs) ⊛ (‵ (lent u32 L′ ts) ⊛ i)) ∷ Γ) (after v))
+      → ((v : Val) (r : Reply) (zs : List Arena) (ts : List ℕ) → Is P.the-row r (v ∷ []) → Leaves (step (worldOf ys us z) ns s (callOf told question c)) r zs ts → length zs ≡ length ys → length ts ≡ length us → Seq K W ((‵ (lent T.the-row L zs) ⊛ (‵ (lent u32 L′ ts) ⊛ i)) ∷ Γ) (after v))
       → Seq K W ((‵ (lent T.the-row L ys) ⊛ (‵ (lent u32 L′ us) ⊛ i)) ∷ Γ) G
   call-step t site mem run known L L′ ys us z vz gz ns fns s vs gs told vtold gtold question vquestion gquestion c vc gc ops k =
       mut2-call t site T.the-row u32 L L′ P.the-row (plain (λ _. Z.the-row) ∷ plain (λ _. u64) ∷ plain (λ _. Y.the-row) ∷ plain (λ _. D.the-row) ∷ plain (λ _. Q.the-row) ∷ plain (λ _. X.the-row) ∷ []) (yes, (yes, (yes, (yes, (yes, (yes, tt)))))) (call′.clauses 𝓤 H A mem run) known ys us (λ _. (z, (ns, (s, (told, (question, (c, tt))))))) (λ _. (vz ∷ [], (vint w64 ns ∷ [], (vs ∷ [], (vtold ∷ [], (vquestion ∷ [], (vc ∷ [], tt)))))))
       (λ _. owns-make 𝓤 H A (Z.the-row ∷ u64 ∷ Y.the-row ∷ D.the-row ∷ Q.the-row ∷ X.the-row ∷ []) (Ises (Z.the-row ∷ u64 ∷ Y.the-row ∷ D.the-row ∷ Q.the-row ∷ X.the-row ∷ [])) (LL.makes Z.the-type Z′.the-plain 𝓤 H A, (uint-makes 𝓤 H A W w64, (LL.makes Y.the-type Y′.the-plain 𝓤 H A, (EL.makes D.the-type D′.the-plain 𝓤 H A, (EL.makes Q.the-type Q′.the-plain 𝓤 H A, (LL.makes X.the-type X′.the-plain 𝓤 H A, tt)))))) (z, (ns, (s, (told, (question, (c, tt)))))) (vz ∷ [], (vint w64 ns ∷ [], (vs ∷ [], (vtold ∷ [], (vquestion ∷ [], (vc ∷ [], tt)))))) (gz, ((refl, fns), (gs, (gtold, (gquestion, (gc, tt))))))) (λ _ _ _. tt) (λ _ _ _. id⊢ 𝓤 _)
-      (Leaves (step 33554432 (worldOf ys us z) ns s (callOf told question c))) (λ _ _ _ r ws. id⊢ 𝓤 _) (λ h _. ops h) (λ v r zs ts is e l l′. k v r zs ts is e l l′)
+      (Leaves (step (worldOf ys us z) ns s (callOf told question c))) (λ _ _ _ r ws. id⊢ 𝓤 _) (λ h _. ops h) (λ v r zs ts is e l l′. k v r zs ts is e l l′)

@@ -18,7 +18,7 @@ pub fn asks(
     settings: Settings,
     c: Made,
 ) -> Reply
-    ensures { λ r. ⌜ r ≡ replyOf (step 33554432 (worldOf (now (records .entry)) (now (stamps .entry)) state) ns settings (asking c)) ⌝ }
+    ensures { λ r. ⌜ r ≡ replyOf (step (worldOf (now (records .entry)) (now (stamps .entry)) state) ns settings (asking c)) ⌝ }
 {
     if c.a == 0 {
         return arena_area::owns(records, stamps, state, ns, settings, c.b);

@@ -21,7 +21,7 @@ pub fn changes(
     question: Kind,
     c: Made,
 ) -> Reply
-    ensures { λ r. ⌜ Leaves (step 33554432 (worldOf (now (records .entry)) (now (stamps .entry)) state) ns settings (changing told question c)) r (now (records .exit)) (now (stamps .exit)) ⌝ }
+    ensures { λ r. ⌜ Leaves (step (worldOf (now (records .entry)) (now (stamps .entry)) state) ns settings (changing told question c)) r (now (records .exit)) (now (stamps .exit)) ⌝ }
 {
     if c.kind == 10 {
         return chunk_release::chunk_release(

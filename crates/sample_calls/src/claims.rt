@@ -17,7 +17,7 @@ pub fn claims(
     settings: Settings,
     c: Made,
 ) -> Reply
-    ensures { λ r. ⌜ Leaves (step 33554432 (worldOf (now (records .entry)) (now (stamps .entry)) state) ns settings (claiming c)) r (now (records .exit)) (now (stamps .exit)) ⌝ }
+    ensures { λ r. ⌜ Leaves (step (worldOf (now (records .entry)) (now (stamps .entry)) state) ns settings (claiming c)) r (now (records .exit)) (now (stamps .exit)) ⌝ }
 {
     if c.kind == 7 {
         return chunk_alloc::chunk_alloc(records, stamps, state, ns, settings, c.id);

@@ -26,7 +26,7 @@ pub fn call(
     question: Kind,
     c: Made,
 ) -> Reply
-    ensures { λ r. ⌜ Leaves (step 33554432 (worldOf (now (records .entry)) (now (stamps .entry)) state) ns settings (callOf told question c)) r (now (records .exit)) (now (stamps .exit)) ⌝ }
+    ensures { λ r. ⌜ Leaves (step (worldOf (now (records .entry)) (now (stamps .entry)) state) ns settings (callOf told question c)) r (now (records .exit)) (now (stamps .exit)) ⌝ }
 {
     if c.kind < 7 {
         return crate::registers::registers(records, stamps, state, ns, settings, c);

@@ -17,7 +17,7 @@ pub fn registers(
     settings: Settings,
     c: Made,
 ) -> Reply
-    ensures { λ r. ⌜ Leaves (step 33554432 (worldOf (now (records .entry)) (now (stamps .entry)) state) ns settings (registering c)) r (now (records .exit)) (now (stamps .exit)) ⌝ }
+    ensures { λ r. ⌜ Leaves (step (worldOf (now (records .entry)) (now (stamps .entry)) state) ns settings (registering c)) r (now (records .exit)) (now (stamps .exit)) ⌝ }
 {
     if c.kind == 4 {
         return reserve_os_memory::reserve_os_memory_ex(

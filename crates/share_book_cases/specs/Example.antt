@@ -1,4 +1,4 @@
--- A sequence of calls from the empty layer. Program 9 reserves an exclusive arena of 3 chunks; then program 7 claims and releases there, while 9 manages
+-- A history from the empty layer. Program 9 reserves an exclusive arena of 3 chunks; then program 7 claims and releases there, while 9 manages
 -- a shared arena, claims in it, sweeps and brings a broken table. Each call is lent a table that is written out. Assumes nothing.
 use mathlib.Core.Path.{_≡_}
 use mathlib.Core.Bool.{true, false}
@@ -14,11 +14,10 @@ use Rattle.layer.specs.declared.Question.the-variants.{Idle, Committing, Purgin
 use Rattle.layer.specs.declared.Waiting.the-variants.{Reserve}
 use Rattle.layer.specs.declared.Kind.the-variants.{ForCommit, ForPurge, ForMemory}
 use Rattle.layer.specs.World.{World, blank, stateOf, worldOf, empty}
-use Rattle.layer.specs.Step.{Call, reserve, manage, claim, release, sweep, answer}
-use Rattle.runs.specs.Lowest.{lowestRun}
-use Rattle.layer.specs.Book.{Fed, claims, releases, Say, refused, granted, released, opened, sayAll}
-use Rattle.layer.specs.Sequence.{Marked, after, fed, told, owed}
-use Rattle.layer.specs.Demand.{opening, Course}
+use Rattle.layer.specs.Step.{reserve, manage, claim, release, sweep, Call, act, answer, step}
+use Rattle.layer.specs.Book.{lowest, Fed, claims, releases, Say, refused, granted, released, sayAll}
+use Rattle.layer.specs.History.{Marked, History, begin, next, Lent, ruled, Place, waits, Where, place, fed, told, Keeps}
+use Rattle.layer.specs.Demand.{bookOf}
 
 -- a chunk: 33,554,432 bytes
 abbrev pub S : ℕ
@@ -91,8 +90,8 @@ by who lent ns call = record { who = who; lent = lent; ns = ns; settings = plain
 
 -- ---- the calls
 
-abbrev pub before : List Marked
-before = by 9 empty 0 (reserve 100663296 false false true) ∷ []
+abbrev pub asking : Marked
+asking = by 9 empty 0 (act (reserve 100663296 false false true))
 
 -- the yes to the memory question registers the arena
 abbrev pub registering : Marked
@@ -101,32 +100,44 @@ registering = by 9 (worldOf (replicate 32 blank) (replicate 32768 0) (stateOf 0 
 abbrev pub calls : List Marked
 calls =
     -- a claim that puts no question
-    by 7 (one (own 0 0 0 0 0) 0 Idle) 0 (claim (pos 0) 1 false)
+    by 7 (one (own 0 0 0 0 0) 0 Idle) 0 (act (claim (pos 0) 1 false))
     -- one that asks for a commit, and the yes
-    ∷ by 7 (one (own 1 1 0 0 0) 0 Idle) 0 (claim (pos 0) 1 true)
+    ∷ by 7 (one (own 1 1 0 0 0) 0 Idle) 0 (act (claim (pos 0) 1 true))
     ∷ by 7 (one (own 3 1 0 0 0) 0 (Committing 0 1 1)) 0 (answer ForCommit true 0)
     -- chunk 0 is released, pending, at 5 ms
-    ∷ by 7 (one (own 3 3 2 0 0) 0 Idle) 5000000 (release base 1 Untold true)
+    ∷ by 7 (one (own 3 3 2 0 0) 0 Idle) 5000000 (act (release base 1 Untold true))
     -- the other's arena, and its claim, which may be served by any shared arena
-    ∷ by 9 (one (own 2 3 2 1 5) 5 Idle) 6000000 (manage elsewhere 67108864 false (negsuc 0) false true)
-    ∷ by 9 (two (own 2 3 2 1 5) (shared 0) Idle) 7000000 (claim (negsuc 0) 1 true)
+    ∷ by 9 (one (own 2 3 2 1 5) 5 Idle) 6000000 (act (manage elsewhere 67108864 false (negsuc 0) false true))
+    ∷ by 9 (two (own 2 3 2 1 5) (shared 0) Idle) 7000000 (act (claim (negsuc 0) 1 true))
     -- its sweep asks about chunk 0; its claim at the arena, lent a broken table, is refused with 1; the purge is answered
-    ∷ by 9 (two (own 2 3 2 1 5) (shared 1) Idle) 9000000 (sweep true)
-    ∷ by 9 short 9000000 (claim (pos 0) 1 true)
+    ∷ by 9 (two (own 2 3 2 1 5) (shared 1) Idle) 9000000 (act (sweep true))
+    ∷ by 9 short 9000000 (act (claim (pos 0) 1 true))
     ∷ by 9 (two (own 3 3 2 1 0) (shared 1) purge) 9000000 (answer ForPurge true 0)
     -- two neighbours are not there; one is; and the last waits for its yes
-    ∷ by 7 (two (own 2 3 2 0 0) (shared 1) Idle) 10000000 (claim (pos 0) 2 true)
-    ∷ by 7 (two (own 2 3 2 0 0) (shared 1) Idle) 10000000 (claim (pos 0) 1 false)
-    ∷ by 7 (two (own 3 3 2 0 0) (shared 1) Idle) 10000000 (claim (pos 0) 1 true)
+    ∷ by 7 (two (own 2 3 2 0 0) (shared 1) Idle) 10000000 (act (claim (pos 0) 2 true))
+    ∷ by 7 (two (own 2 3 2 0 0) (shared 1) Idle) 10000000 (act (claim (pos 0) 1 false))
+    ∷ by 7 (two (own 3 3 2 0 0) (shared 1) Idle) 10000000 (act (claim (pos 0) 1 true))
     ∷ []
+
+-- one after the other
+abbrev pub goOn : History → List Marked → History
+goOn h [] = h
+goOn h (m ∷ ms) = goOn (next h m) ms
+
+abbrev pub history : History
+history = goOn (next (next begin asking) registering) calls
 
 -- ---- what is said
 
+-- the arena
+abbrev pub arena : Place
+arena = record { id = 0; size = S; base = base; chunks = 3; managed = false }
+
 -- what the book is fed
 abbrev pub feeding : List Fed
-feeding = claims 1 ∷ claims 1 ∷ releases base 1 ∷ claims 2 ∷ claims 1 ∷ claims 1 ∷ []
+feeding = claims lowest 1 ∷ claims lowest 1 ∷ releases base 1 ∷ claims lowest 2 ∷ claims lowest 1 ∷ claims lowest 1 ∷ []
 
--- what program 7 is told, and what it is owed with the yes
+-- what program 7 is told, and what it is to be told with the yes
 abbrev pub telling : List Say
 telling = granted base true ∷ granted (base + S) true ∷ released ∷ refused 10 ∷ granted base false ∷ []
 
@@ -136,9 +147,12 @@ owing = granted (base + 2 * S) true ∷ []
 -- ---- what holds of it
 
 pub record Example : Type 0 where
-  -- it meets every premise of demand 3, for program 7
-  pub course : Course S 7 0 base 3 false before registering calls
-  pub fed-is : fed S 0 base 3 (opening S before registering) calls ≡ feeding
-  pub told-is : told S 0 base 3 (opening S before registering) calls ≡ telling
-  pub owed-is : owed S 0 (after S (opening S before registering) calls) ≡ owing
-  pub book-says : sayAll S lowestRun (opened base 3 false) feeding ≡ telling ++ owing
+  -- the arena's book opens, and every premise of demand 3 is met for program 7
+  pub opens : Where history
+  pub place-is : place history opens ≡ arena
+  pub lent : Lent step history
+  pub keeps : Keeps 7 history opens
+  pub fed-is : fed history opens ≡ feeding
+  pub told-is : told step history opens ≡ telling
+  pub waits-is : waits arena (ruled history) ≡ claims lowest 1 ∷ []
+  pub book-says : sayAll (bookOf arena) feeding ≡ telling ++ owing

@@ -14,7 +14,7 @@ use Rattle.layer.specs.declared.Settings.{Settings}
 use Rattle.layer.specs.World.{World, Outcome, worldOf, after, turnDown, Leaves}
 use Rattle.layer.specs.World as W
 use Rattle.layer.specs.Table.{soundTable, soundLent, sound}
-use Rattle.layer.specs.Step.{Call, step}
+use Rattle.layer.specs.Step.{Call, step, rules}
 use Rattle.surface.specs.declared.StateNumbers.{StateNumbers}
 use Rattle.surface.specs.declared.told.SettingsNumbers.{SettingsNumbers}
 use Rattle.surface.specs.Numbers.{stateOf, numbersOf, isState}
@@ -28,8 +28,8 @@ third false b c = refl
 
 -- a page of 0 is no page: row 1, and all is left
 pub no-page : (S : ℕ) (w : World) (ns : ℕ) (settings : Settings) (call : Call) → settings .page ≡ 0
-    → step S w ns settings call ≡ after (turnDown Broken (w .state)) (w .records) (w .stamps)
-unfolding step soundLent pageSizeSound
+    → rules S w ns settings call ≡ after (turnDown Broken (w .state)) (w .records) (w .stamps)
+unfolding rules soundLent pageSizeSound
 no-page S w ns settings call e =
     unless (sound S w (settings .page)) _ _
     (ap (λ (page : ℕ). sound S w page) e ∙ third (eqb (length (w .records)) 32) (eqb (length (w .stamps)) 32768) (soundTable S (w .records) (w .state)))
@@ -37,7 +37,7 @@ no-page S w ns settings call e =
 module _ (l : List Arena) (stamps : List ℕ) (f : StateNumbers) (ns : ℕ) (s : SettingsNumbers) (call : Call) where
   -- the layer's step, the state being one or none
   abbrev stepped : Bool → Outcome
-  stepped ok = step 33554432 (worldOf l stamps (stateOf f)) ns (settingsOf ok s) call
+  stepped ok = step (worldOf l stamps (stateOf f)) ns (settingsOf ok s) call
 
   abbrev left : Bool → Left
   left ok = cond ok (inNumbers (stepped true)) (record { reply = brokenNumbers f; records = l; stamps = stamps })

@@ -79,7 +79,7 @@ inNumbers o =
 -- a call of the layer, its chunks being of 33,554,432 bytes. "a number in a lent state that names no kind, flag or case of ours makes the table broken (1)"
 unfoldable pub stepNumbers : List Arena → List ℕ → StateNumbers → ℕ → SettingsNumbers → Call → Left
 stepNumbers l stamps f ns s call =
-    cond (isState f) (inNumbers (step 33554432 (worldOf l stamps (stateOf f)) ns (settingsOf true s) call))
+    cond (isState f) (inNumbers (step (worldOf l stamps (stateOf f)) ns (settingsOf true s) call))
     (record { reply = brokenNumbers f; records = l; stamps = stamps })
 
 abbrev pub LeavesNumbers : Left → ReplyNumbers → List Arena → List ℕ → Type 0

@@ -26,7 +26,7 @@ use Rattle.layer.specs.World.{World, Outcome, stateOf, worldOf, outcome, after}
 use Rattle.layer.specs.Table.{at, isAt, findArena, sound}
 use Rattle.layer.specs.Sweeping.{sweepFrom}
 use Rattle.layer.specs.Answering.{isFor, counted, answerPurge, answerOf}
-use Rattle.layer.specs.Step.{Call, reserve, manage, adopt, claim, release, sweep, answer, owns, area, areaOf, sweepOf, stepOn, step}
+use Rattle.layer.specs.Step.{Call, reserve, manage, adopt, claim, release, sweep, answer, owns, area, areaOf, sweepOf, stepOn, step, act, query, rules}
 use Rattle.layer.proofs.Kept.{SoundWorld}
 use Rattle.layer.proofs.Stepped.{Words, sound-facts, step-on-kept}
 use Rattle.sweep_laws.specs.Run.{pendingIn, pendingBits, asksPurge, isRefused, isYes, saysYes, isPurging, Made, Run, isOpen, more, goOn, withCount, runSweep}
@@ -136,22 +136,22 @@ module _ (first : Sweep) (S bits : ℕ) (some : 0 < S) (l : List Arena) (stamps 
 
   during : (call : Call) → SoundWorld S (stepOn S l stamps k mark (Purging i j w) ns settings call .world) → After call (stepOn S l stamps k mark (Purging i j w) ns settings call)
   unfolding answerOf isFor
-  during (reserve size commit large exclusive) x = refused (reserve size commit large exclusive) QuestionOpen
-  during (manage start size exclusive node mapped reserved) x = refused (manage start size exclusive node mapped reserved) QuestionOpen
-  during (adopt address size) x = refused (adopt address size) QuestionOpen
-  during (claim id n commits) x = refused (claim id n commits) QuestionOpen
-  during (release address n told pending) x = refused (release address n told pending) QuestionOpen
-  during (sweep force) x = refused (sweep force) QuestionOpen
+  during (act (reserve size commit large exclusive)) x = refused (act (reserve size commit large exclusive)) QuestionOpen
+  during (act (manage start size exclusive node mapped reserved)) x = refused (act (manage start size exclusive node mapped reserved)) QuestionOpen
+  during (act (adopt address size)) x = refused (act (adopt address size)) QuestionOpen
+  during (act (claim id n commits)) x = refused (act (claim id n commits)) QuestionOpen
+  during (act (release address n told pending)) x = refused (act (release address n told pending)) QuestionOpen
+  during (act (sweep force)) x = refused (act (sweep force)) QuestionOpen
   during (answer ForCommit granted base) x = refused (answer ForCommit granted base) NoSuchQuestion
   during (answer ForPurge granted base) x = answered granted base x
   during (answer ForMemory granted base) x = refused (answer ForMemory granted base) NoSuchQuestion
   during (answer ForGiveBack granted base) x = refused (answer ForGiveBack granted base) NoSuchQuestion
   during (answer ForNone granted base) x = refused (answer ForNone granted base) NoSuchQuestion
-  during (owns address) x = stays (owns address) (Owns (isAt (findArena S l k address))) refl refl
-  during (area id) x = stays (area id) (areaOf S l k id) (no-purge id) refl
+  during (query (owns address)) x = stays (query (owns address)) (Owns (isAt (findArena S l k address))) refl refl
+  during (query (area id)) x = stays (query (area id)) (areaOf S l k id) (no-purge id) refl
 
-  called : (call : Call) → After call (step S (worldOf l stamps (stateOf k mark (Purging i j w))) ns settings call)
-  unfolding step
+  called : (call : Call) → After call (rules S (worldOf l stamps (stateOf k mark (Purging i j w))) ns settings call)
+  unfolding rules
   called call =
       by-cond (After call) (sound S (worldOf l stamps (stateOf k mark (Purging i j w))) (settings .page)) _ _
       (λ e. during call (step-on-kept S some l stamps k mark (t .table) (t .stamps) (Purging i j w) ns settings call (t .question))) (λ e. refused call Broken)
@@ -164,7 +164,7 @@ more-fares first S bits some r c (going g) =
     subst (Fares first S bits) (sym (when (isOpen r) _ _ (ap isPurging (g .asked))))
     (let v = r .last .world in
     subst
-    (λ (q : Question). FaresAfter first S bits (r .questions) (r .yes) (c .call) (step S (worldOf (v .records) (v .stamps) (stateOf (v .state .count) (v .state .mark) q)) (c .ns) (c .settings) (c .call)))
+    (λ (q : Question). FaresAfter first S bits (r .questions) (r .yes) (c .call) (rules S (worldOf (v .records) (v .stamps) (stateOf (v .state .count) (v .state .mark) q)) (c .ns) (c .settings) (c .call)))
     (sym (g .asked))
     (called first S bits some (v .records) (v .stamps) (v .state .count) (v .state .mark) (g .id) (g .chunk) (g .sweep) (c .ns) (c .settings) (r .questions) (r .yes)
     (subst (λ (q : Question). SoundWorld S (worldOf (v .records) (v .stamps) (stateOf (v .state .count) (v .state .mark) q))) (g .asked) (g .fit)) (g .pending) (g .kept) (g .most) (c .call)))
@@ -183,19 +183,19 @@ module _ (S : ℕ) (some : 0 < S) (w : World) (ns : ℕ) (settings : Settings) (
   first = sweepOf force ns settings
 
   begins : Fares first S (pendingBits (w .records) (w .state .count))
-      (record { questions = asksPurge (step S w ns settings (sweep force) .answer); yes = 0; last = step S w ns settings (sweep force) })
-  unfolding step
+      (record { questions = asksPurge (rules S w ns settings (act (sweep force)) .answer); yes = 0; last = rules S w ns settings (act (sweep force)) })
+  unfolding rules
   begins =
       let f = sound-facts S w (settings .page) words passed .0 in
       let l = w .records in
       let k = w .state .count in
       let m = w .state .mark in
       subst (λ (o : Outcome). Fares first S (pendingBits l k) (record { questions = asksPurge (o .answer); yes = 0; last = o }))
-      (sym (when (sound S w (settings .page)) _ _ passed ∙ ap (λ (q : Question). stepOn S l (w .stamps) k m q ns settings (sweep force)) idle))
+      (sym (when (sound S w (settings .page)) _ _ passed ∙ ap (λ (q : Question). stepOn S l (w .stamps) k m q ns settings (act (sweep force))) idle))
       (let o = sweepFrom S (w .stamps) k m (sweepOf force ns settings) k 0 l in
       subst (λ (n : ℕ). Fares first S (pendingBits l k) (record { questions = n; yes = 0; last = o })) (zero-add (asksPurge (o .answer)))
       (fares first S (pendingBits l k) (pendingBits l k) (w .stamps) k m (sweepOf force ns settings) 0 0 refl (omega arith) o
-      (step-on-kept S some l (w .stamps) k m (f .table) (f .stamps) Idle ns settings (sweep force) tt)
+      (step-on-kept S some l (w .stamps) k m (f .table) (f .stamps) Idle ns settings (act (sweep force)) tt)
       (sweep-goes S (w .stamps) k m (sweepOf force ns settings) (pendingBits l k) k 0 l (omega arith) (omega (arith, f .table .long, f .table .few)) refl)))
 
   through : Fares first S (pendingBits (w .records) (w .state .count)) (runSweep S w ns settings force calls)

@@ -15,7 +15,7 @@ use Rattle.layer.specs.declared.Answer.{Answer}
 use Rattle.layer.specs.declared.Answer.the-variants.{Refused, Asks, Registered, Claimed, Released, Swept, Owns, Area}
 use Rattle.layer.specs.World.{World, Outcome}
 use Rattle.layer.specs.Table.{at}
-use Rattle.layer.specs.Step.{Call, reserve, manage, adopt, claim, release, sweep, answer, owns, area, step}
+use Rattle.layer.specs.Step.{Call, reserve, manage, adopt, claim, release, sweep, answer, owns, area, step, act, query, rules}
 
 -- ---- pending bits
 
@@ -61,19 +61,19 @@ isRefused (Area base bytes) = false
 
 -- a call that says yes to a purge question
 abbrev pub isYes : Call → Bool
-isYes (reserve size commit large exclusive) = false
-isYes (manage start size exclusive node mapped reserved) = false
-isYes (adopt address size) = false
-isYes (claim id n commits) = false
-isYes (release address n told pending) = false
-isYes (sweep force) = false
+isYes (act (reserve size commit large exclusive)) = false
+isYes (act (manage start size exclusive node mapped reserved)) = false
+isYes (act (adopt address size)) = false
+isYes (act (claim id n commits)) = false
+isYes (act (release address n told pending)) = false
+isYes (act (sweep force)) = false
 isYes (answer ForCommit granted base) = false
 isYes (answer ForPurge granted base) = granted
 isYes (answer ForMemory granted base) = false
 isYes (answer ForGiveBack granted base) = false
 isYes (answer ForNone granted base) = false
-isYes (owns address) = false
-isYes (area id) = false
+isYes (query (owns address)) = false
+isYes (query (area id)) = false
 
 -- 1 for a yes that is not refused
 abbrev pub saysYes : Call → Answer → ℕ
@@ -106,7 +106,7 @@ isOpen r = isPurging (r .last .world .state .question)
 -- one call more, on what the last left; a sweep that has ended stays
 abbrev pub more : ℕ → Run → Made → Run
 more S r c =
-    let o = step S (r .last .world) (c .ns) (c .settings) (c .call) in
+    let o = rules S (r .last .world) (c .ns) (c .settings) (c .call) in
     cond (isOpen r) (record { questions = r .questions + asksPurge (o .answer); yes = r .yes + saysYes (c .call) (o .answer); last = o }) r
 
 unfoldable pub goOn : ℕ → Run → List Made → Run
@@ -120,5 +120,5 @@ withCount w n = record { force = w .force; now = w .now; delay = w .delay; decom
 -- the sweep's own call on the world w, and then any calls
 abbrev pub runSweep : ℕ → World → ℕ → Settings → Bool → List Made → Run
 runSweep S w ns settings force calls =
-    let o = step S w ns settings (sweep force) in
+    let o = rules S w ns settings (act (sweep force)) in
     goOn S (record { questions = asksPurge (o .answer); yes = 0; last = o }) calls

@@ -51,7 +51,7 @@ use Rattle.adopt_os_block.proofs.AdoptLaws.{adopt-stamps, adopt-done}
 use Rattle.adopt_os_block.proofs.Steps.{AdoptWriting, adopt-writing-step}
 use Rattle.entry.proofs.writing.WriteSteps.{Write, write-step}
 use Rattle.layer.specs.World.{worldOf, Leaves}
-use Rattle.layer.specs.Step.{adopt, step}
+use Rattle.layer.specs.Step.{adopt, step, act}
 use Rattle.registers.specs.Core.{stampsWith}
 use Rattle.entry.specs.Places.{recordPlace}
 use Rattle.entry.proofs.page_of.Symbol as page-def
@@ -80,7 +80,7 @@ module _ {M : Type 1} (𝓤 : URA M) (H : Heap 𝓤) (A : Atoms 𝓤) (W : Given
     L′ = record { κ = κ′; q = q′; γ = γ′; b = b′; o = o′; n = length us }
 
     abbrev χ : Reply → List Arena → List ℕ → Type 0
-    χ r zs ts = Leaves (step 33554432 (worldOf ys us state) ns settings (adopt address size)) r zs ts
+    χ r zs ts = Leaves (step (worldOf ys us state) ns settings (act (adopt address size))) r zs ts
 
     walk : (mstate msettings : Val) → Known T.the-row L ys → Known u32 L′ us → Is Z.the-row state (mstate ∷ []) → ns < 2 ^ 64 → Is G.the-row settings (msettings ∷ []) → address < 2 ^ 64 → size < 2 ^ 64
         → Sq W ((‵ (lent T.the-row L ys) ⊛ (‵ (lent u32 L′ us) ⊛ ‵ ftrue)) ∷ []) (prop (WpFn 𝓤 H (𝓣 .C) (𝓣 .Λ) code.function (sliceOf L ∷ sliceOf L′ ∷ mstate ∷ vint w64 ns ∷ msettings ∷ vint w64 address ∷ vint w64 size ∷ []) (Done2 𝓤 H A T.the-row u32 L L′ Y.the-row ys us χ)))

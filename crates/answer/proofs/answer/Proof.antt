@@ -96,7 +96,7 @@ module _ {M : Type 1} (𝓤 : URA M) (H : Heap 𝓤) (A : Atoms 𝓤) (W : Given
     left = answerOn 33554432 ys us ok s kind granted base
 
     abbrev χ : Reply → List Arena → List ℕ → Type 0
-    χ = Leaves (step 33554432 (worldOf ys us s) ns settings (answer kind granted base))
+    χ = Leaves (step (worldOf ys us s) ns settings (answer kind granted base))
 
     walk : Known T.the-row L ys → Known u32 L′ us → Is Z.the-row s (ms ∷ []) → ns < 2 ^ 64 → Is G.the-row settings (msettings ∷ []) → Is J.the-row kind (mkind ∷ []) → base < 2 ^ 64
         → Sq W ((‵ (lent T.the-row L ys) ⊛ (‵ (lent u32 L′ us) ⊛ ‵ ftrue)) ∷ []) (prop (WpFn 𝓤 H (𝓣 .C) (𝓣 .Λ) code.function (sliceOf L ∷ sliceOf L′ ∷ ms ∷ vint w64 ns ∷ msettings ∷ mkind ∷ vbool granted ∷ vint w64 base ∷ []) (Done2 𝓤 H A T.the-row u32 L L′ P.the-row ys us χ)))

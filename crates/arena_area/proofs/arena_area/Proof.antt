@@ -58,7 +58,7 @@ use Rattle.arena_area.proofs.AreaLaws.{passes, few, area-step}
 use Rattle.arena_area.proofs.AreaSteps.{PlaceOf, AreaReply, place-of-step, area-reply-step}
 use Rattle.layer.specs.World.{replyOf, worldOf}
 use Rattle.layer.specs.Table.{at}
-use Rattle.layer.specs.Step.{area, step}
+use Rattle.layer.specs.Step.{area, step, query}
 use Rattle.arena_area.specs.Asked.{placeOf, areaReply}
 use native.Mathlib.Omega.{arith}
 use Rattle.entry.proofs.page_of.Symbol as page-def
@@ -107,7 +107,7 @@ module _ {M : Type 1} (𝓤 : URA M) (H : Heap 𝓤) (A : Atoms 𝓤) (W : Given
     re = areaReply 33554432 ok state j a
 
     abbrev χ : Reply → Type 0
-    χ r = r ≡ replyOf (step 33554432 (worldOf ys us state) ns settings (area id))
+    χ r = r ≡ replyOf (step (worldOf ys us state) ns settings (query (area id)))
 
     walk : (mstate msettings : Val) → Known T.the-row L ys → Known u32 L′ us → Is Z.the-row state (mstate ∷ []) → ns < 2 ^ 64 → Is G.the-row settings (msettings ∷ []) → Is i32 id (vint w32 (ofZ w32 id) ∷ [])
         → Sq W ((‵ (shared T.the-row L ys) ⊛ (‵ (shared u32 L′ us) ⊛ ‵ ftrue)) ∷ []) (prop (WpFn 𝓤 H (𝓣 .C) (𝓣 .Λ) code.function (sliceOf L ∷ sliceOf L′ ∷ mstate ∷ vint w64 ns ∷ msettings ∷ vint w32 (ofZ w32 id) ∷ []) (Done 𝓤 H A T.the-row u32 L L′ Y.the-row ys us χ)))

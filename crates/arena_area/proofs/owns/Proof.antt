@@ -59,7 +59,7 @@ use Rattle.records.proofs.Big.{big-lit}
 use Rattle.arena_area.proofs.AreaLaws.{passes, owns-step}
 use Rattle.arena_area.proofs.AreaSteps.{LookedAt, OwnsReply, looked-at-step, owns-reply-step}
 use Rattle.layer.specs.World.{replyOf, worldOf}
-use Rattle.layer.specs.Step.{owns, step}
+use Rattle.layer.specs.Step.{owns, step, query}
 use Rattle.judge.specs.Scan.{scanOf}
 use Rattle.judge.specs.declared.Query.the-variants.{Holds}
 use Rattle.arena_area.specs.Asked.{lookedAt, ownsReply}
@@ -114,7 +114,7 @@ module _ {M : Type 1} (𝓤 : URA M) (H : Heap 𝓤) (A : Atoms 𝓤) (W : Given
     re = ownsReply ok state fo
 
     abbrev χ : Reply → Type 0
-    χ r = r ≡ replyOf (step 33554432 (worldOf ys us state) ns settings (owns address))
+    χ r = r ≡ replyOf (step (worldOf ys us state) ns settings (query (owns address)))
 
     walk : (mstate msettings : Val) → Known T.the-row L ys → Known u32 L′ us → Is Z.the-row state (mstate ∷ []) → ns < 2 ^ 64 → Is G.the-row settings (msettings ∷ []) → address < 2 ^ 64
         → Sq W ((‵ (shared T.the-row L ys) ⊛ (‵ (shared u32 L′ us) ⊛ ‵ ftrue)) ∷ []) (prop (WpFn 𝓤 H (𝓣 .C) (𝓣 .Λ) code.function (sliceOf L ∷ sliceOf L′ ∷ mstate ∷ vint w64 ns ∷ msettings ∷ vint w64 address ∷ []) (Done 𝓤 H A T.the-row u32 L L′ Y.the-row ys us χ)))

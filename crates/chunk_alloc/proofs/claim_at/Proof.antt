@@ -44,7 +44,7 @@ use Rattle.layer.specs.declared.Settings.{Settings}
 use Rattle.layer.specs.declared.Reply.{Reply}
 use Rattle.layer.specs.World.{worldOf}
 use Rattle.layer.specs.Table.{at, soundLent}
-use Rattle.layer.specs.Step.{claim, step}
+use Rattle.layer.specs.Step.{claim, step, act, rules}
 use Rattle.layer.proofs.State as Z
 use Rattle.layer.proofs.State.Laws as Z′
 use Rattle.layer.proofs.Settings as Y
@@ -115,7 +115,7 @@ module _ {M : Type 1} (𝓤 : URA M) (H : Heap 𝓤) (A : Atoms 𝓤) (W : Given
     S = 33554432
 
     abbrev χ : Reply → List Arena → List ℕ → Type 0
-    χ r zs ts = (ns : ℕ) → Leaves (step S (worldOf ys us s) ns c (claim id n w)) r zs ts
+    χ r zs ts = (ns : ℕ) → Leaves (rules S (worldOf ys us s) ns c (act (claim id n w))) r zs ts
 
     abbrev vs : Val
     vs = LL.val Z.the-type Z′.the-laws s

@@ -54,7 +54,7 @@ use Rattle.manage_os_memory.proofs.ManageLaws.{manage-stamps, manage-do
 use Rattle.manage_os_memory.proofs.Steps.{ManageWriting, manage-writing-step}
 use Rattle.entry.proofs.writing.WriteSteps.{Write, write-step}
 use Rattle.layer.specs.World.{worldOf, Leaves}
-use Rattle.layer.specs.Step.{manage, step}
+use Rattle.layer.specs.Step.{manage, step, act}
 use Rattle.registers.specs.Core.{stampsWith}
 use Rattle.entry.specs.Places.{recordPlace}
 use Rattle.entry.proofs.page_of.Symbol as page-def
@@ -83,7 +83,7 @@ module _ {M : Type 1} (𝓤 : URA M) (H : Heap 𝓤) (A : Atoms 𝓤) (W : Given
     L′ = record { κ = κ′; q = q′; γ = γ′; b = b′; o = o′; n = length us }
 
     abbrev χ : Reply → List Arena → List ℕ → Type 0
-    χ r zs ts = Leaves (step 33554432 (worldOf ys us state) ns settings (manage start size exclusive node mapped reserved)) r zs ts
+    χ r zs ts = Leaves (step (worldOf ys us state) ns settings (act (manage start size exclusive node mapped reserved))) r zs ts
 
     walk : (mstate msettings : Val) → Known T.the-row L ys → Known u32 L′ us → Is Z.the-row state (mstate ∷ []) → ns < 2 ^ 64 → Is G.the-row settings (msettings ∷ []) → start < 2 ^ 64 → size < 2 ^ 64 → Is i32 node (vint w32 (ofZ w32 node) ∷ [])
         → Sq W ((‵ (lent T.the-row L ys) ⊛ (‵ (lent u32 L′ us) ⊛ ‵ ftrue)) ∷ []) (prop (WpFn 𝓤 H (𝓣 .C) (𝓣 .Λ) code.function (sliceOf L ∷ sliceOf L′ ∷ mstate ∷ vint w64 ns ∷ msettings ∷ vint w64 start ∷ vint w64 size ∷ vbool is-committed ∷ vbool is-large ∷ vbool is-zero ∷ vint w32 (ofZ w32 node) ∷ vbool exclusive ∷ vbool mapped ∷ vbool reserved ∷ []) (Done2 𝓤 H A T.the-row u32 L L′ Y.the-row ys us χ)))

@@ -39,7 +39,7 @@ use Rattle.layer.specs.declared.State.{State}
 use Rattle.layer.specs.declared.Reply.{Reply}
 use Rattle.layer.specs.World.{Outcome, worldOf, replyOf}
 use Rattle.layer.specs.Table.{soundLent}
-use Rattle.layer.specs.Step.{sweep, sweepOf, step}
+use Rattle.layer.specs.Step.{sweep, sweepOf, step, act}
 use Rattle.layer.proofs.State as Z
 use Rattle.layer.proofs.State.Laws as Z′
 use Rattle.layer.proofs.Settings as D
@@ -100,7 +100,7 @@ module _ {M : Type 1} (𝓤 : URA M) (H : Heap 𝓤) (A : Atoms 𝓤) (W : Given
 
     -- what the call leaves
     abbrev left : Outcome
-    left = step 33554432 (worldOf ys us s) ns settings (sweep force)
+    left = step (worldOf ys us s) ns settings (act (sweep force))
 
     abbrev χ : Reply → List Arena → List ℕ → Type 0
     χ r zs ts = (r ≡ replyOf left) × (zs ≡ left .world .records) × (ts ≡ left .world .stamps)

@@ -54,7 +54,7 @@ use Rattle.registering.proofs.ReserveStep.{reserve-step as reserve-law}
 use Rattle.layer.specs.Table.{soundLent}
 use Rattle.reserve_os_memory.proofs.Steps.{ReserveCore, reserve-core-step}
 use Rattle.layer.specs.World.{worldOf, Leaves}
-use Rattle.layer.specs.Step.{reserve, step}
+use Rattle.layer.specs.Step.{reserve, step, act}
 use native.Mathlib.Omega.{arith}
 use Rattle.registering.specs.Reserving.{reserveAnswer}
 use Rattle.entry.proofs.page_of.Symbol as page-def
@@ -89,7 +89,7 @@ module _ {M : Type 1} (𝓤 : URA M) (H : Heap 𝓤) (A : Atoms 𝓤) (W : Given
     re = reserveAnswer 33554432 ok state size commit large exclusive (settings .page)
 
     abbrev χ : Reply → List Arena → List ℕ → Type 0
-    χ r zs ts = Leaves (step 33554432 (worldOf ys us state) ns settings (reserve size commit large exclusive)) r zs ts
+    χ r zs ts = Leaves (step (worldOf ys us state) ns settings (act (reserve size commit large exclusive))) r zs ts
 
     walk : (mstate msettings : Val) → Known T.the-row L ys → Known u32 L′ us → Is Z.the-row state (mstate ∷ []) → ns < 2 ^ 64 → Is G.the-row settings (msettings ∷ []) → size < 2 ^ 64
         → Sq W ((‵ (lent T.the-row L ys) ⊛ (‵ (lent u32 L′ us) ⊛ ‵ ftrue)) ∷ []) (prop (WpFn 𝓤 H (𝓣 .C) (𝓣 .Λ) code.function (sliceOf L ∷ sliceOf L′ ∷ mstate ∷ vint w64 ns ∷ msettings ∷ vint w64 size ∷ vbool commit ∷ vbool large ∷ vbool exclusive ∷ []) (Done2 𝓤 H A T.the-row u32 L L′ Y.the-row ys us χ)))

@@ -35,7 +35,7 @@ use Rattle.layer.proofs.State.Laws as Z′
 use Rattle.layer.proofs.Settings as Y
 use Rattle.layer.proofs.Settings.Laws as Y′
 use Rattle.layer.proofs.Reply as P
-use Rattle.layer.specs.Step.{owns, area, step}
+use Rattle.layer.specs.Step.{owns, area, step, query}
 use Rattle.arena_area.proofs.Two.{ss-call}
 use Rattle.records.proofs.Walk.{Loan, lent, shared, sliceOf}
 use Rattle.records.proofs.Calls.{Site}
@@ -56,19 +56,19 @@ module _ {M : Type 1} {𝓤 : URA M} {H : Heap 𝓤} {A : Atoms 𝓤} {K : Type 
   pub owns-step : K → Site K W Γ C E #arena-area·owns xs G after → (mem : Memory → SProp 𝓤) (run : Routine → Fun 𝓤) → Triple 𝓤 (C #arena-area·owns) (Owns 𝓤 H A mem run)
       → (L L′ : Loan) (ys : List Arena) (us : List ℕ) → (z : State) (vz : Val) → Is Z.the-row z (vz ∷ []) → (ns : ℕ) → ns < 2 ^ 64 → (s : Settings) (vs : Val) → Is Y.the-row s (vs ∷ []) → (address : ℕ) → address < 2 ^ 64
       → ((h : Item 𝓤) → Opds K W (h ∷ Γ) E xs (sliceOf L ∷ sliceOf L′ ∷ vz ∷ vint w64 ns ∷ vs ∷ vint w64 address ∷ []))
-      → ((v : Val) (r : Reply) → Is P.the-row r (v ∷ []) → r ≡ replyOf (step 33554432 (worldOf ys us z) ns s (owns address)) → Seq K W ((‵ (shared T.the-row L ys) ⊛ (‵ (shared u32 L′ us) ⊛ i)) ∷ Γ) (after v))
+      → ((v : Val) (r : Reply) → Is P.the-row r (v ∷ []) → r ≡ replyOf (step (worldOf ys us z) ns s (query (owns address))) → Seq K W ((‵ (shared T.the-row L ys) ⊛ (‵ (shared u32 L′ us) ⊛ i)) ∷ Γ) (after v))
       → Seq K W ((‵ (shared T.the-row L ys) ⊛ (‵ (shared u32 L′ us) ⊛ i)) ∷ Γ) G
   owns-step t site mem run known L L′ ys us z vz gz ns fns s vs gs address faddress ops k =
       ss-call t site T.the-row u32 L L′ P.the-row (plain (λ _. Z.the-row) ∷ plain (λ _. u64) ∷ plain (λ _. Y.the-row) ∷ plain (λ _. u64) ∷ []) (yes, (yes, (yes, (yes, tt)))) (owns′.clauses 𝓤 H A mem run) known ys us (λ _. (z, (ns, (s, (address, tt))))) (λ _. (vz ∷ [], (vint w64 ns ∷ [], (vs ∷ [], (vint w64 address ∷ [], tt)))))
       (λ _. owns-make 𝓤 H A (Z.the-row ∷ u64 ∷ Y.the-row ∷ u64 ∷ []) (Ises (Z.the-row ∷ u64 ∷ Y.the-row ∷ u64 ∷ [])) (LL.makes Z.the-type Z′.the-plain 𝓤 H A, (uint-makes 𝓤 H A W w64, (LL.makes Y.the-type Y′.the-plain 𝓤 H A, (uint-makes 𝓤 H A W w64, tt)))) (z, (ns, (s, (address, tt)))) (vz ∷ [], (vint w64 ns ∷ [], (vs ∷ [], (vint w64 address ∷ [], tt)))) (gz, ((refl, fns), (gs, ((refl, faddress), tt))))) (λ _. tt) (λ _. id⊢ 𝓤 _)
-      (λ r. r ≡ replyOf (step 33554432 (worldOf ys us z) ns s (owns address))) (λ _ r ws. id⊢ 𝓤 _) (λ h _. ops h) (λ v r is e. k v r is e)
+      (λ r. r ≡ replyOf (step (worldOf ys us z) ns s (query (owns address)))) (λ _ r ws. id⊢ 𝓤 _) (λ h _. ops h) (λ v r is e. k v r is e)
 
   pub area-step : K → Site K W Γ C E #arena-area·arena-area xs G after → (mem : Memory → SProp 𝓤) (run : Routine → Fun 𝓤) → Triple 𝓤 (C #arena-area·arena-area) (Area 𝓤 H A mem run)
       → (L L′ : Loan) (ys : List Arena) (us : List ℕ) → (z : State) (vz : Val) → Is Z.the-row z (vz ∷ []) → (ns : ℕ) → ns < 2 ^ 64 → (s : Settings) (vs : Val) → Is Y.the-row s (vs ∷ []) → (id : ℤ) → Is i32 id (vint w32 (ofZ w32 id) ∷ [])
       → ((h : Item 𝓤) → Opds K W (h ∷ Γ) E xs (sliceOf L ∷ sliceOf L′ ∷ vz ∷ vint w64 ns ∷ vs ∷ vint w32 (ofZ w32 id) ∷ []))
-      → ((v : Val) (r : Reply) → Is P.the-row r (v ∷ []) → r ≡ replyOf (step 33554432 (worldOf ys us z) ns s (area id)) → Seq K W ((‵ (shared T.the-row L ys) ⊛ (‵ (shared u32 L′ us) ⊛ i)) ∷ Γ) (after v))
+      → ((v : Val) (r : Reply) → Is P.the-row r (v ∷ []) → r ≡ replyOf (step (worldOf ys us z) ns s (query (area id))) → Seq K W ((‵ (shared T.the-row L ys) ⊛ (‵ (shared u32 L′ us) ⊛ i)) ∷ Γ) (after v))
       → Seq K W ((‵ (shared T.the-row L ys) ⊛ (‵ (shared u32 L′ us) ⊛ i)) ∷ Γ) G
   area-step t site mem run known L L′ ys us z vz gz ns fns s vs gs id gid ops k =
       ss-call t site T.the-row u32 L L′ P.the-row (plain (λ _. Z.the-row) ∷ plain (λ _. u64) ∷ plain (λ _. Y.the-row) ∷ plain (λ _. i32) ∷ []) (yes, (yes, (yes, (yes, tt)))) (area′.clauses 𝓤 H A mem run) known ys us (λ _. (z, (ns, (s, (id, tt))))) (λ _. (vz ∷ [], (vint w64 ns ∷ [], (vs ∷ [], (vint w32 (ofZ w32 id) ∷ [], tt)))))
       (λ _. owns-make 𝓤 H A (Z.the-row ∷ u64 ∷ Y.the-row ∷ i32 ∷ []) (Ises (Z.the-row ∷ u64 ∷ Y.the-row ∷ i32 ∷ [])) (LL.makes Z.the-type Z′.the-plain 𝓤 H A, (uint-makes 𝓤 H A W w64, (LL.makes Y.the-type Y′.the-plain 𝓤 H A, (sint-makes 𝓤 H A W w32, tt)))) (z, (ns, (s, (id, tt)))) (vz ∷ [], (vint w64 ns ∷ [], (vs ∷ [], (vint w32 (ofZ w32 id) ∷ [], tt)))) (gz, ((refl, fns), (gs, (gid, tt))))) (λ _. tt) (λ _. id⊢ 𝓤 _)
-      (λ r. r ≡ replyOf (step 33554432 (worldOf ys us z) ns s (area id))) (λ _ r ws. id⊢ 𝓤 _) (λ h _. ops h) (λ v r is e. k v r is e)
+      (λ r. r ≡ replyOf (step (worldOf ys us z) ns s (query (area id)))) (λ _ r ws. id⊢ 𝓤 _) (λ h _. ops h) (λ v r is e. k v r is e)

@@ -96,13 +96,13 @@ module _ {M : Type 1} {𝓤 : URA M} {H : Heap 𝓤} {A : Atoms 𝓤} {K : Type 
   entry-step : K → Site K W Γ C E #answer·answer xs G after → (mem : Memory → SProp 𝓤) (run : Routine → Fun 𝓤) → Triple 𝓤 (C #answer·answer) (Entry 𝓤 H A mem run)
       → (L L′ : Loan) (ys : List Arena) (us : List ℕ) (z : State) (vz : Val) → Is Z.the-row z (vz ∷ []) → (ns : ℕ) → ns < 2 ^ 64 → (c : Settings) (vc : Val) → Is Y.the-row c (vc ∷ []) → (kind : ℕ) → (granted : Bool) → (base : ℕ) → (vkind′ : Val) → Is Q.the-row (kindOf kind) (vkind′ ∷ []) → base < 2 ^ 64
       → ((h : Item 𝓤) → Opds K W (h ∷ Γ) E xs (sliceOf L ∷ sliceOf L′ ∷ vz ∷ vint w64 ns ∷ vc ∷ vkind′ ∷ vbool granted ∷ vint w64 base ∷ []))
-      → ((v : Val) (r : Reply) (zs : List Arena) (ts : List ℕ) → Is P.the-row r (v ∷ []) → Leaves (step 33554432 (worldOf ys us z) ns c (answer (kindOf kind) granted base)) r zs ts → length zs ≡ length ys → length ts ≡ length us → Seq K W ((‵ (lent T.the-row L zs) ⊛ (‵ (lent u32 L′ ts) ⊛ i)) ∷ Γ) (after v))
+      → ((v : Val) (r : Reply) (zs : List Arena) (ts : List ℕ) → Is P.the-row r (v ∷ []) → Leaves (step (worldOf ys us z) ns c (answer (kindOf kind) granted base)) r zs ts → length zs ≡ length ys → length ts ≡ length us → Seq K W ((‵ (lent T.the-row L zs) ⊛ (‵ (lent u32 L′ ts) ⊛ i)) ∷ Γ) (after v))
       → Seq K W ((‵ (lent T.the-row L ys) ⊛ (‵ (lent u32 L′ us) ⊛ i)) ∷ Γ) G
   entry-step t site mem run known L L′ ys us z vz gz ns fns c vc gc kind granted base vkind′ gkind′ fbase ops k =
       mut2-call t site T.the-row u32 L L′ P.the-row (plain (λ _. Z.the-row) ∷ plain (λ _. u64) ∷ plain (λ _. Y.the-row) ∷ plain (λ _. Q.the-row) ∷ plain (λ _. bool) ∷ plain (λ _. u64) ∷ []) (yes, (yes, (yes, (yes, (yes, (yes, tt)))))) (entry′.clauses 𝓤 H A mem run) known ys us
       (λ _. (z, (ns, (c, ((kindOf kind), (granted, (base, tt))))))) (λ _. (vz ∷ [], (vint w64 ns ∷ [], (vc ∷ [], (vkind′ ∷ [], (vbool granted ∷ [], (vint w64 base ∷ [], tt)))))))
       (λ _. owns-make 𝓤 H A (Z.the-row ∷ u64 ∷ Y.the-row ∷ Q.the-row ∷ bool ∷ u64 ∷ []) (Ises (Z.the-row ∷ u64 ∷ Y.the-row ∷ Q.the-row ∷ bool ∷ u64 ∷ [])) (LL.makes Z.the-type Z′.the-plain 𝓤 H A, (uint-makes 𝓤 H A W w64, (LL.makes Y.the-type Y′.the-plain 𝓤 H A, (EL.makes Q.the-type Q′.the-plain 𝓤 H A, (bool-makes 𝓤 H A W, (uint-makes 𝓤 H A W w64, tt)))))) (z, (ns, (c, ((kindOf kind), (granted, (base, tt)))))) (vz ∷ [], (vint w64 ns ∷ [], (vc ∷ [], (vkind′ ∷ [], (vbool granted ∷ [], (vint w64 base ∷ [], tt)))))) (gz, ((refl, fns), (gc, (gkind′, (refl, ((refl, fbase), tt))))))) (λ _ _ _. tt) (λ _ _ _. id⊢ 𝓤 _)
-      (λ r zs ts. Leaves (step 33554432 (worldOf ys us z) ns c (answer (kindOf kind) granted base)) r zs ts) (λ _ _ _ r ws. id⊢ 𝓤 _) (λ h _. ops h) (λ v r zs ts is e l l′. k v r zs ts is e l l′)
+      (λ r zs ts. Leaves (step (worldOf ys us z) ns c (answer (kindOf kind) granted base)) r zs ts) (λ _ _ _ r ws. id⊢ 𝓤 _) (λ h _. ops h) (λ v r zs ts is e l l′. k v r zs ts is e l l′)
 
 module _ {M : Type 1} (𝓤 : URA M) (H : Heap 𝓤) (A : Atoms 𝓤) (W : Given 𝓤 H A) (mem : Memory → SProp 𝓤) (run : Routine → Fun 𝓤) (𝓣 : Tables 𝓤 H)
     (known-is : Triple 𝓤 (𝓣 .C #surface·is-state) (IsState 𝓤 H A mem run))

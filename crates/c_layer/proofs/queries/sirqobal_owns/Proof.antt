@@ -35,7 +35,7 @@ use Rattle.layer.specs.declared.Settings.{Settings}
 use Rattle.layer.specs.declared.Reply.{Reply}
 use Rattle.layer.specs.World.{worldOf}
 use Rattle.layer.specs.World as W′
-use Rattle.layer.specs.Step.{owns, step}
+use Rattle.layer.specs.Step.{owns, step, query}
 use Rattle.layer.proofs.State as Z
 use Rattle.layer.proofs.State.Laws as Z′
 use Rattle.layer.proofs.Settings as Y
@@ -89,13 +89,13 @@ module _ {M : Type 1} {𝓤 : URA M} {H : Heap 𝓤} {A : Atoms 𝓤} {K : Type 
   entry-step : K → Site K W Γ C E #arena-area·owns xs G after → (mem : Memory → SProp 𝓤) (run : Routine → Fun 𝓤) → Triple 𝓤 (C #arena-area·owns) (Entry 𝓤 H A mem run)
       → (L L′ : Loan) (ys : List Arena) (us : List ℕ) (z : State) (vz : Val) → Is Z.the-row z (vz ∷ []) → (ns : ℕ) → ns < 2 ^ 64 → (c : Settings) (vc : Val) → Is Y.the-row c (vc ∷ []) → (address : ℕ) → address < 2 ^ 64
       → ((h : Item 𝓤) → Opds K W (h ∷ Γ) E xs (sliceOf L ∷ sliceOf L′ ∷ vz ∷ vint w64 ns ∷ vc ∷ vint w64 address ∷ []))
-      → ((v : Val) (r : Reply) → Is P.the-row r (v ∷ []) → r ≡ W′.replyOf (step 33554432 (worldOf ys us z) ns c (owns address)) → Seq K W ((‵ (shared T.the-row L ys) ⊛ (‵ (shared u32 L′ us) ⊛ i)) ∷ Γ) (after v))
+      → ((v : Val) (r : Reply) → Is P.the-row r (v ∷ []) → r ≡ W′.replyOf (step (worldOf ys us z) ns c (query (owns address))) → Seq K W ((‵ (shared T.the-row L ys) ⊛ (‵ (shared u32 L′ us) ⊛ i)) ∷ Γ) (after v))
       → Seq K W ((‵ (shared T.the-row L ys) ⊛ (‵ (shared u32 L′ us) ⊛ i)) ∷ Γ) G
   entry-step t site mem run known L L′ ys us z vz gz ns fns c vc gc address faddress ops k =
       ss-call t site T.the-row u32 L L′ P.the-row (plain (λ _. Z.the-row) ∷ plain (λ _. u64) ∷ plain (λ _. Y.the-row) ∷ plain (λ _. u64) ∷ []) (yes, (yes, (yes, (yes, tt)))) (entry′.clauses 𝓤 H A mem run) known ys us
       (λ _. (z, (ns, (c, (address, tt))))) (λ _. (vz ∷ [], (vint w64 ns ∷ [], (vc ∷ [], (vint w64 address ∷ [], tt)))))
       (λ _. owns-make 𝓤 H A (Z.the-row ∷ u64 ∷ Y.the-row ∷ u64 ∷ []) (Ises (Z.the-row ∷ u64 ∷ Y.the-row ∷ u64 ∷ [])) (LL.makes Z.the-type Z′.the-plain 𝓤 H A, (uint-makes 𝓤 H A W w64, (LL.makes Y.the-type Y′.the-plain 𝓤 H A, (uint-makes 𝓤 H A W w64, tt)))) (z, (ns, (c, (address, tt)))) (vz ∷ [], (vint w64 ns ∷ [], (vc ∷ [], (vint w64 address ∷ [], tt)))) (gz, ((refl, fns), (gc, ((refl, faddress), tt))))) (λ _. tt) (λ _. id⊢ 𝓤 _)
-      (λ r. r ≡ W′.replyOf (step 33554432 (worldOf ys us z) ns c (owns address))) (λ _ r ws. id⊢ 𝓤 _) (λ h _. ops h) (λ v r is e. k v r is e)
+      (λ r. r ≡ W′.replyOf (step (worldOf ys us z) ns c (query (owns address)))) (λ _ r ws. id⊢ 𝓤 _) (λ h _. ops h) (λ v r is e. k v r is e)
 
 module _ {M : Type 1} (𝓤 : URA M) (H : Heap 𝓤) (A : Atoms 𝓤) (W : Given 𝓤 H A) (mem : Memory → SProp 𝓤) (run : Routine → Fun 𝓤) (𝓣 : Tables 𝓤 H)
     (known-is : Triple 𝓤 (𝓣 .C #surface·is-state) (IsState 𝓤 H A mem run))
@@ -111,7 +111,7 @@ module _ {M : Type 1} (𝓤 : URA M) (H : Heap 𝓤) (A : Atoms 𝓤) (W : Given
     L′ = record { κ = κ′; q = q′; γ = γ′; b = b′; o = o′; n = length us }
 
     abbrev χ : ReplyNumbers → Type 0
-    χ r = r ≡ stepNumbers ys us s ns e (owns address) .reply
+    χ r = r ≡ stepNumbers ys us s ns e (query (owns address)) .reply
 
     abbrev vs : Val
     vs = LL.val N.the-type N′.the-laws s
@@ -136,7 +136,7 @@ module _ {M : Type 1} (𝓤 : URA M) (H : Heap 𝓤) (A : Atoms 𝓤) (W : Given
         reply-of-step ! (in-seq ! (fmOf 𝓤 H (W .laws) 𝓣)) mem run known-reply (isState s) s vs gs r vr gr (λ _. and-then ! (load ! (from ! (stop !)) (look ! 15 refl)) (and-then ! (load ! (from ! (stop !)) (look ! 7 refl)) (and-then ! (load ! (from ! (stop !)) (look ! 21 refl)) (no-more !)))) (λ v g.
         land ! (from ! (stop !)) (init ! 1 refl (LL.lawful X.the-type X′.the-laws 𝓤 H A W .typed (replyOf (isState s) s r) (v ∷ []) g .0)) $
         returns ! (look ! 1 refl) $ used ! $ used ! $ used ! $ used ! $ used ! $ used ! $ used ! $ used ! $ used ! $ used ! $ used ! $ free0 ! $
-        finish 𝓤 H A T.the-row u32 L L′ X.the-row ys us χ W (‵ ftrue) v (replyOf (isState s) s r) g (exports-query ys us s ns e (owns address) r d)))))))
+        finish 𝓤 H A T.the-row u32 L L′ X.the-row ys us χ W (‵ ftrue) v (replyOf (isState s) s r) g (exports-query ys us s ns e (query (owns address)) r d)))))))
 
   exported-meets : Meets 𝓤 H A exported′.signature (WpFn 𝓤 H (𝓣 .C) (𝓣 .Λ) code.function) (exported′.spec 𝓤 H A mem run)
   exported-meets = meets 𝓤 H A W T.the-row u32 X.the-row (plain (λ _. N.the-row) ∷ plain (λ _. u64) ∷ plain (λ _. J.the-row) ∷ plain (λ _. u64) ∷ []) (yes, (yes, (yes, (yes, tt)))) (exported′.clauses 𝓤 H A mem run)

@@ -74,7 +74,7 @@ module _ {M : Type 1} (𝓤 : URA M) (H : Heap 𝓤) (A : Atoms 𝓤) (W : Given
     L′ = record { κ = κ′; q = q′; γ = γ′; b = b′; o = o′; n = length us }
 
     abbrev ψ : Reply → Call → Type 0
-    ψ r m = r ≡ replyOf (step 33554432 (worldOf ys us z) ns s m)
+    ψ r m = r ≡ replyOf (step (worldOf ys us z) ns s m)
 
     abbrev χ : Reply → Type 0
     χ r = ψ r (asking c)

@@ -1,12 +1,16 @@
 -- Histories worked through call by call: what the rules and a layer leave is written out after each call, so that each call is computed by itself. Assumes nothing.
 use mathlib.Core.Path.{_≡_, refl, sym, ap, ap₂, _∙_, subst}
-use mathlib.Core.Bool.{Bool, false, cond}
+use mathlib.Core.Bool.{Bool, true, false, cond, _&&_, true≢false}
 use mathlib.Core.List.{List, [], _++_}
 use mathlib.Core.Logic.{inl, inr}
 use Prim.Native.Nat.{ℕ}
-use Rattle.layer.specs.World.{World, empty}
-use Rattle.layer.specs.Book.{Fed, Say}
-use Rattle.layer.specs.History.{Marked, History, begin, next, Layer, outcomeBy, isBroken, left, Lent, Trail, follow, start, ruled, Place, fedBy, toldBy, standing, bytesIn, OpensAt, Where, place, fed, told, Premises, Keeps}
+use Rattle.words.proofs.Tests.{when, unless}
+use Rattle.layer.specs.World.{World, Outcome, empty}
+use Rattle.layer.specs.Step.{step}
+use Rattle.layer.specs.declared.Question.the-variants.{Idle}
+use Rattle.layer.specs.Book.{Fed, Say, sayAll}
+use Rattle.layer.specs.History.{Marked, History, begin, next, isSound, Layer, outcomeBy, isBroken, left, Lent, Trail, openAt, isIdle, follow, start, ruled, entries, said, goesOn, tells, Place, isNone, feeds, hears, fedBy, toldBy, waits, standing, bytesIn, OpensAt, Where, place, fed, told, isAnswer, declines, Premises, Keeps}
+use Rattle.layer.specs.Demand.{bookOf, AllBut, Demand3}
 
 module _ (L : Layer) where
   -- what the layer leaves after m, where x stood
@@ -78,3 +82,71 @@ module _ (L : Layer) where
             ∙ ap (λ (q : Trail). ss ++ toldBy L a q m) (r .stands .ruled-is)
             ∙ ap (λ (x : List Say). ss ++ x) s;
       }
+
+  -- ---- a call that row 1 lets pass: o is what the rules make of it, o′ what the layer does
+
+  abbrev pub gone : Trail → Marked → Outcome → Trail
+  gone t m o = record { world = o .world; asker = cond (isIdle (openAt t)) (m .who) (t .asker); asked = cond (isIdle (openAt t)) (m .call) (t .asked) }
+
+  pub record Made (t : Trail) (m : Marked) (o o′ : Outcome) : Type 0 where
+    pub sound : isSound m ≡ true
+    pub by-rules : step (t .world) (m .ns) (m .settings) (m .call) ≡ o
+    pub by-layer : outcomeBy L m ≡ o′
+    pub passed : isBroken (o′ .answer) ≡ false
+
+  goes : (t : Trail) (m : Marked) (o o′ : Outcome) → Made t m o o′ → follow t m ≡ gone t m o
+  goes t m o o′ k = when (isSound m) _ _ (k .sound) ∙ ap (gone t m) (k .by-rules)
+
+  stays : (x : World) (t : Trail) (m : Marked) (o o′ : Outcome) → Made t m o o′ → leaves x m ≡ o′ .world
+  stays x t m o o′ k = ap (λ (z : Outcome). cond (isBroken (z .answer)) x (z .world)) (k .by-layer) ∙ unless (isBroken (o′ .answer)) _ _ (k .passed)
+
+  pub before-made : (h : History) (t : Trail) (x : World) → Before h t x → (m : Marked) (o o′ : Outcome) → Made t m o o′ → m .lent ≡ x → Before (next h m) (gone t m o) (o′ .world)
+  before-made h t x b m o o′ k lent = before-next h t x b m (gone t m o) (o′ .world) (λ e. lent) (goes t m o o′ k) (stays x t m o o′ k)
+
+  pub open-made : (p : ℕ) (h : History) (t : Trail) (x : World) → Before h t x → (m : Marked) (o o′ : Outcome) (d : OpensAt t m) → Made t m o o′ → m .lent ≡ x
+      → After p (record { id = standing t; size = bytesIn t; base = d .base; chunks = d .chunks; managed = d .managed }) (next h m) (gone t m o) (o′ .world) [] []
+  open-made p h t x b m o o′ d k lent = after-open p h t x b m (gone t m o) (o′ .world) d (λ e. lent) (goes t m o o′ k) (stays x t m o o′ k)
+
+  pub after-made : (p : ℕ) (a : Place) (h : History) (t : Trail) (x : World) (fs : List Fed) (ss : List Say) → After p a h t x fs ss → (m : Marked) (o o′ : Outcome) (gs : List Fed) (rs : List Say)
+      → Made t m o o′ → m .lent ≡ x → (isSound m ≡ true → Premises p a t m) → feeds a (entries (m .call)) ≡ gs → cond (tells t (m .call)) (hears a (entries (goesOn t (m .call))) (said (o′ .answer))) [] ≡ rs
+      → After p a (next h m) (gone t m o) (o′ .world) (fs ++ gs) (ss ++ rs)
+  after-made p a h t x fs ss r m o o′ gs rs k lent keeps f s =
+      after-next p a h t x fs ss r m (gone t m o) (o′ .world) gs rs (λ e. lent) (goes t m o o′ k) (stays x t m o o′ k) (keeps (k .sound)) (when (isSound m) _ _ (k .sound) ∙ f)
+      (ap₂ (λ (b : Bool) (z : Outcome). cond (b && tells t (m .call)) (hears a (entries (goesOn t (m .call))) (said (z .answer))) []) (k .sound) (k .by-layer) ∙ s)
+
+  -- a call that row 1, and the layer, turn down
+  pub after-broken : (p : ℕ) (a : Place) (h : History) (t : Trail) (x : World) (fs : List Fed) (ss : List Say) → After p a h t x fs ss → (m : Marked) → isSound m ≡ false → isBroken (outcomeBy L m .answer) ≡ true
+      → Premises p a t m → After p a (next h m) t x (fs ++ []) (ss ++ [])
+  after-broken p a h t x fs ss r m s b k =
+      after-next p a h t x fs ss r m t x [] [] (λ e. absurd (true≢false (sym b ∙ e))) (unless (isSound m) _ _ s) (when (isBroken (outcomeBy L m .answer)) _ _ b) k (unless (isSound m) _ _ s)
+      (ap (λ (c : Bool). cond (c && tells t (m .call)) (hears a (entries (goesOn t (m .call))) (said (outcomeBy L m .answer))) []) s)
+
+  -- what the book of the arena says of what was fed is told, but for what waits
+  pub by-book : (p : ℕ) (a : Place) (h : History) (t : Trail) (x : World) (fs : List Fed) (ss : List Say) → After p a h t x fs ss → Demand3 L → AllBut (waits a t) ss (sayAll (bookOf a) fs)
+  by-book p a h t x fs ss r d =
+      subst (λ (z : Trail). AllBut (waits a z) ss (sayAll (bookOf a) fs)) (r .stands .ruled-is)
+      (subst (λ (b : Place). AllBut (waits b (ruled h)) ss (sayAll (bookOf b) fs)) (r .place-is)
+      (subst (λ (z : List Say). AllBut (waits (place h (r .opens)) (ruled h)) z (sayAll (bookOf (place h (r .opens))) fs)) (r .told-is)
+      (subst (λ (z : List Fed). AllBut (waits (place h (r .opens)) (ruled h)) (told L h (r .opens)) (sayAll (bookOf (place h (r .opens))) z)) (r .fed-is)
+      (d .by-the-book p h (r .opens) (r .stands .lent) (r .keeps)))))
+
+-- ---- the premises at one call
+
+module _ (p : ℕ) (a : Place) (t : Trail) (m : Marked) where
+  -- of the program's own, where no question is open
+  pub own-call : m .who ≡ p → openAt t ≡ Idle → declines (openAt t) (m .call) ≡ false → isSound m ≡ true → Premises p a t m
+  own-call mine q d s = record { alone = λ e. mine; sound-lent = λ e. s; none-open = λ e f. q; agreed = λ e f. d }
+
+  -- of the program's own answer
+  pub own-answer : m .who ≡ p → isAnswer (m .call) ≡ true → declines (openAt t) (m .call) ≡ false → isSound m ≡ true → Premises p a t m
+  own-answer mine q d s = record { alone = λ e. mine; sound-lent = λ e. s; none-open = λ e f. absurd (true≢false (sym q ∙ f)); agreed = λ e f. d }
+
+  -- of another's, which feeds nothing
+  pub others-call : (m .who ≡ p → ⊥) → isNone (feeds a (entries (m .call))) ≡ true → declines (openAt t) (m .call) ≡ false → isSound m ≡ true → Premises p a t m
+  others-call other none d s =
+      record { alone = λ e. absurd (true≢false (sym (ap isNone (when (isSound m) _ _ s) ∙ none) ∙ e)); sound-lent = λ e. absurd (other e); none-open = λ e f. absurd (other e); agreed = λ e f. d }
+
+  -- of another's that row 1 turns down
+  pub broken-call : (m .who ≡ p → ⊥) → isSound m ≡ false → Premises p a t m
+  broken-call other s =
+      record { alone = λ e. absurd (true≢false (sym (ap isNone (unless (isSound m) _ _ s)) ∙ e)); sound-lent = λ e. absurd (other e); none-open = λ e f. absurd (other e); agreed = λ e f. absurd (true≢false (sym f ∙ s)) }

@@ -88,36 +88,97 @@ purge = Purging 0 0 (record { force = true; now = 9; delay = 0; decommit = false
 abbrev pub by : ℕ → World → ℕ → Call → Marked
 by who lent ns call = record { who = who; lent = lent; ns = ns; settings = plain; call = call }
 
+-- ---- what the calls leave, one after the other
+
+abbrev pub w₀ : World
+w₀ = worldOf (replicate 32 blank) (replicate 32768 0) (stateOf 0 false awaited)
+
+abbrev pub w₁ : World
+w₁ = one (own 0 0 0 0 0) 0 Idle
+
+abbrev pub w₂ : World
+w₂ = one (own 1 1 0 0 0) 0 Idle
+
+abbrev pub w₃ : World
+w₃ = one (own 3 1 0 0 0) 0 (Committing 0 1 1)
+
+abbrev pub w₄ : World
+w₄ = one (own 3 3 2 0 0) 0 Idle
+
+abbrev pub w₅ : World
+w₅ = one (own 2 3 2 1 5) 5 Idle
+
+abbrev pub w₆ : World
+w₆ = two (own 2 3 2 1 5) (shared 0) Idle
+
+abbrev pub w₇ : World
+w₇ = two (own 2 3 2 1 5) (shared 1) Idle
+
+abbrev pub w₈ : World
+w₈ = two (own 3 3 2 1 0) (shared 1) purge
+
+abbrev pub w₉ : World
+w₉ = two (own 2 3 2 0 0) (shared 1) Idle
+
+abbrev pub w₁₀ : World
+w₁₀ = two (own 3 3 2 0 0) (shared 1) Idle
+
+abbrev pub w₁₁ : World
+w₁₁ = two (own 7 3 2 0 0) (shared 1) (Committing 0 2 1)
+
 -- ---- the calls
 
-abbrev pub asking : Marked
-asking = by 9 empty 0 (act (reserve 100663296 false false true))
+abbrev pub c₀ : Marked
+c₀ = by 9 empty 0 (act (reserve 100663296 false false true))
 
 -- the yes to the memory question registers the arena
-abbrev pub registering : Marked
-registering = by 9 (worldOf (replicate 32 blank) (replicate 32768 0) (stateOf 0 false awaited)) 0 (answer ForMemory true base)
+abbrev pub c₁ : Marked
+c₁ = by 9 w₀ 0 (answer ForMemory true base)
+
+-- a claim that puts no question
+abbrev pub c₂ : Marked
+c₂ = by 7 w₁ 0 (act (claim (pos 0) 1 false))
+
+-- one that asks for a commit, and the yes
+abbrev pub c₃ : Marked
+c₃ = by 7 w₂ 0 (act (claim (pos 0) 1 true))
+
+abbrev pub c₄ : Marked
+c₄ = by 7 w₃ 0 (answer ForCommit true 0)
+
+-- chunk 0 is released, pending, at 5 ms
+abbrev pub c₅ : Marked
+c₅ = by 7 w₄ 5000000 (act (release base 1 Untold true))
+
+-- the other's arena, and its claim, which may be served by any shared arena
+abbrev pub c₆ : Marked
+c₆ = by 9 w₅ 6000000 (act (manage elsewhere 67108864 false (negsuc 0) false true))
+
+abbrev pub c₇ : Marked
+c₇ = by 9 w₆ 7000000 (act (claim (negsuc 0) 1 true))
+
+-- its sweep asks about chunk 0; its claim at the arena, lent a broken table, is refused with 1; the purge is answered
+abbrev pub c₈ : Marked
+c₈ = by 9 w₇ 9000000 (act (sweep true))
+
+abbrev pub c₉ : Marked
+c₉ = by 9 short 9000000 (act (claim (pos 0) 1 true))
+
+abbrev pub c₁₀ : Marked
+c₁₀ = by 9 w₈ 9000000 (answer ForPurge true 0)
+
+-- two neighbours are not there; one is; and the last waits for its yes
+abbrev pub c₁₁ : Marked
+c₁₁ = by 7 w₉ 10000000 (act (claim (pos 0) 2 true))
+
+abbrev pub c₁₂ : Marked
+c₁₂ = by 7 w₉ 10000000 (act (claim (pos 0) 1 false))
+
+abbrev pub c₁₃ : Marked
+c₁₃ = by 7 w₁₀ 10000000 (act (claim (pos 0) 1 true))
 
 abbrev pub calls : List Marked
-calls =
-    -- a claim that puts no question
-    by 7 (one (own 0 0 0 0 0) 0 Idle) 0 (act (claim (pos 0) 1 false))
-    -- one that asks for a commit, and the yes
-    ∷ by 7 (one (own 1 1 0 0 0) 0 Idle) 0 (act (claim (pos 0) 1 true))
-    ∷ by 7 (one (own 3 1 0 0 0) 0 (Committing 0 1 1)) 0 (answer ForCommit true 0)
-    -- chunk 0 is released, pending, at 5 ms
-    ∷ by 7 (one (own 3 3 2 0 0) 0 Idle) 5000000 (act (release base 1 Untold true))
-    -- the other's arena, and its claim, which may be served by any shared arena
-    ∷ by 9 (one (own 2 3 2 1 5) 5 Idle) 6000000 (act (manage elsewhere 67108864 false (negsuc 0) false true))
-    ∷ by 9 (two (own 2 3 2 1 5) (shared 0) Idle) 7000000 (act (claim (negsuc 0) 1 true))
-    -- its sweep asks about chunk 0; its claim at the arena, lent a broken table, is refused with 1; the purge is answered
-    ∷ by 9 (two (own 2 3 2 1 5) (shared 1) Idle) 9000000 (act (sweep true))
-    ∷ by 9 short 9000000 (act (claim (pos 0) 1 true))
-    ∷ by 9 (two (own 3 3 2 1 0) (shared 1) purge) 9000000 (answer ForPurge true 0)
-    -- two neighbours are not there; one is; and the last waits for its yes
-    ∷ by 7 (two (own 2 3 2 0 0) (shared 1) Idle) 10000000 (act (claim (pos 0) 2 true))
-    ∷ by 7 (two (own 2 3 2 0 0) (shared 1) Idle) 10000000 (act (claim (pos 0) 1 false))
-    ∷ by 7 (two (own 3 3 2 0 0) (shared 1) Idle) 10000000 (act (claim (pos 0) 1 true))
-    ∷ []
+calls = c₀ ∷ c₁ ∷ c₂ ∷ c₃ ∷ c₄ ∷ c₅ ∷ c₆ ∷ c₇ ∷ c₈ ∷ c₉ ∷ c₁₀ ∷ c₁₁ ∷ c₁₂ ∷ c₁₃ ∷ []
 
 -- one after the other
 abbrev pub goOn : History → List Marked → History
@@ -125,7 +186,7 @@ goOn h [] = h
 goOn h (m ∷ ms) = goOn (next h m) ms
 
 abbrev pub history : History
-history = goOn (next (next begin asking) registering) calls
+history = goOn begin calls
 
 -- ---- what is said
 

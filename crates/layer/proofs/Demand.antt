@@ -7,6 +7,7 @@ use native.Mathlib.Omega.{arith}
 use lib.ListN.{length-replicate}
 use Rattle.words.proofs.Tests.{by-cond, unless}
 use Rattle.runs.specs.Lowest.{lowestRun}
+use Rattle.arena.specs.Flags.{isOn}
 use Rattle.layer.specs.declared.Settings.{Settings}
 use Rattle.layer.specs.declared.Answer.{Answer}
 use Rattle.layer.specs.World.{World, Outcome, empty}
@@ -174,7 +175,7 @@ module _ (S p id b n : ℕ) where
           mine = subst (Mine p (askerAfter (t .world .state .question) (m .who) (t .asker))) (sym view) tt;
         };
         book = ap (λ (v : View). bookIn v (at (w .records) id)) view ∙ new .shows (o .exclusive)
-            ∙ ap₂ (λ (x y : ℕ). opened x y (not (at (w .records) id .owned))) (o .base) (o .chunks)
+            ∙ ap₂ (λ (x y : ℕ). opened x y (not (isOn (at (w .records) id .owned)))) (o .base) (o .chunks)
             ∙ ap (opened b n) (ap not (o .owned) ∙ not-not managed);
         owes = ap (λ (v : View). owedIn S v (at (w .records) id)) view;
       })

@@ -10,6 +10,7 @@ use lib.Dec.{eqb, leb}
 use lib.IntN.{ℤ}
 use Rattle.words.proofs.Tests.{when, unless, by-cond}
 use Rattle.arena.specs.declared.Arena.{Arena}
+use Rattle.arena.specs.Flags.{isOn}
 use Rattle.arena.specs.Registering.{newArena, reservedArena, managedArena}
 use Rattle.layer.specs.declared.Question.{Question}
 use Rattle.layer.specs.declared.Question.the-variants.{Idle, Reserving}
@@ -34,10 +35,10 @@ use Rattle.layer.proofs.Demand.{IsLent, stands, lent-append, sound-next
 -- ---- a record that is asked to be exclusive
 
 record Exclusive (b n : ℕ) (managed : Bool) (a : Arena) : Type 0 where
-  exclusive : a .exclusive ≡ true
+  exclusive : isOn (a .exclusive) ≡ true
   base : a .base ≡ b
   chunks : a .chunks ≡ n
-  owned : a .owned ≡ not managed
+  owned : isOn (a .owned) ≡ not managed
 
 managed-exclusive : (b n : ℕ) (node : ℤ) → Exclusive b n true (managedArena b n true node)
 unfolding managedArena newArena
@@ -95,10 +96,10 @@ module _ (S : ℕ) (t : Trail) (m : Marked) (lent : IsLent S t m) where
       let there : at (outcomeOf S m .world .records) k ≡ a = ap (λ (o : Outcome). at (o .world .records) k) e ∙ at-same (t .world .records) k a (omega (arith, table .long, room)) in
       record {
         registered = ap (λ (o : Outcome). o .answer) e;
-        exclusive = ap (λ (c : Arena). c .exclusive) there ∙ x .exclusive;
+        exclusive = ap (λ (c : Arena). isOn (c .exclusive)) there ∙ x .exclusive;
         base = ap (λ (c : Arena). c .base) there ∙ x .base;
         chunks = ap (λ (c : Arena). c .chunks) there ∙ x .chunks;
-        owned = ap (λ (c : Arena). c .owned) there ∙ x .owned;
+        owned = ap (λ (c : Arena). isOn (c .owned)) there ∙ x .owned;
       }
 
 -- ---- a memory question stays open until the rules close it

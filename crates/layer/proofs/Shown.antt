@@ -7,6 +7,7 @@ use Prim.Native.Nat.{ℕ, _<_}
 use Rattle.words.specs.Bits.{bitAt, within}
 use Rattle.runs.specs.Lowest.{lowestRun}
 use Rattle.arena.specs.declared.Arena.{Arena}
+use Rattle.arena.specs.Flags.{isOn}
 use Rattle.layer.specs.declared.Question.{Question}
 use Rattle.layer.specs.World.{Outcome}
 use Rattle.layer.specs.Table.{at}
@@ -36,7 +37,7 @@ Mine p z (purging c) = Unit {0}
 
 -- what does not change of the record of an exclusive arena of n chunks from b on
 pub record Stays (b n : ℕ) (a : Arena) : Type 0 where
-  pub exclusive : a .exclusive ≡ true
+  pub exclusive : isOn (a .exclusive) ≡ true
   pub base : a .base ≡ b
   pub chunks : a .chunks ≡ n
 

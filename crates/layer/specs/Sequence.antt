@@ -9,6 +9,7 @@ use lib.Dec.{leb, ltb, eqb}
 use Rattle.refusals.specs.declared.Refusal.the-variants.{Broken}
 use Rattle.refusals.specs.Number.{number}
 use Rattle.arena.specs.declared.Arena.{Arena}
+use Rattle.arena.specs.Flags.{isOn}
 use Rattle.arena.specs.Claiming.{runFresh}
 use Rattle.layer.specs.declared.Settings.{Settings}
 use Rattle.layer.specs.declared.Question.{Question}
@@ -232,10 +233,10 @@ Premise S p id b n t (m ∷ ms) = Premises S p id b n t m × Premise S p id b n 
 -- "The book of an exclusive arena opens when Registering's rules register it": whoever's the call, or the answer, that does
 pub record Opens (S id b n : ℕ) (managed : Bool) (m : Marked) : Type 0 where
   pub registered : outcomeOf S m .answer ≡ Registered id
-  pub exclusive : at (outcomeOf S m .world .records) id .exclusive ≡ true
+  pub exclusive : isOn (at (outcomeOf S m .world .records) id .exclusive) ≡ true
   pub base : at (outcomeOf S m .world .records) id .base ≡ b
   pub chunks : at (outcomeOf S m .world .records) id .chunks ≡ n
-  pub owned : at (outcomeOf S m .world .records) id .owned ≡ not managed
+  pub owned : isOn (at (outcomeOf S m .world .records) id .owned) ≡ not managed
 
 -- ---- whose claim a call makes or ends, and how many chunks it is about
 

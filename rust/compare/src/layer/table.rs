@@ -1,5 +1,6 @@
 //! Document 01's own example of each refusal, and refusals 1, 2, 3 and 6, which the original does not
-//! have, as a table of cases with the document's numbers. A refusal changes no byte of what is lent.
+//! have, as a table of cases with the document's numbers; and a record's flags, which the original
+//! has as bits. A refusal changes no byte of what is lent.
 
 use super::{Moment, CHUNK, QUIET};
 use sirqobal::lent::{self, Arena, Call, Reply, State, RECORDS, STAMPS};

@@ -15,13 +15,30 @@ _Static_assert(sizeof(struct sirqobal_arena) == 544, "arena");
 _Static_assert(offsetof(struct sirqobal_arena, base) == 0, "base");
 _Static_assert(offsetof(struct sirqobal_arena, chunks) == 8, "chunks");
 _Static_assert(offsetof(struct sirqobal_arena, exclusive) == 16, "exclusive");
-_Static_assert(offsetof(struct sirqobal_arena, owned) == 17, "owned");
-_Static_assert(offsetof(struct sirqobal_arena, node) == 20, "node");
-_Static_assert(offsetof(struct sirqobal_arena, deadline) == 24, "deadline");
-_Static_assert(offsetof(struct sirqobal_arena, used) == 28, "used");
-_Static_assert(offsetof(struct sirqobal_arena, dirty) == 156, "dirty");
-_Static_assert(offsetof(struct sirqobal_arena, committed) == 284, "committed");
-_Static_assert(offsetof(struct sirqobal_arena, pending) == 412, "pending");
+_Static_assert(offsetof(struct sirqobal_arena, owned) == 20, "owned");
+_Static_assert(offsetof(struct sirqobal_arena, node) == 24, "node");
+_Static_assert(offsetof(struct sirqobal_arena, deadline) == 28, "deadline");
+_Static_assert(offsetof(struct sirqobal_arena, used) == 32, "used");
+_Static_assert(offsetof(struct sirqobal_arena, dirty) == 160, "dirty");
+_Static_assert(offsetof(struct sirqobal_arena, committed) == 288, "committed");
+_Static_assert(offsetof(struct sirqobal_arena, pending) == 416, "pending");
+
+/* Records and stamps are what is lent. Of a record each field begins where the one before it ends, and the last ends
+ * with the record: it has no padding, so each of its bytes is of some field. */
+#define PAST(field) (offsetof(struct sirqobal_arena, field) + sizeof(((struct sirqobal_arena *)0)->field))
+#define FOLLOWS(field, before) \
+    _Static_assert(offsetof(struct sirqobal_arena, field) == PAST(before), #before ", then " #field)
+FOLLOWS(chunks, base);
+FOLLOWS(exclusive, chunks);
+FOLLOWS(owned, exclusive);
+FOLLOWS(node, owned);
+FOLLOWS(deadline, node);
+FOLLOWS(used, deadline);
+FOLLOWS(dirty, used);
+FOLLOWS(committed, dirty);
+FOLLOWS(pending, committed);
+_Static_assert(PAST(pending) == sizeof(struct sirqobal_arena), "pending, then the end");
+
 _Static_assert(sizeof(struct sirqobal_state) == 104, "state");
 _Static_assert(sizeof(struct sirqobal_settings) == 32, "settings");
 _Static_assert(sizeof(struct sirqobal_reply) == 160, "reply");
@@ -85,8 +102,8 @@ static void registering(void)
 
     r = step("adopt 4 chunks", sirqobal_adopt_os_block(LENT, 4 * S, 4 * S), 0, 0, 0, 0);
     check("  it is arena 0", r.id == 0 && state.count == 1);
-    check("  its record", records[0].base == 4 * S && records[0].chunks == 4 && !records[0].exclusive &&
-                              records[0].owned && records[0].node == -1 && records[0].deadline == 0);
+    check("  its record", records[0].base == 4 * S && records[0].chunks == 4 && records[0].exclusive == 0 &&
+                              records[0].owned == 1 && records[0].node == -1 && records[0].deadline == 0);
     check("  its bits", records[0].used[0] == 0 && records[0].dirty[0] == 15 && records[0].committed[0] == 15 &&
                             records[0].pending[0] == 0);
 
@@ -98,15 +115,15 @@ static void registering(void)
     step("an answer for a commit", sirqobal_answer(LENT, SIRQOBAL_COMMIT, true, 0), SIRQOBAL_NO_SUCH_QUESTION, 0, 0, 0);
     r = step("the memory comes", sirqobal_answer(LENT, SIRQOBAL_MEMORY, true, 64 * S), 0, 0, 0, 0);
     check("  it is arena 1", r.id == 1 && state.count == 2 && state.question == 0);
-    check("  its record", records[1].base == 64 * S && records[1].chunks == 2 && records[1].exclusive &&
-                              records[1].owned && records[1].committed[0] == 0);
+    check("  its record", records[1].base == 64 * S && records[1].chunks == 2 && records[1].exclusive == 1 &&
+                              records[1].owned == 1 && records[1].committed[0] == 0);
 
     r = step("manage: the whole chunks inside",
              sirqobal_manage_os_memory_ex(LENT, 128 * S + 1, 3 * S, false, false, false, 3, true, false, true), 0, 0, 0,
              0);
     check("  it is arena 2", r.id == 2 && state.count == 3);
-    check("  its record", records[2].base == 129 * S && records[2].chunks == 2 && records[2].exclusive &&
-                              !records[2].owned && records[2].node == 3);
+    check("  its record", records[2].base == 129 * S && records[2].chunks == 2 && records[2].exclusive == 1 &&
+                              records[2].owned == 0 && records[2].node == 3);
     step("manage: in the segment map already",
          sirqobal_manage_os_memory_ex(LENT, 256 * S, S, false, false, false, 0, false, true, true),
          SIRQOBAL_HOST_REFUSED, 0, 0, 0);
@@ -231,6 +248,18 @@ static void broken(void)
     step("and all goes on", sirqobal_chunk_claim(LENT, -1), 0, 0, 4 * S, 0);
 }
 
+/* A record's flag is on unless it is 0, whatever else stands there. */
+static void flags(void)
+{
+    records[0].exclusive = 2;
+    step("a claim, arena 0's exclusive being 2", sirqobal_chunk_claim(LENT, -1), SIRQOBAL_NO_RUN, 0, 0, 0);
+    records[0].exclusive = 0;
+    records[0].owned = UINT32_MAX;
+    step("adopt behind arena 0, its owned being 2^32 - 1", sirqobal_adopt_os_block(LENT, 8 * S, S), 0, 0, 0, 0);
+    check("  it grows, and the flag is left",
+          state.count == 3 && records[0].chunks == 5 && records[0].owned == UINT32_MAX);
+}
+
 int main(void)
 {
     registering();
@@ -239,6 +268,7 @@ int main(void)
     sweeping();
     queries();
     broken();
+    flags();
     printf("%d wrong\n", failures);
     return failures != 0;
 }

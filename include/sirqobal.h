@@ -82,13 +82,14 @@ uint32_t sirqobal_free_range(uint32_t *words, size_t len, uint64_t base, uint64_
 #define SIRQOBAL_STAMPS 32768
 #define SIRQOBAL_CHUNK 33554432u
 
-/* One arena. Bit j % 32 of word j / 32 of each map is chunk j. The two flags are 0 or 1, as C has it. */
+/* One arena, with no byte between two fields. Bit j % 32 of word j / 32 of each map is chunk j. A flag is on
+ * unless it is 0; registering writes 0 or 1. */
 struct sirqobal_arena {
     uint64_t base;
     size_t chunks;
-    bool exclusive; /* serves only claims that name its id */
-    bool owned;     /* the layer's own range, not managed for the host */
-    int32_t node;   /* the NUMA node, only stored */
+    uint32_t exclusive; /* a flag: serves only claims that name its id */
+    uint32_t owned;     /* a flag: the layer's own range, not managed for the host */
+    int32_t node;       /* the NUMA node, only stored */
     uint32_t deadline;
     uint32_t used[32];
     uint32_t dirty[32];

@@ -1,3 +1,4 @@
+pub mod Flags
 pub mod Record
 pub mod Registering
 pub mod Claiming

@@ -7,6 +7,7 @@ use lib.IntN.{ℤ, negsuc}
 use lib.ListN.{replicate}
 use Rattle.words.specs.Rows.{setRun}
 use Rattle.arena.specs.declared.Arena.{Arena}
+use Rattle.arena.specs.Flags.{asFlag}
 use Rattle.arena.specs.Record.{withChunks, withDirty, withCommitted}
 
 -- a bitmap with no bit set
@@ -22,8 +23,8 @@ newArena base chunks exclusive owned node dirty committed =
     record {
       base = base;
       chunks = chunks;
-      exclusive = exclusive;
-      owned = owned;
+      exclusive = asFlag exclusive;
+      owned = asFlag owned;
       node = node;
       deadline = 0;
       used = noBits;

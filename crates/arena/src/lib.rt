@@ -5,6 +5,7 @@ pub mod arena_sweeps;
 
 ghost use mathlib.Core.Path.{_≡_};
 ghost use Prim.Native.Nat.{_+_, _≤_};
+ghost use Rattle.arena.specs.Flags.{isOn, asFlag};
 ghost use Rattle.arena.specs.Registering.{eachBit, newArena, reservedArena, managedArena, adoptedArena, grownArena};
 
 // The most chunks that an arena has.
@@ -14,15 +15,16 @@ pub const MOST_CHUNKS: usize = 1024;
 pub const LAST: u64 = 18446744073709551615;
 
 // A registered range of chunks. Bit j % 32 of word j / 32 of each map is chunk j. It is lent across the C
-// surface, so its layout is C's.
+// surface, so its layout is C's, with no byte between two fields, and every value of a field is one that the code
+// reads: a flag is a number, on unless it is 0. Registering writes 0 or 1.
 #[repr(C)]
 pub struct Arena {
     pub base: u64,
     pub chunks: usize,
-    // Serves only claims that name its id.
-    pub exclusive: bool,
-    // The range is the layer's own, and not managed for the host.
-    pub owned: bool,
+    // A flag: serves only claims that name its id.
+    pub exclusive: u32,
+    // A flag: the range is the layer's own, and not managed for the host.
+    pub owned: u32,
     // The NUMA node, only stored.
     pub node: i32,
     // When the earliest pending chunk falls due, in milliseconds of the wrapping clock; 0: none.
@@ -38,6 +40,22 @@ pub enum Commitment {
     Untold,
     Committed,
     Uncommitted,
+}
+
+// ---- flags
+
+// As it is read: on unless 0.
+pub fn is_on(x: u32) -> bool
+    ensures { λ r. ⌜ r ≡ isOn x ⌝ }
+{
+    x != 0
+}
+
+// As it is written: 1 or 0.
+pub fn as_flag(b: bool) -> u32
+    ensures { λ r. ⌜ r ≡ asFlag b ⌝ }
+{
+    b as u32
 }
 
 // ---- registering
@@ -70,11 +88,13 @@ fn new_arena(
 {
     let d = each_bit(chunks, dirty);
     let c = each_bit(chunks, committed);
+    let x = as_flag(exclusive);
+    let o = as_flag(owned);
     Arena {
         base,
         chunks,
-        exclusive,
-        owned,
+        exclusive: x,
+        owned: o,
         node,
         deadline: 0,
         used: [0u32; 32],

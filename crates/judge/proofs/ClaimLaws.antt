@@ -12,6 +12,7 @@ use mir.Val.{Fits, SFits}
 use Rattle.runs.specs.declared.Found.the-variants.{At}
 use Rattle.runs.proofs.LowestLaws.{lowest-is}
 use Rattle.arena.specs.declared.Arena.{Arena}
+use Rattle.arena.specs.Flags.{isOn}
 use Rattle.arena.specs.Claiming.{free, findRun}
 use Rattle.layer.specs.Claiming.{eligible}
 
@@ -39,7 +40,7 @@ cond-on false n e = absurd (true≢false (sym e))
 
 module _ (i : ℕ) (a : Arena) where
   -- "A negative arena id means every arena that is not exclusive"
-  pub negative-id : (id : ℤ) → ltZ id (pos 0) ≡ true → not (a .exclusive) ≡ eligible id i a
+  pub negative-id : (id : ℤ) → ltZ id (pos 0) ≡ true → not (isOn (a .exclusive)) ≡ eligible id i a
   unfolding eligible
   negative-id (pos x) e = absurd (omega (arith, ltb-true x 0 e))
   negative-id (negsuc x) e = refl

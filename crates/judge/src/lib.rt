@@ -31,8 +31,8 @@ pub enum Query {
 pub struct Head {
     pub base: u64,
     pub chunks: usize,
-    pub exclusive: bool,
-    pub owned: bool,
+    pub exclusive: u32,
+    pub owned: u32,
 }
 
 // The lowest run of n free chunks; a run of none starts at the first chunk.

@@ -60,8 +60,8 @@ pub fn grows_at(a: Arena, chunk_size: u64, address: u64, n: u64) -> bool
 {
     let base = a.base;
     let chunks = a.chunks;
-    let exclusive = a.exclusive;
-    if !a.owned {
+    let exclusive = arena::is_on(a.exclusive);
+    if !arena::is_on(a.owned) {
         return false;
     }
     if exclusive {

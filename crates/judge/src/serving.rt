@@ -16,7 +16,7 @@ fn is_eligible(id: i32, i: usize, h: Head) -> bool
     ensures { λ r. ⌜ r ≡ eligible id i (headed h) ⌝ }
 {
     if id < 0 {
-        return !h.exclusive;
+        return !arena::is_on(h.exclusive);
     }
     i == (id as usize)
 }

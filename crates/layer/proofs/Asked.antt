@@ -11,6 +11,7 @@ use Rattle.words.proofs.Tests.{by-cond}
 use Rattle.runs.specs.declared.Found.{Found}
 use Rattle.runs.specs.declared.Found.the-variants.{At, Nothing}
 use Rattle.arena.specs.declared.Arena.{Arena}
+use Rattle.arena.specs.Flags.{isOn}
 use Rattle.arena.specs.Claiming.{takeRun}
 use Rattle.arena.specs.Sweeping.{sweepDue, disarm, nextAsked}
 use Rattle.lookup.proofs.SoundLaws.{never}
@@ -38,7 +39,7 @@ use Rattle.layer.proofs.Cases.{grant-cases, search-cases, miss-cases, c
 -- the arena that a claim at the id was served in: the one that it names, and with a negative id one that is not exclusive
 abbrev pub ServedIn : List Arena → ℤ → ℕ → Type 0
 ServedIn l (pos x) i = x ≡ i
-ServedIn l (negsuc x) i = at l i .exclusive ≡ false
+ServedIn l (negsuc x) i = isOn (at l i .exclusive) ≡ false
 
 -- the call for which memory is asked
 abbrev pub WaitsFor : ℕ → ℕ → Bool → Bool → Waiting → Call → Type 0
@@ -70,7 +71,7 @@ module _ (S : ℕ) (l : List Arena) (stamps : List ℕ) (k : ℕ) (mark : Bool) 
   -- the run is taken, and its arena stays what it is
   taken-in : (id : ℤ) (i s n : ℕ) → i < k → ServedIn l id i → ServedIn (set l i (takeRun (at l i) s n)) id i
   taken-in (pos x) i s n h e = e
-  taken-in (negsuc x) i s n h e = ap (λ (a : Arena). a .exclusive) (at-same l i (takeRun (at l i) s n) (omega (arith, long, few))) ∙ (unfold takeRun in e)
+  taken-in (negsuc x) i s n h e = ap (λ (a : Arena). isOn (a .exclusive)) (at-same l i (takeRun (at l i) s n) (omega (arith, long, few))) ∙ (unfold takeRun in e)
 
   -- a search for n chunks, which puts the commit question of the claim at the id
   search-asked : (sought id : ℤ) (n : ℕ) (commits : Bool) (missed : Reply) → ((i : ℕ) → serves sought n l i ≡ true → ServedIn l id i) → AskedOf S (act (claim id n commits)) (after missed l stamps)
@@ -85,7 +86,7 @@ module _ (S : ℕ) (l : List Arena) (stamps : List ℕ) (k : ℕ) (mark : Bool) 
 module _ (S : ℕ) (l : List Arena) (stamps : List ℕ) (k : ℕ) (mark : Bool) (long : length l ≡ 32) (few : k ≤ 32) where
   serves-in : (id : ℤ) (n i : ℕ) → serves id n l i ≡ true → ServedIn l id i
   serves-in (pos x) n i e = sym (served-named x n l i e)
-  serves-in (negsuc x) n i e = never (at l i .exclusive) (λ f. not-shared x n l i i f e refl)
+  serves-in (negsuc x) n i e = never (isOn (at l i .exclusive)) (λ f. not-shared x n l i i f e refl)
 
   register-asked : (c : Call) (chunks : ℕ) (a : Arena) → AskedOf S c (register l stamps k mark chunks a)
   register-asked c chunks a = register-cases S l stamps k mark (AskedOf S c) chunks a tt tt (λ e f. tt)
@@ -139,7 +140,7 @@ module _ (S : ℕ) (l : List Arena) (stamps : List ℕ) (k : ℕ) (mark : Bool) 
       subst (λ (x : Call). AskedOf S x (resume S l stamps k mark a (Claim n commits))) (sym (w .1))
       (subst (AskedOf S (act (claim (negsuc (w .0)) n commits))) (sym (g .is))
       (search-asked S (withRecord l k a) (withStamps stamps k) (suc k) mark (length-set l k a ∙ long) (omega arith) (g .id) (negsuc (w .0)) n commits _
-      (λ i e. never (at (withRecord l k a) i .exclusive) (λ f. g .passes-over i i f e refl)) tt))
+      (λ i e. never (isOn (at (withRecord l k a) i .exclusive)) (λ f. g .passes-over i i f e refl)) tt))
 
   fail-asked : (why : Refusal) (waiting : Waiting) (c : Call) → AskedOf S c (after (failReply k mark why waiting) l stamps)
   fail-asked why Reserve c = tt

@@ -10,6 +10,7 @@ use lib.IntN.{ℤ, pos, negsuc}
 use lib.ListN.{length}
 use Rattle.words.proofs.Tests.{by-cond, when, unless}
 use Rattle.arena.specs.declared.Arena.{Arena}
+use Rattle.arena.specs.Flags.{isOn}
 use Rattle.layer.specs.declared.Question.{Question}
 use Rattle.layer.specs.declared.Question.the-variants.{Idle, Committing, Purging, Reserving, GivingBack}
 use Rattle.layer.specs.declared.Waiting.the-variants.{Reserve, Claim}
@@ -87,7 +88,7 @@ module _ (a : Place) where
 
   -- ---- what waits: the claim whose commit question about the arena is open
 
-  module _ (l : List Arena) (exclusive : at l (a .id) .exclusive ≡ true) where
+  module _ (l : List Arena) (exclusive : isOn (at l (a .id) .exclusive) ≡ true) where
     asked-there : (q : Question) (c : Call) → Asked S l q c → isIdle q ≡ false → feeds a (entries c) ≡ waitsIn (viewOf (a .id) q)
     asked-there Idle c h e = absurd (true≢false e)
     asked-there (Committing i s n) c h e = ap (λ (x : Call). feeds a (entries x)) (h .2) ∙ go (h .0) (h .3)
@@ -98,7 +99,7 @@ module _ (a : Place) where
             both : (b : Bool) → cond b (claims lowest n ∷ []) [] ++ [] ≡ waitsIn (cond b (committing s n) calm)
             both true = refl
             both false = refl
-        go (negsuc x) d = ap (λ (b : Bool). waitsIn (cond b (committing s n) calm)) (sym (ne-eqb i (a .id) (λ f. true≢false (sym exclusive ∙ ap (λ (j : ℕ). at l j .exclusive) (sym f) ∙ d))))
+        go (negsuc x) d = ap (λ (b : Bool). waitsIn (cond b (committing s n) calm)) (sym (ne-eqb i (a .id) (λ f. true≢false (sym exclusive ∙ ap (λ (j : ℕ). isOn (at l j .exclusive)) (sym f) ∙ d))))
     asked-there (Purging i j w) c h e = ap (λ (x : Call). feeds a (entries x)) (h .1) ∙ go (eqb i (a .id))
       where
         go : (b : Bool) → [] ≡ waitsIn (cond b (purging j) calm)

@@ -24,6 +24,7 @@ use Rattle.runs.proofs.SearchLaws.{and-both}
 use Rattle.clock.specs.Clock.{nowMs, delayMs}
 use Rattle.options.specs.Options.{arenaAllowed}
 use Rattle.arena.specs.declared.Arena.{Arena}
+use Rattle.arena.specs.Flags.{isOn}
 use Rattle.arena.specs.declared.Commitment.{Commitment}
 use Rattle.arena.specs.Claiming.{findRun, takeRun, dirtyRun, finishGrant}
 use Rattle.arena.specs.Releasing.{releaseRun}
@@ -229,7 +230,7 @@ module _ (S p id b n : ℕ) (managed : Bool) where
       -- an arena that grows is not exclusive
       not-grown : (i address m : ℕ) → grows S (at l i) address m ≡ true → i ≡ id → ⊥
       not-grown i address m f e =
-          true≢false (sym (h .stays .exclusive) ∙ ap (λ (x : ℕ). at l x .exclusive) (sym e) ∙ grows-facts S (at l i) address m f .0)
+          true≢false (sym (h .stays .exclusive) ∙ ap (λ (x : ℕ). isOn (at l x .exclusive)) (sym e) ∙ grows-facts S (at l i) address m f .0)
 
     -- ---- answers to a memory question
 

@@ -13,6 +13,7 @@ use Rattle.words.proofs.Tests.{when, unless}
 use Rattle.words.proofs.RowLaws.{lt-or-le}
 use Rattle.runs.proofs.SearchLaws.{and-both}
 use Rattle.arena.specs.declared.Arena.{Arena}
+use Rattle.arena.specs.Flags.{isOn}
 use Rattle.arena.specs.Registering.{newArena, reservedArena, managedArena}
 use Rattle.lookup.specs.Place.{bytesOf, endOf}
 use Rattle.lookup.proofs.SoundLaws.{never}
@@ -147,7 +148,7 @@ pub record Opening (p id b n : ℕ) (managed : Bool) (u : Trail) : Type 0 where
 
 module _ (p : ℕ) (t : Trail) (m : Marked) (g : Good t) (o : OpensAt t m) where
   -- the record at the end of the table
-  stands : (a : Arena) → a .exclusive ≡ true → a .base ≡ o .base → a .chunks ≡ o .chunks → bookIn S calm a ≡ opened S (o .base) (o .chunks) (o .managed)
+  stands : (a : Arena) → isOn (a .exclusive) ≡ true → a .base ≡ o .base → a .chunks ≡ o .chunks → bookIn S calm a ≡ opened S (o .base) (o .chunks) (o .managed)
       → onTrail t m ≡ added (t .world .records) (t .world .stamps) (standing t) (t .world .state .mark) a → Opening p (standing t) (o .base) (o .chunks) (o .managed) (gone t m (onTrail t m))
   stands a x y z shows e =
       subst (λ (c : Outcome). Opening p (standing t) (o .base) (o .chunks) (o .managed) (gone t m c)) (sym e)

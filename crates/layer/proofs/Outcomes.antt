@@ -20,6 +20,7 @@ use Rattle.refusals.specs.declared.Refusal.{Refusal}
 use Rattle.refusals.specs.declared.Refusal.the-variants.{Broken}
 use Rattle.refusals.specs.Number.{number}
 use Rattle.arena.specs.declared.Arena.{Arena}
+use Rattle.arena.specs.Flags.{isOn}
 use Rattle.arena.specs.Registering.{reservedArena}
 use Rattle.arena.specs.Sweeping.{sweepDue, disarm, nextAsked}
 use Rattle.lookup.specs.Place.{isInside}
@@ -109,7 +110,7 @@ asksFor q (answer kind accepted base) = asksIn q
 module _ (S : ℕ) (l : List Arena) (k : ℕ) where
   -- so many chunks from x on have no address of an exclusive arena that is not named
   abbrev pub Away : ℕ → (ℕ → Bool) → ℕ → Type 0
-  Away n named x = (j : ℕ) → j < k → at l j .exclusive ≡ true → named j ≡ false → (y : ℕ) → x ≤ y → y < x + n * S → isInside S (at l j) y ≡ false
+  Away n named x = (j : ℕ) → j < k → isOn (at l j .exclusive) ≡ true → named j ≡ false → (y : ℕ) → x ≤ y → y < x + n * S → isInside S (at l j) y ≡ false
 
   abbrev pub Tells : ℕ → (ℕ → Bool) → Answer → World → Type 0
   Tells n named (Refused why) w = _≡_ {A = Bool} (eqb (number why) 1) false
@@ -141,7 +142,7 @@ module _ (S : ℕ) (l : List Arena) (stamps : List ℕ) (k : ℕ) (mark : Bool) 
       (λ i h g. grant-cases S l stamps k mark (TellsOf S l k n (actNames (claim id n commits))) i n commits (λ _. refl)
       (λ s r t j u x z. elsewhere S l k i j s n t h u (other id i j g x z) (found-inside (at l i) n s r)) (λ s _. tt)))
     where
-      other : (id : ℤ) (i j : ℕ) → serves id n l i ≡ true → at l j .exclusive ≡ true → actNames (claim id n commits) j ≡ false → i ≡ j → ⊥
+      other : (id : ℤ) (i j : ℕ) → serves id n l i ≡ true → isOn (at l j .exclusive) ≡ true → actNames (claim id n commits) j ≡ false → i ≡ j → ⊥
       other (pos x) i j e f g d = eqb-false x j g (sym (served-named x n l i e) ∙ d)
       other (negsuc x) i j e f g d = not-shared x n l i j f e d
 
@@ -167,7 +168,7 @@ module _ (S : ℕ) (l : List Arena) (stamps : List ℕ) (k : ℕ) (mark : Bool) 
       (search-cases S m (withStamps stamps k) (suc k) mark (TellsOf S l k n (λ j. false)) (once .id) n commits _ (λ _. refl)
       (λ i u v. grant-cases S m (withStamps stamps k) (suc k) mark (TellsOf S l k n (λ j. false)) i n commits (λ _. refl)
       (λ s r t j w x z y lo hi. subst (λ (a : Arena). isInside S a y ≡ false) (kept j w)
-      (elsewhere S m (suc k) i j s n (made t) u (omega arith) (once .passes-over i j (ap (λ (a : Arena). a .exclusive) (kept j w) ∙ x) v) (found-inside (at m i) n s r) y lo hi))
+      (elsewhere S m (suc k) i j s n (made t) u (omega arith) (once .passes-over i j (ap (λ (a : Arena). isOn (a .exclusive)) (kept j w) ∙ x) v) (found-inside (at m i) n s r) y lo hi))
       (λ s _. tt)))
     where
       m : List Arena

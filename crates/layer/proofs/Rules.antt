@@ -10,6 +10,7 @@ use lib.IntN.{ℤ, pos, negsuc}
 use Rattle.refusals.specs.declared.Refusal.the-variants.{NoRun}
 use Rattle.runs.proofs.SearchLaws.{and-both}
 use Rattle.arena.specs.declared.Arena.{Arena}
+use Rattle.arena.specs.Flags.{isOn}
 use Rattle.arena.specs.Claiming.{findRun}
 use Rattle.lookup.specs.Place.{endOf}
 use Rattle.layer.specs.declared.Waiting.the-variants.{Claim}
@@ -23,7 +24,7 @@ use Rattle.layer.proofs.Tools.{or-false, at-other}
 -- ---- claims
 
 -- a negative id passes an exclusive arena over
-shared-only : (x i : ℕ) (a : Arena) → a .exclusive ≡ true → eligible (negsuc x) i a ≡ false
+shared-only : (x i : ℕ) (a : Arena) → isOn (a .exclusive) ≡ true → eligible (negsuc x) i a ≡ false
 unfolding eligible
 shared-only x i a e = ap not e
 
@@ -38,9 +39,9 @@ unfolding serves
 serves-eligible id n l i e = and-both (eligible id i (at l i)) (isAt (findRun (at l i) n)) e .0
 
 -- so an exclusive arena j serves no claim with a negative id, and a claim at its own id alone
-pub not-shared : (x n : ℕ) (l : List Arena) (i j : ℕ) → at l j .exclusive ≡ true → serves (negsuc x) n l i ≡ true → i ≡ j → ⊥
+pub not-shared : (x n : ℕ) (l : List Arena) (i j : ℕ) → isOn (at l j .exclusive) ≡ true → serves (negsuc x) n l i ≡ true → i ≡ j → ⊥
 not-shared x n l i j e f d =
-    true≢false (sym (serves-eligible (negsuc x) n l i f) ∙ shared-only x i (at l i) (ap (λ (z : ℕ). at l z .exclusive) d ∙ e))
+    true≢false (sym (serves-eligible (negsuc x) n l i f) ∙ shared-only x i (at l i) (ap (λ (z : ℕ). isOn (at l z .exclusive)) d ∙ e))
 
 pub served-named : (x n : ℕ) (l : List Arena) (i : ℕ) → serves (pos x) n l i ≡ true → i ≡ x
 served-named x n l i f = named-only x i (at l i) (serves-eligible (pos x) n l i f)
@@ -48,23 +49,23 @@ served-named x n l i f = named-only x i (at l i) (serves-eligible (pos x) n l i 
 -- ---- growth
 
 -- an exclusive arena does not grow
-never-grows : (S : ℕ) (a : Arena) (address n : ℕ) → a .exclusive ≡ true → grows S a address n ≡ false
+never-grows : (S : ℕ) (a : Arena) (address n : ℕ) → isOn (a .exclusive) ≡ true → grows S a address n ≡ false
 unfolding grows
-never-grows S a address n e = go (a .owned) refl
+never-grows S a address n e = go (isOn (a .owned)) refl
   where
-    go : (o : Bool) → a .owned ≡ o → grows S a address n ≡ false
+    go : (o : Bool) → isOn (a .owned) ≡ o → grows S a address n ≡ false
     go true f = rw e (rw f refl)
     go false f = rw e (rw f refl)
 
 -- what grows is not exclusive, ends at the block, and stays within 1,024 chunks
-pub grows-facts : (S : ℕ) (a : Arena) (address n : ℕ) → grows S a address n ≡ true → (a .exclusive ≡ false) × (endOf S a ≡ address) × (a .chunks + n ≤ 1024)
+pub grows-facts : (S : ℕ) (a : Arena) (address n : ℕ) → grows S a address n ≡ true → (isOn (a .exclusive) ≡ false) × (endOf S a ≡ address) × (a .chunks + n ≤ 1024)
 unfolding grows
 grows-facts S a address n g =
-    let r = go (a .owned) (a .exclusive) refl refl g in
+    let r = go (isOn (a .owned)) (isOn (a .exclusive)) refl refl g in
     let t = and-both (eqb (endOf S a) address) (leb (a .chunks + n) 1024) (r .1) in
     (r .0, eqb-true (endOf S a) address (t .0), leb-true (a .chunks + n) 1024 (t .1))
   where
-    go : (o x : Bool) → a .owned ≡ o → a .exclusive ≡ x → grows S a address n ≡ true → (a .exclusive ≡ false) × (eqb (endOf S a) address && leb (a .chunks + n) 1024 ≡ true)
+    go : (o x : Bool) → isOn (a .owned) ≡ o → isOn (a .exclusive) ≡ x → grows S a address n ≡ true → (isOn (a .exclusive) ≡ false) × (eqb (endOf S a) address && leb (a .chunks + n) 1024 ≡ true)
     go o true p q = λ g. absurd (true≢false (sym g ∙ never-grows S a address n q))
     go true false p q = rw q (rw p (λ g. (refl, g)))
     go false false p q = rw q (rw p (λ g. absurd (true≢false (sym g))))
@@ -82,7 +83,7 @@ module _ (S : ℕ) (l : List Arena) (stamps : List ℕ) (k : ℕ) (mark : Bool) 
     pub id : ℤ
     pub is : resume S l stamps k mark a (Claim n commits)
         ≡ searchOf S (withRecord l k a) (withStamps stamps k) (suc k) mark id n commits (turnDown NoRun (calm (suc k) mark))
-    pub passes-over : (i j : ℕ) → at (withRecord l k a) j .exclusive ≡ true → serves id n (withRecord l k a) i ≡ true → i ≡ j → ⊥
+    pub passes-over : (i j : ℕ) → isOn (at (withRecord l k a) j .exclusive) ≡ true → serves id n (withRecord l k a) i ≡ true → i ≡ j → ⊥
 
   pub again : (a : Arena) (n : ℕ) (commits : Bool) → Again a n commits
   again a n commits = record { id = _; is = refl; passes-over = λ i j e f. not-shared 0 n (withRecord l k a) i j e f }

@@ -7,6 +7,7 @@ use Prim.Native.Nat.{ℕ, _+_, _*_, _<_}
 use lib.Dec.{eqb}
 use Rattle.words.specs.Bits.{bitAt, within}
 use Rattle.arena.specs.declared.Arena.{Arena}
+use Rattle.arena.specs.Flags.{isOn}
 use Rattle.arena.specs.Claiming.{runFresh}
 use Rattle.layer.specs.declared.Question.{Question}
 use Rattle.layer.specs.declared.Question.the-variants.{Idle, Committing, Purging, Reserving, GivingBack}
@@ -109,7 +110,7 @@ Mine p z (purging c) = Unit {0}
 
 -- what does not change of the record of an exclusive arena of n chunks from b on
 pub record Stays (b n : ℕ) (a : Arena) : Type 0 where
-  pub exclusive : a .exclusive ≡ true
+  pub exclusive : isOn (a .exclusive) ≡ true
   pub base : a .base ≡ b
   pub chunks : a .chunks ≡ n
 

@@ -17,6 +17,7 @@ use Rattle.runs.proofs.LowestLaws.{lowest-says}
 use Rattle.runs.proofs.SearchLaws.{and-both}
 use Rattle.options.specs.Options.{arenaAllowed}
 use Rattle.arena.specs.declared.Arena.{Arena}
+use Rattle.arena.specs.Flags.{isOn}
 use Rattle.arena.specs.Registering.{reservedArena}
 use Rattle.arena.specs.Claiming.{free, findRun}
 use Rattle.refusals.specs.declared.Refusal.the-variants.{NoRun}
@@ -48,7 +49,7 @@ eligible-test (negsuc x) i a e = ap not e
 eligible-fact : (id : ℤ) (i : ℕ) (a : Arena) → eligible id i a ≡ true → Eligible id i a
 unfolding eligible
 eligible-fact (pos x) i a e = eqb-true i x e
-eligible-fact (negsuc x) i a e = not-true (a .exclusive) e
+eligible-fact (negsuc x) i a e = not-true (isOn (a .exclusive)) e
 
 clear-starts : (a : Arena) (n s : ℕ) → ClearFrom a n s → Starts (free a) (a .chunks) n s
 clear-starts a n s h = record { room = h .0; all-free = λ j lo hi. ap not (h .1 j lo hi) }

@@ -14,6 +14,7 @@ use Rattle.runs.specs.declared.Found.the-variants.{At, Nothing}
 use Rattle.arena.specs.declared.Arena.{Arena}
 use Rattle.arena.specs.declared.Commitment.{Commitment}
 use Rattle.arena.specs.declared.Commitment.the-variants.{Untold, Committed, Uncommitted}
+use Rattle.arena.specs.Flags.{isOn}
 use Rattle.arena.specs.Registering.{noBits, eachBit, newArena, reservedArena, managedArena}
 use Rattle.arena.specs.Claiming.{runFresh, takeRun, giveBackRun, commitRun, dirtyRun, finishGrant}
 use Rattle.arena.specs.Releasing.{tellRun, pendRun, releaseRun}
@@ -185,7 +186,7 @@ module _ (b m : ℕ) (a : Arena) (x : Stays b m a) where
 
   pub release-stays : (s n : ℕ) (told : Commitment) (pending : Bool) (now delay : ℕ) → Stays b m (releaseRun a s n told pending now delay)
   release-stays s n told pending now delay = record {
-    exclusive = same told pending ∙ x .exclusive;
+    exclusive = ap isOn (same told pending) ∙ x .exclusive;
     base = release-range a s n told pending now delay .0 ∙ x .base;
     chunks = release-range a s n told pending now delay .1 ∙ x .chunks;
   }

@@ -11,6 +11,7 @@ use Rattle.runs.specs.declared.Found.the-variants.{At, Nothing}
 use Rattle.runs.specs.Lowest.{least}
 use Rattle.options.specs.Options.{arenaAllowed}
 use Rattle.arena.specs.declared.Arena.{Arena}
+use Rattle.arena.specs.Flags.{isOn}
 use Rattle.arena.specs.Claiming.{findRun, runCommitted, runFresh, takeRun, dirtyRun}
 use Rattle.layer.specs.declared.Settings.{Settings}
 use Rattle.layer.specs.declared.Question.the-variants.{Committing}
@@ -25,7 +26,7 @@ use Rattle.layer.specs.Registering.{tooLarge, askMemory}
 -- "A negative arena id means every arena that is not exclusive; other ids mean that one arena."
 unfoldable pub eligible : ℤ → ℕ → Arena → Bool
 eligible (pos x) i a = eqb i x
-eligible (negsuc x) i a = not (a .exclusive)
+eligible (negsuc x) i a = not (isOn (a .exclusive))
 
 -- arena i serves a claim of n at the id
 unfoldable pub serves : ℤ → ℕ → List Arena → ℕ → Bool

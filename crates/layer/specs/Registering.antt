@@ -11,6 +11,7 @@ use Rattle.runs.specs.declared.Found.{Found}
 use Rattle.runs.specs.declared.Found.the-variants.{At, Nothing}
 use Rattle.runs.specs.Lowest.{least}
 use Rattle.arena.specs.declared.Arena.{Arena}
+use Rattle.arena.specs.Flags.{isOn}
 use Rattle.arena.specs.Registering.{managedArena, adoptedArena, grownArena}
 use Rattle.arena.specs.Releasing.{stampRun}
 use Rattle.lookup.specs.Place.{endOf}
@@ -93,7 +94,7 @@ noWholeChunk S start size =
 
 -- "the owned, non-exclusive arena that ends at the block [..] if at most 1,024 result"
 unfoldable pub grows : ℕ → Arena → ℕ → ℕ → Bool
-grows S a address n = a .owned && (not (a .exclusive) && (eqb (endOf S a) address && leb (a .chunks + n) 1024))
+grows S a address n = isOn (a .owned) && (not (isOn (a .exclusive)) && (eqb (endOf S a) address && leb (a .chunks + n) 1024))
 
 -- ---- the calls
 

@@ -10,6 +10,7 @@ use Rattle.words.specs.Bits.{bitAt}
 use Rattle.options.specs.Options.{arenaAllowed}
 use Rattle.refusals.specs.declared.Refusal.the-variants.{NoRun}
 use Rattle.arena.specs.declared.Arena.{Arena}
+use Rattle.arena.specs.Flags.{isOn}
 use Rattle.arena.specs.Registering.{reservedArena}
 use Rattle.layer.specs.declared.Settings.{Settings}
 use Rattle.layer.specs.declared.Question.the-variants.{Idle, Reserving}
@@ -28,7 +29,7 @@ use Rattle.layer.specs.History.{Layer, Registrable}
 -- "A negative arena id means every arena that is not exclusive; other ids mean that one arena."
 abbrev pub Eligible : ℤ → ℕ → Arena → Type 0
 Eligible (pos x) i a = i ≡ x
-Eligible (negsuc x) i a = a .exclusive ≡ false
+Eligible (negsuc x) i a = isOn (a .exclusive) ≡ false
 
 -- n neighbouring chunks from s on, their used bits clear
 abbrev pub ClearFrom : Arena → ℕ → ℕ → Type 0

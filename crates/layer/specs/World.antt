@@ -67,8 +67,8 @@ blank =
     record {
       base = 0;
       chunks = 0;
-      exclusive = false;
-      owned = false;
+      exclusive = 0;
+      owned = 0;
       node = pos 0;
       deadline = 0;
       used = noBits;

@@ -39,7 +39,7 @@ short = worldOf (example .records) (replicate 32767 0) (calm 1 false)
 abbrev pub sweeping : World
 sweeping =
     worldOf
-    (set (replicate 32 blank) 0 (record { base = 1073741824; chunks = 4; exclusive = false; owned = true; node = negsuc 0; deadline = 0; used = 1 ∷ replicate 31 0; dirty = replicate 32 0; committed = replicate 32 0; pending = 1 ∷ replicate 31 0 }))
+    (set (replicate 32 blank) 0 (record { base = 1073741824; chunks = 4; exclusive = 0; owned = 1; node = negsuc 0; deadline = 0; used = 1 ∷ replicate 31 0; dirty = replicate 32 0; committed = replicate 32 0; pending = 1 ∷ replicate 31 0 }))
     (replicate 32768 0)
     (stateOf 1 false (Purging 0 0 (record { force = true; now = 1; delay = 0; decommit = false; purged = 0 })))
 

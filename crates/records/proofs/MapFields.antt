@@ -33,46 +33,46 @@ look-same : (q : Share) (f : List ℕ) (b o : ℕ) → partAt Row q (map (λ (v 
 look-same q f b o = ap (λ (l : List ℕ). partAt Row q l b o) (map-id f)
 
 module _ {M : Type 1} (𝓤 : URA M) (H : Heap 𝓤) (A : Atoms 𝓤) (W : Given 𝓤 H A) where
-  pub used-cut : Cut 𝓤 H A T.the-row Row 28 (λ a. a .used) withUsed
+  pub used-cut : Cut 𝓤 H A T.the-row Row 32 (λ a. a .used) withUsed
   used-cut = record {
-    kept = kept-record-as T.the-type T′.the-laws 6 28 Row (λ f. f) (λ f. f) same-row row-same (T.struct .as-values) (T.struct .Ghost) (T.struct .make) (λ v. tt) (λ x. refl) (λ v g. refl) M 𝓤 H A;
-    apart = λ x b o. record-apart-as T.the-type T′.the-laws 6 28 Row (λ f. f) (λ f. f) same-row row-same (T.struct .as-values) (T.struct .Ghost) (T.struct .make) (λ v. tt) (λ x. refl) (λ v g. refl) 𝓤 H A W refl refl x b o;
-    fill = λ x f b o. record-fill-as T.the-type T′.the-laws 6 28 Row (λ f. f) (λ f. f) same-row row-same (T.struct .as-values) (T.struct .Ghost) (T.struct .make) (λ v. tt) (λ x. refl) (λ v g. refl) refl M 𝓤 H A W x f b o;
+    kept = kept-record-as T.the-type T′.the-laws 6 32 Row (λ f. f) (λ f. f) same-row row-same (T.struct .as-values) (T.struct .Ghost) (T.struct .make) (λ v. tt) (λ x. refl) (λ v g. refl) M 𝓤 H A;
+    apart = λ x b o. record-apart-as T.the-type T′.the-laws 6 32 Row (λ f. f) (λ f. f) same-row row-same (T.struct .as-values) (T.struct .Ghost) (T.struct .make) (λ v. tt) (λ x. refl) (λ v g. refl) 𝓤 H A W refl refl x b o;
+    fill = λ x f b o. record-fill-as T.the-type T′.the-laws 6 32 Row (λ f. f) (λ f. f) same-row row-same (T.struct .as-values) (T.struct .Ghost) (T.struct .make) (λ v. tt) (λ x. refl) (λ v g. refl) refl M 𝓤 H A W x f b o;
     same = λ a. refl;
   }
 
-  pub dirty-cut : Cut 𝓤 H A T.the-row Row 156 (λ a. a .dirty) withDirty
+  pub dirty-cut : Cut 𝓤 H A T.the-row Row 160 (λ a. a .dirty) withDirty
   dirty-cut = record {
-    kept = kept-record-as T.the-type T′.the-laws 7 156 Row (λ f. f) (λ f. f) same-row row-same (T.struct .as-values) (T.struct .Ghost) (T.struct .make) (λ v. tt) (λ x. refl) (λ v g. refl) M 𝓤 H A;
-    apart = λ x b o. record-apart-as T.the-type T′.the-laws 7 156 Row (λ f. f) (λ f. f) same-row row-same (T.struct .as-values) (T.struct .Ghost) (T.struct .make) (λ v. tt) (λ x. refl) (λ v g. refl) 𝓤 H A W refl refl x b o;
-    fill = λ x f b o. record-fill-as T.the-type T′.the-laws 7 156 Row (λ f. f) (λ f. f) same-row row-same (T.struct .as-values) (T.struct .Ghost) (T.struct .make) (λ v. tt) (λ x. refl) (λ v g. refl) refl M 𝓤 H A W x f b o;
+    kept = kept-record-as T.the-type T′.the-laws 7 160 Row (λ f. f) (λ f. f) same-row row-same (T.struct .as-values) (T.struct .Ghost) (T.struct .make) (λ v. tt) (λ x. refl) (λ v g. refl) M 𝓤 H A;
+    apart = λ x b o. record-apart-as T.the-type T′.the-laws 7 160 Row (λ f. f) (λ f. f) same-row row-same (T.struct .as-values) (T.struct .Ghost) (T.struct .make) (λ v. tt) (λ x. refl) (λ v g. refl) 𝓤 H A W refl refl x b o;
+    fill = λ x f b o. record-fill-as T.the-type T′.the-laws 7 160 Row (λ f. f) (λ f. f) same-row row-same (T.struct .as-values) (T.struct .Ghost) (T.struct .make) (λ v. tt) (λ x. refl) (λ v g. refl) refl M 𝓤 H A W x f b o;
     same = λ a. refl;
   }
 
-  pub committed-cut : Cut 𝓤 H A T.the-row Row 284 (λ a. a .committed) withCommitted
+  pub committed-cut : Cut 𝓤 H A T.the-row Row 288 (λ a. a .committed) withCommitted
   committed-cut = record {
-    kept = kept-record-as T.the-type T′.the-laws 8 284 Row (λ f. f) (λ f. f) same-row row-same (T.struct .as-values) (T.struct .Ghost) (T.struct .make) (λ v. tt) (λ x. refl) (λ v g. refl) M 𝓤 H A;
-    apart = λ x b o. record-apart-as T.the-type T′.the-laws 8 284 Row (λ f. f) (λ f. f) same-row row-same (T.struct .as-values) (T.struct .Ghost) (T.struct .make) (λ v. tt) (λ x. refl) (λ v g. refl) 𝓤 H A W refl refl x b o;
-    fill = λ x f b o. record-fill-as T.the-type T′.the-laws 8 284 Row (λ f. f) (λ f. f) same-row row-same (T.struct .as-values) (T.struct .Ghost) (T.struct .make) (λ v. tt) (λ x. refl) (λ v g. refl) refl M 𝓤 H A W x f b o;
+    kept = kept-record-as T.the-type T′.the-laws 8 288 Row (λ f. f) (λ f. f) same-row row-same (T.struct .as-values) (T.struct .Ghost) (T.struct .make) (λ v. tt) (λ x. refl) (λ v g. refl) M 𝓤 H A;
+    apart = λ x b o. record-apart-as T.the-type T′.the-laws 8 288 Row (λ f. f) (λ f. f) same-row row-same (T.struct .as-values) (T.struct .Ghost) (T.struct .make) (λ v. tt) (λ x. refl) (λ v g. refl) 𝓤 H A W refl refl x b o;
+    fill = λ x f b o. record-fill-as T.the-type T′.the-laws 8 288 Row (λ f. f) (λ f. f) same-row row-same (T.struct .as-values) (T.struct .Ghost) (T.struct .make) (λ v. tt) (λ x. refl) (λ v g. refl) refl M 𝓤 H A W x f b o;
     same = λ a. refl;
   }
 
-  pub pending-cut : Cut 𝓤 H A T.the-row Row 412 (λ a. a .pending) withPending
+  pub pending-cut : Cut 𝓤 H A T.the-row Row 416 (λ a. a .pending) withPending
   pending-cut = record {
-    kept = kept-record-as T.the-type T′.the-laws 9 412 Row (λ f. f) (λ f. f) same-row row-same (T.struct .as-values) (T.struct .Ghost) (T.struct .make) (λ v. tt) (λ x. refl) (λ v g. refl) M 𝓤 H A;
-    apart = λ x b o. record-apart-as T.the-type T′.the-laws 9 412 Row (λ f. f) (λ f. f) same-row row-same (T.struct .as-values) (T.struct .Ghost) (T.struct .make) (λ v. tt) (λ x. refl) (λ v g. refl) 𝓤 H A W refl refl x b o;
-    fill = λ x f b o. record-fill-as T.the-type T′.the-laws 9 412 Row (λ f. f) (λ f. f) same-row row-same (T.struct .as-values) (T.struct .Ghost) (T.struct .make) (λ v. tt) (λ x. refl) (λ v g. refl) refl M 𝓤 H A W x f b o;
+    kept = kept-record-as T.the-type T′.the-laws 9 416 Row (λ f. f) (λ f. f) same-row row-same (T.struct .as-values) (T.struct .Ghost) (T.struct .make) (λ v. tt) (λ x. refl) (λ v g. refl) M 𝓤 H A;
+    apart = λ x b o. record-apart-as T.the-type T′.the-laws 9 416 Row (λ f. f) (λ f. f) same-row row-same (T.struct .as-values) (T.struct .Ghost) (T.struct .make) (λ v. tt) (λ x. refl) (λ v g. refl) 𝓤 H A W refl refl x b o;
+    fill = λ x f b o. record-fill-as T.the-type T′.the-laws 9 416 Row (λ f. f) (λ f. f) same-row row-same (T.struct .as-values) (T.struct .Ghost) (T.struct .make) (λ v. tt) (λ x. refl) (λ v g. refl) refl M 𝓤 H A W x f b o;
     same = λ a. refl;
   }
 
-  pub used-look : Look 𝓤 H A T.the-row Row 28 (λ a. a .used)
-  used-look = field-look 𝓤 H A W T.the-type T′.the-laws 6 28 refl refl (T.struct .as-values) (λ x. refl) (λ v. refl) Row (λ a. a .used) (λ q x b o. look-same q (x .used) b o)
+  pub used-look : Look 𝓤 H A T.the-row Row 32 (λ a. a .used)
+  used-look = field-look 𝓤 H A W T.the-type T′.the-laws 6 32 refl refl (T.struct .as-values) (λ x. refl) (λ v. refl) Row (λ a. a .used) (λ q x b o. look-same q (x .used) b o)
 
-  pub dirty-look : Look 𝓤 H A T.the-row Row 156 (λ a. a .dirty)
-  dirty-look = field-look 𝓤 H A W T.the-type T′.the-laws 7 156 refl refl (T.struct .as-values) (λ x. refl) (λ v. refl) Row (λ a. a .dirty) (λ q x b o. look-same q (x .dirty) b o)
+  pub dirty-look : Look 𝓤 H A T.the-row Row 160 (λ a. a .dirty)
+  dirty-look = field-look 𝓤 H A W T.the-type T′.the-laws 7 160 refl refl (T.struct .as-values) (λ x. refl) (λ v. refl) Row (λ a. a .dirty) (λ q x b o. look-same q (x .dirty) b o)
 
-  pub committed-look : Look 𝓤 H A T.the-row Row 284 (λ a. a .committed)
-  committed-look = field-look 𝓤 H A W T.the-type T′.the-laws 8 284 refl refl (T.struct .as-values) (λ x. refl) (λ v. refl) Row (λ a. a .committed) (λ q x b o. look-same q (x .committed) b o)
+  pub committed-look : Look 𝓤 H A T.the-row Row 288 (λ a. a .committed)
+  committed-look = field-look 𝓤 H A W T.the-type T′.the-laws 8 288 refl refl (T.struct .as-values) (λ x. refl) (λ v. refl) Row (λ a. a .committed) (λ q x b o. look-same q (x .committed) b o)
 
-  pub pending-look : Look 𝓤 H A T.the-row Row 412 (λ a. a .pending)
-  pending-look = field-look 𝓤 H A W T.the-type T′.the-laws 9 412 refl refl (T.struct .as-values) (λ x. refl) (λ v. refl) Row (λ a. a .pending) (λ q x b o. look-same q (x .pending) b o)
+  pub pending-look : Look 𝓤 H A T.the-row Row 416 (λ a. a .pending)
+  pending-look = field-look 𝓤 H A W T.the-type T′.the-laws 9 416 refl refl (T.struct .as-values) (λ x. refl) (λ v. refl) Row (λ a. a .pending) (λ q x b o. look-same q (x .pending) b o)

@@ -22,8 +22,8 @@ pub fn blank_arena() -> Arena
     Arena {
         base: 0,
         chunks: 0,
-        exclusive: false,
-        owned: false,
+        exclusive: 0,
+        owned: 0,
         node: 0,
         deadline: 0,
         used: [0; 32],

@@ -15,6 +15,7 @@ use Rattle.runs.specs.Lowest.{least}
 use Rattle.runs.proofs.LowestLaws.{First, first-says}
 use Rattle.runs.proofs.SearchLaws.{and-both}
 use Rattle.arena.specs.declared.Arena.{Arena}
+use Rattle.arena.specs.Flags.{isOn}
 use Rattle.arena.specs.Registering.{adoptedArena, grownArena}
 use Rattle.lookup.specs.Place.{endOf}
 use Rattle.layer.specs.declared.Settings.{Settings}
@@ -40,7 +41,7 @@ pub growing-fits : (S : ℕ) (a : Arena) (address n : ℕ) → grows S a address
 unfolding grows
 growing-fits S a address n e =
     leb-true (a .chunks + n) 1024
-    (and-both (eqb (endOf S a) address) _ (and-both (not (a .exclusive)) _ (and-both (a .owned) _ e .1) .1) .1)
+    (and-both (eqb (endOf S a) address) _ (and-both (not (isOn (a .exclusive))) _ (and-both (isOn (a .owned)) _ e .1) .1) .1)
 
 pub growing-room : (S : ℕ) (l : List Arena) (address n k i : ℕ) → least (λ j. grows S (at l j) address n) 0 k ≡ At i → at l i .chunks + n ≤ 1024
 growing-room S l address n k i e = growing-fits S (at l i) address n (scan-facts (λ j. grows S (at l j) address n) k i e .1)

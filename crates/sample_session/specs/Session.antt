@@ -10,7 +10,8 @@ use Rattle.layer.specs.declared.State.{State}
 use Rattle.layer.specs.declared.Reply.{Reply}
 use Rattle.layer.specs.World.{stateOf}
 use Rattle.surface.specs.declared.reply.ReplyNumbers.{ReplyNumbers}
-use Rattle.surface.specs.Numbers.{flag, numbersOf}
+use Rattle.arena.specs.Flags.{asFlag}
+use Rattle.surface.specs.Numbers.{numbersOf}
 use Rattle.surface.specs.Told.{toldOf, kindOf}
 use Rattle.surface.specs.Replies.{replyOf}
 use Rattle.samples.specs.declared.lines.Line.{Line}
@@ -91,8 +92,8 @@ shifted x n = x * 2 ^ n % 18446744073709551616
 unfoldable pub wordOf : ℕ → Bool → Bool → Bool → Bool → Bool → Bool → ℕ → ℕ → ℕ
 wordOf kind fresh committed owns decommit commit large id count =
     bitOr (bitOr (bitOr kind
-    (bitOr (bitOr (shifted (flag fresh) 8) (shifted (flag committed) 9)) (shifted (flag owns) 10)))
-    (bitOr (bitOr (shifted (flag decommit) 11) (shifted (flag commit) 12)) (shifted (flag large) 13)))
+    (bitOr (bitOr (shifted (asFlag fresh) 8) (shifted (asFlag committed) 9)) (shifted (asFlag owns) 10)))
+    (bitOr (bitOr (shifted (asFlag decommit) 11) (shifted (asFlag commit) 12)) (shifted (asFlag large) 13)))
     (bitOr (shifted id 16) (shifted count 32))
 
 unfoldable pub saidOf : ReplyNumbers → Said

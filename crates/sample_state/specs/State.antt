@@ -6,6 +6,7 @@ use lib.Dec.{ltb}
 use lib.IntN.{ℤ, pos, negsuc}
 use lib.ListN.{length, getD}
 use Rattle.arena.specs.declared.Arena.{Arena}
+use Rattle.arena.specs.Flags.{isOn}
 use Rattle.layer.specs.declared.State.{State}
 use Rattle.layer.specs.World.{blank}
 use Rattle.samples.specs.Hash.{withWord, withWords}
@@ -26,7 +27,7 @@ withNumbers h base chunks own node deadline =
     withWord (withWord (withWord (withWord (withWord (withWord h (base % 4294967296)) (base / 4294967296)) (chunks % 4294967296)) own) node) deadline
 
 unfoldable pub withHead : ℕ → Arena → ℕ
-withHead h a = withNumbers h (a .base) (a .chunks) (owner (a .exclusive) (a .owned)) (nodeWord (a .node)) (a .deadline)
+withHead h a = withNumbers h (a .base) (a .chunks) (owner (isOn (a .exclusive)) (isOn (a .owned))) (nodeWord (a .node)) (a .deadline)
 
 -- the words of the four maps
 unfoldable pub withMaps : ℕ → Arena → ℕ

@@ -50,7 +50,9 @@ fn with_numbers(h: u32, base: u64, chunks: u64, own: u32, node: u32, deadline: u
 fn with_head(h: u32, a: Arena) -> u32
     ensures { λ r. ⌜ r ≡ withHead h a ⌝ }
 {
-    let own = owner(a.exclusive, a.owned);
+    let exclusive = arena::is_on(a.exclusive);
+    let owned = arena::is_on(a.owned);
+    let own = owner(exclusive, owned);
     let node = node_word(a.node);
     with_numbers(h, a.base, a.chunks as u64, own, node, a.deadline)
 }

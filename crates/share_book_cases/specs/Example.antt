@@ -42,8 +42,8 @@ own used dirty committed pending deadline =
     record {
       base = base;
       chunks = 3;
-      exclusive = true;
-      owned = true;
+      exclusive = 1;
+      owned = 1;
       node = negsuc 0;
       deadline = deadline;
       used = row used;
@@ -57,8 +57,8 @@ shared used =
     record {
       base = elsewhere;
       chunks = 2;
-      exclusive = false;
-      owned = false;
+      exclusive = 0;
+      owned = 0;
       node = negsuc 0;
       deadline = 0;
       used = row used;

@@ -15,11 +15,12 @@ use Rattle.layer.specs.declared.Unusable.{Unusable}
 use Rattle.layer.specs.declared.Unusable.the-variants.{Count, Misaligned, Full}
 use Rattle.layer.specs.World as W
 use Rattle.surface.specs.declared.StateNumbers.{StateNumbers}
-use Rattle.surface.specs.Numbers.{flag, questionOf, stateOf, stateNumbers, questionNumbers, numbersOf, sameNumbers, isState}
+use Rattle.arena.specs.Flags.{asFlag}
+use Rattle.surface.specs.Numbers.{questionOf, stateOf, stateNumbers, questionNumbers, numbersOf, sameNumbers, isState}
 
 -- ---- read as they were written
 
-flag-one : (b : Bool) → eqb (flag b) 1 ≡ b
+flag-one : (b : Bool) → eqb (asFlag b) 1 ≡ b
 flag-one true = refl
 flag-one false = refl
 
@@ -57,7 +58,7 @@ pub state-read : (s : State) → stateOf (numbersOf s) ≡ s
 unfolding stateOf numbersOf
 state-read s =
     let k = s .count in
-    let m = flag (s .mark) in
+    let m = asFlag (s .mark) in
     let q = s .question in
     λ i. W.stateOf (count-read k m q i) ((ap (λ (x : ℕ). eqb x 1) (mark-read k m q) ∙ flag-one (s .mark)) i) (question-read k m q i)
 

@@ -3,6 +3,7 @@ use mathlib.Core.Bool.{Bool, true, false, cond, _&&_}
 use Prim.Native.Nat.{ℕ}
 use lib.Dec.{eqb}
 use Rattle.refusals.specs.Number.{number}
+use Rattle.arena.specs.Flags.{asFlag}
 use Rattle.layer.specs.declared.State.{State}
 use Rattle.layer.specs.declared.Sweep.{Sweep}
 use Rattle.layer.specs.declared.Question.{Question}
@@ -14,12 +15,7 @@ use Rattle.layer.specs.declared.Unusable.the-variants.{Count, Misaligned, Full}
 use Rattle.layer.specs.Answering.{causeRefusal}
 use Rattle.surface.specs.declared.StateNumbers.{StateNumbers}
 
--- a flag as it is written; as it is read, it is true if it is 1
-abbrev pub flag : Bool → ℕ
-flag true = 1
-flag false = 0
-
--- ---- the state, read from numbers
+-- ---- the state, read from numbers. A flag of it is on if it is 1: a state that has another number there than 0 or 1 is none.
 
 abbrev pub sweepOf : StateNumbers → Sweep
 sweepOf f =
@@ -76,7 +72,7 @@ waitingChunks (Claim n commits) = n
 
 abbrev pub waitingCommits : Waiting → ℕ
 waitingCommits Reserve = 0
-waitingCommits (Claim n commits) = flag commits
+waitingCommits (Claim n commits) = asFlag commits
 
 -- 12, 7 or 13
 abbrev pub causeNumber : Unusable → ℕ
@@ -87,14 +83,14 @@ abbrev pub questionNumbers : ℕ → ℕ → Question → StateNumbers
 questionNumbers k m Idle = stateNumbers k m 0 0 0 0 0 0 0 0 0 0 0 0 0 0 0 0
 questionNumbers k m (Committing id start n) = stateNumbers k m 1 id start n 0 0 0 0 0 0 0 0 0 0 0 0
 questionNumbers k m (Purging id chunk w) =
-    stateNumbers k m 2 id chunk 0 0 0 0 0 0 0 0 (flag (w .force)) (w .now) (w .delay) (flag (w .decommit)) (w .purged)
+    stateNumbers k m 2 id chunk 0 0 0 0 0 0 0 0 (asFlag (w .force)) (w .now) (w .delay) (asFlag (w .decommit)) (w .purged)
 questionNumbers k m (Reserving chunks bytes commit exclusive w) =
-    stateNumbers k m 3 0 0 (waitingChunks w) chunks bytes (flag commit) (flag exclusive) (waits w) (waitingCommits w) 0 0 0 0 0 0
+    stateNumbers k m 3 0 0 (waitingChunks w) chunks bytes (asFlag commit) (asFlag exclusive) (waits w) (waitingCommits w) 0 0 0 0 0 0
 questionNumbers k m (GivingBack cause w) =
     stateNumbers k m 4 0 0 (waitingChunks w) 0 0 0 0 (waits w) (waitingCommits w) (causeNumber cause) 0 0 0 0 0
 
 unfoldable pub numbersOf : State → StateNumbers
-numbersOf s = questionNumbers (s .count) (flag (s .mark)) (s .question)
+numbersOf s = questionNumbers (s .count) (asFlag (s .mark)) (s .question)
 
 -- ---- whether numbers are a state's
 

@@ -1,18 +1,15 @@
 -- What an exported call is told in numbers, as include/sirqobal.h declares them. Assumes nothing.
-use mathlib.Core.Bool.{Bool, cond, not}
+use mathlib.Core.Bool.{Bool, cond}
 use Prim.Native.Nat.{ℕ}
 use lib.Dec.{eqb}
 use lib.IntN.{ℤ, pos, negsuc}
+use Rattle.arena.specs.Flags.{isOn}
 use Rattle.arena.specs.declared.Commitment.{Commitment}
 use Rattle.arena.specs.declared.Commitment.the-variants.{Untold, Committed, Uncommitted}
 use Rattle.layer.specs.declared.Settings.{Settings}
 use Rattle.layer.specs.declared.Kind.{Kind}
 use Rattle.layer.specs.declared.Kind.the-variants.{ForCommit, ForPurge, ForMemory, ForGiveBack, ForNone}
 use Rattle.surface.specs.declared.told.SettingsNumbers.{SettingsNumbers}
-
--- a flag of the settings is on unless it is 0
-abbrev pub isOn : ℕ → Bool
-isOn x = not (eqb x 0)
 
 abbrev pub pageOf : Bool → ℕ → ℕ
 pageOf ok page = cond ok page 0

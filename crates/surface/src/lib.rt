@@ -5,7 +5,8 @@ pub mod told;
 
 ghost use mathlib.Core.Path.{_≡_};
 ghost use Rattle.layer.specs.declared.Question.the-variants.{Purging};
-ghost use Rattle.surface.specs.Numbers.{flag, sweepOf, waitingOf, causeOf, questionOf, stateOf, stateNumbers, waits, waitingChunks, waitingCommits, causeNumber, questionNumbers, numbersOf, sameNumbers, isState};
+ghost use Rattle.arena.specs.Flags.{asFlag};
+ghost use Rattle.surface.specs.Numbers.{sweepOf, waitingOf, causeOf, questionOf, stateOf, stateNumbers, waits, waitingChunks, waitingCommits, causeNumber, questionNumbers, numbersOf, sameNumbers, isState};
 use layer::Question;
 use layer::State;
 use layer::Sweep;
@@ -127,12 +128,6 @@ pub fn state_of(f: StateNumbers) -> State
 
 // ---- the state, written in numbers
 
-fn flag(b: bool) -> u32
-    ensures { λ r. ⌜ r ≡ flag b ⌝ }
-{
-    b as u32
-}
-
 fn waits(w: Waiting) -> u32
     ensures { λ r. ⌜ r ≡ waits w ⌝ }
 {
@@ -156,7 +151,7 @@ fn waiting_commits(w: Waiting) -> u32
 {
     match w {
         Waiting::Reserve => 0,
-        Waiting::Claim { commits, .. } => flag(commits),
+        Waiting::Claim { commits, .. } => arena::as_flag(commits),
     }
 }
 
@@ -242,7 +237,7 @@ fn memory_numbers(
     waiting: Waiting,
     cause: u32,
 ) -> StateNumbers
-    ensures { λ r. ⌜ r ≡ stateNumbers count mark question 0 0 (waitingChunks waiting) chunks bytes (flag commit) (flag exclusive) (waits waiting) (waitingCommits waiting) cause 0 0 0 0 0 ⌝ }
+    ensures { λ r. ⌜ r ≡ stateNumbers count mark question 0 0 (waitingChunks waiting) chunks bytes (asFlag commit) (asFlag exclusive) (waits waiting) (waitingCommits waiting) cause 0 0 0 0 0 ⌝ }
 {
     let n = waiting_chunks(waiting);
     let w = waits(waiting);

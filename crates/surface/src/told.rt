@@ -30,10 +30,12 @@ pub fn settings_of(ok: bool, s: SettingsNumbers) -> Settings
     ensures { λ r. ⌜ r ≡ settingsOf ok s ⌝ }
 {
     let page = page_of(ok, s.page);
+    let decommits = arena::is_on(s.decommits);
+    let off = arena::is_on(s.off);
     Settings {
         delay: s.delay,
-        decommits: s.decommits != 0,
-        off: s.off != 0,
+        decommits,
+        off,
         reserve: s.reserve,
         page,
     }

@@ -223,11 +223,11 @@ module _ {M : Type 1} {𝓤 : URA M} {H : Heap 𝓤} {A : Atoms 𝓤} {K : Type 
 
   pub passes-by-at : K → Site K W Γ C E #sweeping·passes-by xs G after → (mem : Memory → SProp 𝓤) (run : Routine → Fun 𝓤) → Triple 𝓤 (C #sweeping·passes-by) (PassesBy 𝓤 H A mem run)
       → (L : Loan) (ys : List Arena) (j : ℕ) → j < length ys → (w : Sweep) (vw : Val) → Is X.the-row w (vw ∷ [])
-      → ((h : Item 𝓤) → Opds K W (h ∷ Γ) E xs (vptr (L .b) (j * 544 + L .o + 24) ∷ vw ∷ []))
+      → ((h : Item 𝓤) → Opds K W (h ∷ Γ) E xs (vptr (L .b) (j * 544 + L .o + 28) ∷ vw ∷ []))
       → Seq K W ((‵ (shared T.the-row L ys) ⊛ i) ∷ Γ) (after (vbool (passes (at ys j .deadline) w)))
       → Seq K W ((‵ (shared T.the-row L ys) ⊛ i) ∷ Γ) G
   passes-by-at t site mem run known L ys j l w vw gw ops k =
-      look-part-call t site T.the-row u32 24 (λ a. a .deadline) (field-look 𝓤 H A W T.the-type T′.the-laws 5 24 refl refl (T.struct .as-values) (λ x. refl) (λ v. refl) u32 (λ a. a .deadline) (λ q x b o. refl))
+      look-part-call t site T.the-row u32 28 (λ a. a .deadline) (field-look 𝓤 H A W T.the-type T′.the-laws 5 28 refl refl (T.struct .as-values) (λ x. refl) (λ v. refl) u32 (λ a. a .deadline) (λ q x b o. refl))
       (LL.vals T.the-type T′.the-laws) (LL.tells T.the-type T′.the-laws) (LL.copy T.the-type T′.the-copy 𝓤 H A W) L bool (plain (λ _. X.the-row) ∷ []) (yes, tt) (passes-by′.clauses 𝓤 H A mem run) known ys j blank l (λ _. (w, tt)) (λ _. (vw ∷ [], tt))
       (λ _. owns-make 𝓤 H A (X.the-row ∷ []) (Ises (X.the-row ∷ [])) (LL.makes X.the-type X′.the-plain 𝓤 H A, tt) (w, tt) (vw ∷ [], tt) (gw, tt)) (λ _ _. tt) (λ _ _. id⊢ 𝓤 _)
       (λ r. r ≡ passes (at ys j .deadline) w) (λ _ _ r ws. id⊢ 𝓤 _) (λ h _. ops h) (λ v r is e. subst (λ (u : Val). Seq K W ((‵ (shared T.the-row L ys) ⊛ i) ∷ Γ) (after u)) (sym (ap only (bool-tells r (v ∷ []) is) ∙ ap vbool e)) k)

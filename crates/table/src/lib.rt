@@ -38,8 +38,8 @@ fn no_head() -> Head
     Head {
         base: 0,
         chunks: 0,
-        exclusive: false,
-        owned: false,
+        exclusive: 0,
+        owned: 0,
     }
 }
 

@@ -10,6 +10,7 @@ use lib.ListN.{set}
 use Rattle.refusals.specs.declared.Refusal.{Refusal}
 use Rattle.refusals.specs.declared.Refusal.the-variants.{NoSuchQuestion, Range, NoRun, ChunkCount, TableFull}
 use Rattle.arena.specs.declared.Arena.{Arena}
+use Rattle.arena.specs.Flags.{isOn}
 use Rattle.arena.specs.Registering.{noBits}
 use Rattle.arena.specs.Record.{withPending}
 use Rattle.arena.specs.Claiming.{dirtyRun}
@@ -123,7 +124,7 @@ releasesNothing = butWhere (λ w c. isRelease c) (λ w o. outcome (o .answer) w)
 
 abbrev pub sharedCommit : World → Question → Bool
 sharedCommit w Idle = false
-sharedCommit w (Committing i s n) = not (at (w .records) i .exclusive)
+sharedCommit w (Committing i s n) = not (isOn (at (w .records) i .exclusive))
 sharedCommit w (Purging i j v) = false
 sharedCommit w (Reserving chunks bytes commit exclusive waiting) = false
 sharedCommit w (GivingBack cause waiting) = false

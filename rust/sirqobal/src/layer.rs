@@ -466,7 +466,11 @@ impl fmt::Display for Layer {
                 arena.base,
                 arena.chunks * 32,
                 arena.chunks,
-                if arena.exclusive { " (exclusive)" } else { "" }
+                if arena.is_exclusive() {
+                    " (exclusive)"
+                } else {
+                    ""
+                }
             )?;
         }
         Ok(())

@@ -29,16 +29,17 @@ pub const STAMPS: usize = 32_768;
 /// [`Reply::number`] of a call that stopped with a question.
 pub const QUESTION: u32 = 255;
 
-/// One arena. Bit j % 32 of word j / 32 of each map is chunk j.
+/// One arena. Bit j % 32 of word j / 32 of each map is chunk j. A flag is on unless it is 0;
+/// registering writes 0 or 1.
 #[repr(C)]
 #[derive(Clone, Copy, Debug, PartialEq, Eq)]
 pub struct Arena {
     pub base: u64,
     pub chunks: usize,
-    /// Serves only claims that name its id.
-    pub exclusive: bool,
-    /// The layer's own range, not managed for the host.
-    pub owned: bool,
+    /// A flag: see [`is_exclusive`](Arena::is_exclusive).
+    pub exclusive: u32,
+    /// A flag: see [`is_owned`](Arena::is_owned).
+    pub owned: u32,
     /// The NUMA node, only stored.
     pub node: i32,
     /// When the next sweep is due, in milliseconds; 0 is never.
@@ -54,8 +55,8 @@ impl Arena {
     pub const EMPTY: Arena = Arena {
         base: 0,
         chunks: 0,
-        exclusive: false,
-        owned: false,
+        exclusive: 0,
+        owned: 0,
         node: 0,
         deadline: 0,
         used: [0; 32],
@@ -63,6 +64,16 @@ impl Arena {
         committed: [0; 32],
         pending: [0; 32],
     };
+
+    /// Serves only claims that name its id.
+    pub const fn is_exclusive(&self) -> bool {
+        self.exclusive != 0
+    }
+
+    /// The layer's own range, not managed for the host.
+    pub const fn is_owned(&self) -> bool {
+        self.owned != 0
+    }
 }
 
 /// The layer's own state. What the open question does not use is 0.

@@ -10,6 +10,7 @@ use borrow.Author.Tests.{lt-ltb, ltb-true, le-leb, leb-true, eqb-true, eq-eqb, n
 use lib.Dec.{eqb, ltb}
 use Rattle.runs.proofs.SearchLaws.{same, and-both}
 use Rattle.arena.specs.declared.Arena.{Arena}
+use Rattle.arena.specs.Flags.{isOn}
 use Rattle.lookup.specs.Place.{bytesOf, endOf, isInside}
 use Rattle.lookup.proofs.SoundLaws.{never}
 use Rattle.layer.specs.Table.{meets}
@@ -70,20 +71,20 @@ module _ (S : ℕ) (a : Arena) (base bytes : ℕ) where
 
 module _ (S : ℕ) (a : Arena) (address n : ℕ) where
   pub record Growing : Type 0 where
-    pub owned : a .owned ≡ true
-    pub shared : a .exclusive ≡ false
+    pub owned : isOn (a .owned) ≡ true
+    pub shared : isOn (a .exclusive) ≡ false
     pub ends : a .base + a .chunks * S ≡ address
     pub few : a .chunks + n ≤ 1024
 
   pub grows-facts : grows S a address n ≡ true → Growing
   unfolding grows endOf bytesOf
   grows-facts e =
-      let p = and-both (a .owned) _ e in
-      let q = and-both (not (a .exclusive)) _ (p .1) in
+      let p = and-both (isOn (a .owned)) _ e in
+      let q = and-both (not (isOn (a .exclusive))) _ (p .1) in
       let r = and-both (eqb (a .base + a .chunks * S) address) _ (q .1) in
       record {
         owned = p .0;
-        shared = not-true (a .exclusive) (q .0);
+        shared = not-true (isOn (a .exclusive)) (q .0);
         ends = eqb-true (a .base + a .chunks * S) address (r .0);
         few = leb-true (a .chunks + n) 1024 (r .1);
       }

@@ -1,5 +1,6 @@
 -- `surface::memory_numbers` meets its contract. Assumes nothing.
-use Rattle.surface.specs.Numbers.{flag, stateNumbers}
+use Rattle.arena.specs.Flags.{asFlag}
+use Rattle.surface.specs.Numbers.{stateNumbers}
 use borrow.Author.Needs.{needs}
 use Rattle.surface.proofs.memory_numbers.Statement.{statement}
 use Rattle.surface.proofs.memory_numbers.Tie as tie
@@ -25,7 +26,7 @@ returns c =
     let n = w .before in
     let a = n .before .args in
     λ i.
-    stateNumbers (a .count) (a .mark) (a .question) 0 0 (n .waiting-chunks .ensures i) (a .chunks) (a .bytes) (flag (a .commit)) (flag (a .exclusive)) (w .waits .ensures i) (c .waiting-commits .ensures i) (a .cause) 0 0 0 0 0
+    stateNumbers (a .count) (a .mark) (a .question) 0 0 (n .waiting-chunks .ensures i) (a .chunks) (a .bytes) (asFlag (a .commit)) (asFlag (a .exclusive)) (w .waits .ensures i) (c .waiting-commits .ensures i) (a .cause) 0 0 0 0 0
 
 pub memory-numbers-spec : {M : Type 1} → statement M
 memory-numbers-spec =

@@ -119,11 +119,11 @@ module _ {M : Type 1} (𝓤 : URA M) (H : Heap 𝓤) (A : Atoms 𝓤) (W : Given
         assigns ! (bin ! (load ! (from ! (stop !)) (look ! 33 refl)) (lit ! tt) (record { fits = fits room l })) (from ! (stop !)) (init ! 19 refl (tt, record { fits = fits room l })) $
         assigns ! (bin ! (load ! (from ! (fld ! refl (stop !))) (look-in ! 35 (sub ! 0 refl (whole !)))) (load ! (from ! (stop !)) (look ! 19 refl)) tt) (from ! (stop !)) (init ! 17 refl (tt, tt)) $
         rewrite ! 17 (λ (p : ℕ). ‵ (fat fullShare tyPtr m₀ 0 (vptr b p))) (sym (place-is 544 o i)) refl $
-        assigns ! (of-opd ! (load ! (from ! (hop ! (look ! 17 refl) (fld ! refl (stop !)))) (look-in ! 0 (sub ! 2 refl (whole !))))) (from ! (stop !)) (init ! 15 refl (tt, tt)) $
+        assigns ! (of-opd ! (load ! (from ! (hop ! (look ! 17 refl) (fld ! refl (stop !)))) (look-in ! 0 (sub ! 2 refl (whole !))))) (from ! (stop !)) (init ! 15 refl (tt, record { fits = w .1 .1 .0 .1 })) $
         assigns ! (bin ! (load ! (from ! (stop !)) (look ! 33 refl)) (lit ! tt) (record { fits = fits room l })) (from ! (stop !)) (init ! 13 refl (tt, record { fits = fits room l })) $
         assigns ! (bin ! (load ! (from ! (fld ! refl (stop !))) (look-in ! 35 (sub ! 0 refl (whole !)))) (load ! (from ! (stop !)) (look ! 13 refl)) tt) (from ! (stop !)) (init ! 11 refl (tt, tt)) $
         rewrite ! 11 (λ (p : ℕ). ‵ (fat fullShare tyPtr m₃ 0 (vptr b p))) (sym (place-is 544 o i)) refl $
-        assigns ! (of-opd ! (load ! (from ! (hop ! (look ! 11 refl) (fld ! refl (stop !)))) (look-in ! 0 (sub ! 3 refl (whole !))))) (from ! (stop !)) (init ! 9 refl (tt, tt)) $
+        assigns ! (of-opd ! (load ! (from ! (hop ! (look ! 11 refl) (fld ! refl (stop !)))) (look-in ! 0 (sub ! 3 refl (whole !))))) (from ! (stop !)) (init ! 9 refl (tt, record { fits = w .1 .1 .1 .0 .1 })) $
         assigns ! (agg ! (and-then ! (load ! (from ! (stop !)) (look ! 27 refl)) (and-then ! (load ! (from ! (stop !)) (look ! 21 refl)) (and-then ! (load ! (from ! (stop !)) (look ! 15 refl)) (and-then ! (load ! (from ! (stop !)) (look ! 9 refl)) (no-more !)))))) (from ! (stop !)) (init ! 37 refl (LL.lawful D.the-type D′.the-laws 𝓤 H A W .typed top (top-mach ∷ []) (told g) .0)) $
         elem-back ! T.the-row q′ ys i blank (mach ∷ []) b o l $ shuts-slice ! tt T.the-row q′ ys b o $
         returns ! (look ! 34 refl) $ forget ! 6 refl $ forget ! 8 refl $ forget ! 10 refl $ forget ! 12 refl $ forget ! 14 refl $ forget ! 16 refl $ forget ! 18 refl $ forget ! 20 refl $ forget ! 22 refl $ forget ! 24 refl $ forget ! 26 refl $ forget ! 28 refl $ forget ! 30 refl $ forget ! 32 refl $ forget ! 34 refl $

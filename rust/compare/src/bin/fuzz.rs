@@ -1,13 +1,16 @@
 //! Lends random and damaged tables, states and numbers to every exported function. Nothing may
 //! crash; what lies around the lent slices stays; refusal 1 comes exactly where document 01 says and
-//! leaves every byte; other refusals leave what they should; sound tables stay sound.
+//! leaves every byte; other refusals leave what they should; sound tables stay sound; a record's flag,
+//! which may be any number, is on unless it is 0.
 //!
 //! Run it under valgrind by
 //! `cargo build --release --bin fuzz && valgrind --error-exitcode=1 target/release/fuzz --calls 3000`.
 
 use compare_common::functions::FUNCTIONS;
 use compare_common::layer::document::broken;
-use compare_common::layer::draw::Player;
+use compare_common::layer::draw::{any_flag, Player};
+use compare_common::layer::pair::claims;
+use compare_common::layer::CHUNK;
 use compare_common::rng::Rng;
 use compare_common::{args, by_number, SEED};
 use sirqobal::lent::{self, Arena, Call, Reply, Settings, State, QUESTION, RECORDS, STAMPS};
@@ -29,6 +32,7 @@ fn main() -> ExitCode {
     }
     println!("layer calls by number: {}", by_number(&fuzz.numbers));
     println!("layer calls that asked: {}", fuzz.asked);
+    println!("layer calls with a flag above 1: {}", fuzz.above_one);
     println!(
         "fuzzed: {} layer calls, {} pool calls, {} calls on numbers, {} faults",
         fuzz.asked + fuzz.numbers.iter().sum::<u64>(),
@@ -47,6 +51,8 @@ struct Fuzz {
     table: Option<Table>,
     numbers: [u64; 17],
     asked: u64,
+    /// Calls that row 1 let pass, on tables in which an arena that stands has such a flag.
+    above_one: u64,
     pool_calls: u64,
     number_calls: u64,
     faults: u64,
@@ -87,6 +93,9 @@ impl Fuzz {
         if let Err(what) = judge(&before, &table, settings.page, call, &reply) {
             self.fault(format!("{what}: {call:?} on {:?}: {reply:?}", before.state));
         }
+        let above = |arena: &Arena| arena.exclusive > 1 || arena.owned > 1;
+        let sound = reply.number != 1;
+        self.above_one += u64::from(sound && before.arenas().iter().any(above));
         match reply.number {
             QUESTION => self.asked += 1,
             number => self.numbers[(number as usize).min(16)] += 1,
@@ -177,6 +186,11 @@ impl Table {
         )
     }
 
+    /// The records of the arenas that stand, in a table that row 1 lets pass.
+    fn arenas(&self) -> &[Arena] {
+        &self.records[FENCE..FENCE + self.state.count]
+    }
+
     fn is_broken(&self, page: u64) -> bool {
         let (records, stamps) = (self.records.len() - FENCE, self.stamps.len() - FENCE);
         let lent = (&self.records[FENCE..records], &self.stamps[FENCE..stamps]);
@@ -252,7 +266,7 @@ impl Table {
             0 => arena.base = wild as u64,
             1 => arena.base ^= 1 << rng.below(64),
             2 => arena.chunks = wild,
-            3 => (arena.exclusive, arena.owned) = (rng.percent(50), rng.percent(50)),
+            3 => (arena.exclusive, arena.owned) = (any_flag(rng, 60), any_flag(rng, 60)),
             4 => arena.deadline = wild as u32,
             5 => arena.used[word] ^= flip,
             6 => arena.dirty[word] ^= flip,
@@ -399,6 +413,7 @@ fn judge(
     if before.fences() != after.fences() {
         return Err("written beside the slices");
     }
+    flags(before, after, call, reply)?;
     match number {
         0 | QUESTION => return Ok(()),
         _ if *reply != bare => return Err("a refusal says more than its number"),
@@ -409,6 +424,39 @@ fn judge(
         10 | 11 => return Ok(()),
         _ if !answered && !kept => return Err("a refusal changed something"),
         _ => {}
+    }
+    Ok(())
+}
+
+/// A record's flag is on unless it is 0: no claim with a negative id gets a run of an exclusive arena,
+/// and what grows is owned and not exclusive. Registering writes 0 or 1, and nothing else a flag.
+fn flags(before: &Table, after: &Table, call: Call, reply: &Reply) -> Result<(), &'static str> {
+    if reply.number == 1 {
+        return Ok(());
+    }
+    let (was, is) = (before.arenas(), after.arenas());
+    let kept = |(id, arena): (usize, &Arena)| match was.get(id) {
+        Some(old) => (arena.exclusive, arena.owned) == (old.exclusive, old.owned),
+        None => arena.exclusive <= 1 && arena.owned <= 1,
+    };
+    if !is.iter().enumerate().all(kept) {
+        return Err("a flag was written, or is not 0 or 1");
+    }
+    let inside = |arena: &&Arena| {
+        let from = reply.address.wrapping_sub(arena.base);
+        from / CHUNK < arena.chunks as u64
+    };
+    let shared_claim = matches!(claims(&call), Some((..=-1, _)));
+    let granted = reply.number == 0 || reply.number == QUESTION && reply.kind == 1;
+    if shared_claim && granted && is.iter().find(inside).is_none_or(Arena::is_exclusive) {
+        return Err("a claim with a negative id got a run of an exclusive arena");
+    }
+    let adopts = matches!(call, Call::AdoptOsBlock { .. });
+    if adopts && reply.number == 0 && was.len() == is.len() {
+        let grown = &is[reply.id];
+        if grown.is_exclusive() || !grown.is_owned() {
+            return Err("an arena grew that is exclusive or not owned");
+        }
     }
     Ok(())
 }

@@ -215,7 +215,7 @@ fn hash(layer: &Layer) -> u32 {
     let stamps = layer.stamps().chunks(1_024);
     for (arena, stamps) in layer.records().iter().zip(stamps).take(state.count) {
         words.extend([arena.base as u32, (arena.base >> 32) as u32]);
-        let owner = flags(&[arena.exclusive, arena.owned]) as u32;
+        let owner = flags(&[arena.is_exclusive(), arena.is_owned()]) as u32;
         words.extend([
             arena.chunks as u32,
             owner,

@@ -1,6 +1,6 @@
 //! What a run reached.
 
-use super::document::arenas;
+use super::document::{arenas, has_run};
 use super::pair::{claims, ones, Agreed};
 use super::{Moment, CHUNK, PAGES};
 use sirqobal::lent::Call;
@@ -18,8 +18,10 @@ pub struct Counts {
 }
 
 /// What the sequences are to reach, beside every refusal from 4 to 16.
-const WANTED: [&str; 18] = [
+const WANTED: [&str; 20] = [
     "growth",
+    "growth, owned a number above 1",
+    "claim, exclusive a number above 1",
     "default reserve: yes",
     "default reserve: no",
     "default reserve: unusable base",
@@ -76,10 +78,13 @@ impl Counts {
         }
         if let Call::AdoptOsBlock { .. } = call {
             let stays = agreed.before.count == layer.state().count;
-            self.reach("growth", agreed.reply.number == 0 && stays);
+            let grows = agreed.reply.number == 0 && stays;
+            self.reach("growth", grows);
+            let owned = arenas(layer).get(agreed.reply.id).map_or(0, |a| a.owned);
+            self.reach("growth, owned a number above 1", grows && owned > 1);
         }
-        if let Some((_, n)) = claims(call) {
-            self.claim(n, agreed, layer);
+        if let Some((id, n)) = claims(call) {
+            self.claim(id, n, agreed, layer);
         }
         self.sweep(agreed, layer);
     }
@@ -89,7 +94,7 @@ impl Counts {
         *self.reached.entry(what).or_default() += u64::from(holds);
     }
 
-    fn claim(&mut self, n: usize, agreed: &Agreed, layer: &Layer) {
+    fn claim(&mut self, id: i32, n: usize, agreed: &Agreed, layer: &Layer) {
         let reply = &agreed.reply;
         let mut memory = None;
         let mut unusable = false;
@@ -109,9 +114,14 @@ impl Counts {
         let no = reply.number == 11;
         self.reach("commit no, first search", no && memory.is_none());
         self.reach("commit no, second search", no && memory.is_some());
-        let start = place(layer, reply.address).map(|(_, start)| start);
-        let border = start.is_some_and(|start| start % 32 + n > 32);
-        self.reach("run over a word border", reply.number == 0 && border);
+        let granted = place(layer, reply.address).filter(|_| reply.number == 0);
+        let border = granted.is_some_and(|(_, start)| start % 32 + n > 32);
+        self.reach("run over a word border", border);
+        // A lower arena has such a run too, and is passed over.
+        let lower = granted.map_or(0, |(id, _)| id);
+        let passed = |id: usize| arenas(layer)[id].exclusive > 1 && has_run(layer, id as i32, n);
+        let over = id < 0 && (0..lower).any(passed);
+        self.reach("claim, exclusive a number above 1", over);
     }
 
     fn sweep(&mut self, agreed: &Agreed, layer: &Layer) {

@@ -75,7 +75,7 @@ fn manage(layer: &Layer, start: u64, size: u64, host_says_no: bool) -> Option<u3
 fn adopt(layer: &Layer, address: u64, size: u64) -> Option<u32> {
     let grows = |arena: &Arena| {
         let fits = size / CHUNK + arena.chunks as u64 <= 1_024;
-        arena.owned && !arena.exclusive && end(arena) == u128::from(address) && fits
+        arena.is_owned() && !arena.is_exclusive() && end(arena) == u128::from(address) && fits
     };
     let early = first([
         (size == 0, 4),
@@ -105,7 +105,7 @@ fn release(layer: &Layer, address: u64, n: usize) -> Option<u32> {
 pub fn has_run(layer: &Layer, id: i32, n: usize) -> bool {
     let eligible = |place: usize, arena: &Arena| match id {
         0.. => place == id as usize,
-        _ => !arena.exclusive,
+        _ => !arena.is_exclusive(),
     };
     let fits = |arena: &Arena| {
         let mut run = 0;

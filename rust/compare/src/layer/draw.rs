@@ -445,6 +445,15 @@ impl Source for Drawn<'_> {
     }
 }
 
+/// A flag of a record, on so many times in a hundred: 1 as registering writes it, or any other number.
+pub fn any_flag(rng: &mut Rng, percent: u64) -> u32 {
+    match (rng.percent(percent), rng.below(4)) {
+        (false, _) => 0,
+        (true, 0) => rng.between(1, u32::MAX.into()) as u32,
+        (true, _) => rng.pick(&[1, 2, u32::MAX]),
+    }
+}
+
 /// A record with any bits; one that stands has none past its end.
 fn any_arena(rng: &mut Rng, base: u64, chunks: u64, deadline: u32, stands: bool) -> Arena {
     let mut map = || {
@@ -468,8 +477,8 @@ fn any_arena(rng: &mut Rng, base: u64, chunks: u64, deadline: u32, stands: bool)
     Arena {
         base,
         chunks: chunks as usize,
-        exclusive: rng.percent(30),
-        owned: rng.percent(70),
+        exclusive: any_flag(rng, 30),
+        owned: any_flag(rng, 70),
         node: rng.bits() as i32,
         deadline,
         used: maps[0],

@@ -81,6 +81,9 @@ impl Pair {
             return Err(format!("expected {expected:?}, ours {reply:?}"));
         }
         same_state(&self.ours)?;
+        if !self.flags_are_kept() {
+            return Err("a flag of a record was written, or is not 0 or 1".into());
+        }
         if let (10, Some((id, n))) = (reply.number, claims(&call)) {
             if document::has_run(&self.ours, id, n) {
                 return Err("both refused with 10, and there is such a run".into());
@@ -122,6 +125,17 @@ impl Pair {
             Some(difference) => Err(difference),
             None => Ok((rust, bridge.agreed)),
         }
+    }
+
+    /// Whether the flags of the arenas that were lent, which the original keeps as bits, are the
+    /// numbers that they were, and those of an arena that was registered since are 0 or 1.
+    fn flags_are_kept(&self) -> bool {
+        let lent = document::arenas(&self.start);
+        let mut arenas = document::arenas(&self.ours).iter().enumerate();
+        arenas.all(|(id, arena)| match lent.get(id) {
+            Some(was) => (arena.exclusive, arena.owned) == (was.exclusive, was.owned),
+            None => arena.exclusive <= 1 && arena.owned <= 1,
+        })
     }
 
     /// Whether the records and stamps past the arenas that stand are as they were lent.
@@ -465,8 +479,8 @@ fn record(arena: &sirqobal::lent::Arena) -> rust::Record {
     rust::Record {
         base: arena.base,
         chunks: arena.chunks,
-        exclusive: arena.exclusive,
-        owned: arena.owned,
+        exclusive: arena.is_exclusive(),
+        owned: arena.is_owned(),
         node: arena.node,
         deadline: arena.deadline,
         used: arena.used,

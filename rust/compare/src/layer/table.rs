@@ -1,5 +1,6 @@
 //! Document 01's own example of each refusal, and refusals 1, 2, 3 and 6, which the original does not
-//! have, as a table of cases with the document's numbers. A refusal changes no byte of what is lent.
+//! have, as a table of cases with the document's numbers; and a record's flags, which the original
+//! has as bits. A refusal changes no byte of what is lent.
 
 use super::{Moment, CHUNK, QUIET};
 use sirqobal::lent::{self, Arena, Call, Reply, State, RECORDS, STAMPS};
@@ -20,7 +21,7 @@ fn example() -> Table {
     records[0] = Arena {
         base: BASE,
         chunks: 4,
-        owned: true,
+        owned: 1,
         node: -1,
         ..Arena::EMPTY
     };
@@ -67,6 +68,7 @@ pub fn run() -> Cases {
     cases.kinds();
     cases.ranges();
     cases.bases();
+    cases.flags();
     cases
 }
 
@@ -311,6 +313,53 @@ impl Cases {
                 answer(base),
                 lent::QUESTION,
             );
+        }
+    }
+
+    /// Not in row 1: a flag of a record, which is on unless it is 0. A claim with a negative id passes
+    /// an exclusive arena over; where 32 arenas stand, a block is adopted by the one that it
+    /// continues, owned and not exclusive, or by none. The flag itself is left as it was lent.
+    fn flags(&mut self) {
+        let behind = Call::AdoptOsBlock {
+            address: BASE + 4 * CHUNK,
+            size: CHUNK,
+        };
+        let claim = |id| Call::ChunkAllocN { id, n: 1 };
+        for flag in [0, 1, 2, 256, 1 << 31, u32::MAX] {
+            let on = |number: u32, other: u32| if flag == 0 { other } else { number };
+            let mut full = example();
+            for id in 1..RECORDS {
+                full.records[id] = full.records[0];
+                full.records[id].base += id as u64 * BASE;
+            }
+            full.state.count = RECORDS;
+
+            let mut exclusive = example();
+            exclusive.records[0].exclusive = flag;
+            let what = format!("exclusive {flag}");
+            let asks = lent::QUESTION;
+            self.case(&what, &exclusive, QUIET, claim(-1), on(10, asks));
+            self.case(&what, &exclusive, QUIET, claim(0), asks);
+            let mut full_exclusive = full.clone();
+            full_exclusive.records[0].exclusive = flag;
+            self.case(&what, &full_exclusive, QUIET, behind, on(13, 0));
+
+            let mut owned = full.clone();
+            owned.records[0].owned = flag;
+            let what = format!("owned {flag}");
+            self.case(&what, &owned, QUIET, behind, on(0, 13));
+            let mut grown = owned.clone();
+            grown.call(QUIET, behind);
+            let was = owned.records[0];
+            let left = Arena {
+                chunks: on(5, 4) as usize,
+                dirty: grown.records[0].dirty,
+                committed: grown.records[0].committed,
+                ..was
+            };
+            if grown.records[0] != left {
+                self.wrong.push(format!("{what}: {:?}", grown.records[0]));
+            }
         }
     }
 
@@ -560,7 +609,10 @@ const SOUND: &[Change] = &[
     }),
     ("a deadline without pending", |t| t.records[0].deadline = 9),
     ("exclusive and not owned", |t| {
-        (t.records[0].exclusive, t.records[0].owned) = (true, false);
+        (t.records[0].exclusive, t.records[0].owned) = (1, 0);
+    }),
+    ("flags of any number", |t| {
+        (t.records[0].exclusive, t.records[0].owned) = (2, u32::MAX);
     }),
     ("empty commit question at the end", |t| {
         (t.state.question, t.state.start) = (1, 4);

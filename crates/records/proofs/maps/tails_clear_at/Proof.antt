@@ -109,7 +109,7 @@ module _ {M : Type 1} (𝓤 : URA M) (H : Heap 𝓤) (A : Atoms 𝓤) (W : Given
         assigns ! (bin ! (load ! (from ! (stop !)) (look ! 5 refl)) (lit ! tt) (record { fits = fits (kn .1) l })) (from ! (stop !)) (init ! 11 refl (tt, record { fits = fits (kn .1) l })) $
         assigns ! (bin ! (load ! (from ! (fld ! refl (stop !))) (look-in ! 3 (sub ! 0 refl (whole !)))) (load ! (from ! (stop !)) (look ! 11 refl)) tt) (from ! (stop !)) (init ! 13 refl (tt, tt)) $
         assigns ! (addr ! (from ! (hop ! (look ! 13 refl) (fld ! refl (stop !))))) (from ! (stop !)) (init ! 15 refl (tt, tt)) $
-        tail-clear-at ! (in-seq ! (fmOf 𝓤 H (W .laws) 𝓣)) mem run known 28 (λ a. a .used) (used-look 𝓤 H A W) L ys i l s fs few (λ _. and-then ! (load ! (from ! (stop !)) (look ! 15 refl)) (and-then ! (load ! (from ! (stop !)) (look ! 7 refl)) (no-more !))) (
+        tail-clear-at ! (in-seq ! (fmOf 𝓤 H (W .laws) 𝓣)) mem run known 32 (λ a. a .used) (used-look 𝓤 H A W) L ys i l s fs few (λ _. and-then ! (load ! (from ! (stop !)) (look ! 15 refl)) (and-then ! (load ! (from ! (stop !)) (look ! 7 refl)) (no-more !))) (
         land ! (from ! (stop !)) (init ! 9 refl (tt, tt)) $
         assigns ! (un ! (load ! (from ! (stop !)) (look ! 9 refl)) tt) (from ! (stop !)) (init ! 17 refl (tt, tt)) $
         if-else ! (load ! (from ! (stop !)) (look ! 17 refl))
@@ -120,7 +120,7 @@ module _ {M : Type 1} (𝓤 : URA M) (H : Heap 𝓤) (A : Atoms 𝓤) (W : Given
         assigns ! (bin ! (load ! (from ! (stop !)) (look ! 5 refl)) (lit ! tt) (record { fits = fits (kn .1) l })) (from ! (stop !)) (store ! 11 refl (tt, record { fits = fits (kn .1) l })) $
         assigns ! (bin ! (load ! (from ! (fld ! refl (stop !))) (look-in ! 3 (sub ! 0 refl (whole !)))) (load ! (from ! (stop !)) (look ! 11 refl)) tt) (from ! (stop !)) (init ! 19 refl (tt, tt)) $
         assigns ! (addr ! (from ! (hop ! (look ! 19 refl) (fld ! refl (stop !))))) (from ! (stop !)) (init ! 21 refl (tt, tt)) $
-        tail-clear-at ! (in-seq ! (fmOf 𝓤 H (W .laws) 𝓣)) mem run known 156 (λ a. a .dirty) (dirty-look 𝓤 H A W) L ys i l s fs few (λ _. and-then ! (load ! (from ! (stop !)) (look ! 21 refl)) (and-then ! (load ! (from ! (stop !)) (look ! 7 refl)) (no-more !))) (
+        tail-clear-at ! (in-seq ! (fmOf 𝓤 H (W .laws) 𝓣)) mem run known 160 (λ a. a .dirty) (dirty-look 𝓤 H A W) L ys i l s fs few (λ _. and-then ! (load ! (from ! (stop !)) (look ! 21 refl)) (and-then ! (load ! (from ! (stop !)) (look ! 7 refl)) (no-more !))) (
         land ! (from ! (stop !)) (store ! 9 refl (tt, tt)) $
         assigns ! (un ! (load ! (from ! (stop !)) (look ! 9 refl)) tt) (from ! (stop !)) (store ! 17 refl (tt, tt)) $
         if-else ! (load ! (from ! (stop !)) (look ! 17 refl))
@@ -131,7 +131,7 @@ module _ {M : Type 1} (𝓤 : URA M) (H : Heap 𝓤) (A : Atoms 𝓤) (W : Given
         assigns ! (bin ! (load ! (from ! (stop !)) (look ! 5 refl)) (lit ! tt) (record { fits = fits (kn .1) l })) (from ! (stop !)) (store ! 11 refl (tt, record { fits = fits (kn .1) l })) $
         assigns ! (bin ! (load ! (from ! (fld ! refl (stop !))) (look-in ! 3 (sub ! 0 refl (whole !)))) (load ! (from ! (stop !)) (look ! 11 refl)) tt) (from ! (stop !)) (init ! 23 refl (tt, tt)) $
         assigns ! (addr ! (from ! (hop ! (look ! 23 refl) (fld ! refl (stop !))))) (from ! (stop !)) (init ! 25 refl (tt, tt)) $
-        tail-clear-at ! (in-seq ! (fmOf 𝓤 H (W .laws) 𝓣)) mem run known 284 (λ a. a .committed) (committed-look 𝓤 H A W) L ys i l s fs few (λ _. and-then ! (load ! (from ! (stop !)) (look ! 25 refl)) (and-then ! (load ! (from ! (stop !)) (look ! 7 refl)) (no-more !))) (
+        tail-clear-at ! (in-seq ! (fmOf 𝓤 H (W .laws) 𝓣)) mem run known 288 (λ a. a .committed) (committed-look 𝓤 H A W) L ys i l s fs few (λ _. and-then ! (load ! (from ! (stop !)) (look ! 25 refl)) (and-then ! (load ! (from ! (stop !)) (look ! 7 refl)) (no-more !))) (
         land ! (from ! (stop !)) (store ! 9 refl (tt, tt)) $
         assigns ! (un ! (load ! (from ! (stop !)) (look ! 9 refl)) tt) (from ! (stop !)) (store ! 17 refl (tt, tt)) $
         if-else ! (load ! (from ! (stop !)) (look ! 17 refl))
@@ -142,7 +142,7 @@ module _ {M : Type 1} (𝓤 : URA M) (H : Heap 𝓤) (A : Atoms 𝓤) (W : Given
         assigns ! (bin ! (load ! (from ! (stop !)) (look ! 5 refl)) (lit ! tt) (record { fits = fits (kn .1) l })) (from ! (stop !)) (store ! 11 refl (tt, record { fits = fits (kn .1) l })) $
         assigns ! (bin ! (load ! (from ! (fld ! refl (stop !))) (look-in ! 3 (sub ! 0 refl (whole !)))) (load ! (from ! (stop !)) (look ! 11 refl)) tt) (from ! (stop !)) (init ! 27 refl (tt, tt)) $
         assigns ! (addr ! (from ! (hop ! (look ! 27 refl) (fld ! refl (stop !))))) (from ! (stop !)) (init ! 29 refl (tt, tt)) $
-        tail-clear-at ! (in-seq ! (fmOf 𝓤 H (W .laws) 𝓣)) mem run known 412 (λ a. a .pending) (pending-look 𝓤 H A W) L ys i l s fs few (λ _. and-then ! (load ! (from ! (stop !)) (look ! 29 refl)) (and-then ! (load ! (from ! (stop !)) (look ! 7 refl)) (no-more !))) (
+        tail-clear-at ! (in-seq ! (fmOf 𝓤 H (W .laws) 𝓣)) mem run known 416 (λ a. a .pending) (pending-look 𝓤 H A W) L ys i l s fs few (λ _. and-then ! (load ! (from ! (stop !)) (look ! 29 refl)) (and-then ! (load ! (from ! (stop !)) (look ! 7 refl)) (no-more !))) (
         land ! (from ! (stop !)) (init ! 1 refl (tt, tt)) $
         returns ! (look ! 1 refl) $ used ! $ used ! $ used ! $ used ! $ used ! $ used ! $ used ! $ used ! $ used ! $ used ! $ used ! $ used ! $ used ! $ used ! $ used ! $ free0 ! $
         finishS 𝓤 H A T.the-row L bool ys χ W (‵ ftrue) (vbool p) p refl (says p (all-4 u d c p h k m))))))))))

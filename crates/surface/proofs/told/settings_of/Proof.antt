@@ -2,7 +2,7 @@
 use mir.Facts.{toZ-ofZ}
 use mir.Syntax.{w64}
 use mir.Val.{SFits}
-use Rattle.surface.specs.Told.{settingsOf, isOn}
+use Rattle.surface.specs.Told.{settingsOf}
 use borrow.Author.Needs.{needs}
 use Rattle.surface.proofs.told.settings_of.Statement.{statement}
 use Rattle.surface.proofs.told.settings_of.Tie as tie
@@ -10,20 +10,28 @@ use Rattle.surface.proofs.told.settings_of.Tie as tie
 page-of-requires : tie.Need-page-of-requires
 page-of-requires c κs = search needs
 
+is-on-requires : tie.Need-is-on-requires
+is-on-requires c κs = search needs
+
+is-on-requires-2 : tie.Need-is-on-requires-2
+is-on-requires-2 c κs = search needs
+
 returns : tie.Need-returns
 unfolding settingsOf
 returns c =
-    let p = c .before .before .before in
+    let o = c .before in
+    let d = o .before in
+    let p = d .before in
     let a = p .before .args in
     let fits : SFits w64 (a .s .delay) = record { sfits = c .struct-told .given .0 .1 } in
     λ m.
     record {
       delay = toZ-ofZ fits m;
-      decommits = isOn (a .s .decommits);
-      off = isOn (a .s .off);
+      decommits = d .is-on .ensures m;
+      off = o .is-on2 .ensures m;
       reserve = a .s .reserve;
       page = p .page-of .ensures m;
     }
 
 pub settings-of-spec : {M : Type 1} → statement M
-settings-of-spec = tie.close (tie.spec page-of-requires returns)
+settings-of-spec = tie.close (tie.spec page-of-requires is-on-requires is-on-requires-2 returns)

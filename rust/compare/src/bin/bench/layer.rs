@@ -253,7 +253,7 @@ fn table(count: usize, chunks: usize, used: impl Fn(usize, usize) -> bool) -> La
         *arena = Arena {
             base: base(id),
             chunks,
-            owned: true,
+            owned: 1,
             node: -1,
             used: map,
             dirty: all,

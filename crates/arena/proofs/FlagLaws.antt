@@ -1,0 +1,18 @@
+-- A flag is read as it was written. Assumes nothing.
+use mathlib.Core.Path.{_≡_, refl}
+use mathlib.Core.Bool.{Bool, true, false}
+use Prim.Native.Nat.{ℕ}
+use lib.IntN.{ℤ}
+use Rattle.arena.specs.Flags.{isOn, asFlag}
+use Rattle.arena.specs.Registering.{newArena}
+
+pub flag-read : (b : Bool) → isOn (asFlag b) ≡ b
+flag-read true = refl
+flag-read false = refl
+
+-- so an arena is exclusive, and owned, as it is registered to be
+pub registered-flags : (base chunks : ℕ) (exclusive owned : Bool) (node : ℤ) (dirty committed : Bool)
+    → let a = newArena base chunks exclusive owned node dirty committed in
+    (isOn (a .exclusive) ≡ exclusive) × (isOn (a .owned) ≡ owned)
+unfolding newArena
+registered-flags base chunks exclusive owned node dirty committed = (flag-read exclusive, flag-read owned)

@@ -53,7 +53,7 @@ said-cases P none one (Swept count) = none
 said-cases P none one (Owns whether) = none
 said-cases P none one (Area base bytes) = none
 
-no-question : (kind : Kind) → isFor Idle kind ≡ false
+pub no-question : (kind : Kind) → isFor Idle kind ≡ false
 unfolding isFor
 no-question ForCommit = refl
 no-question ForPurge = refl

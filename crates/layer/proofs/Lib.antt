@@ -16,4 +16,5 @@ pub mod Opened
 pub mod Ten
 pub mod Demand
 pub mod Consequences
+pub mod Questions
 pub mod Elsewhere

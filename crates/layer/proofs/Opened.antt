@@ -3,20 +3,15 @@
 use mathlib.Core.Path.{_≡_, refl, sym, ap, ap₂, _∙_, subst}
 use mathlib.Core.Bool.{Bool, true, false, not, _&&_, _||_, true≢false}
 use mathlib.Core.List.{List, []}
-use mathlib.Core.Logic.{⊎-elim}
 use Prim.Native.Nat.{ℕ, suc, _+_, _-_, _*_, _/_, _%_, _^_, _<_, _≤_}
 use native.Mathlib.Omega.{arith}
-use borrow.Author.Tests.{eq-eqb, ne-eqb, lt-leb, ltb-true}
-use lib.Dec.{eqb, leb, ltb}
+use borrow.Author.Tests.{eq-eqb, ne-eqb, lt-leb}
+use lib.Dec.{eqb, leb}
 use lib.IntN.{ℤ, negsuc}
 use Rattle.words.proofs.Tests.{when, unless}
-use Rattle.words.proofs.RowLaws.{lt-or-le}
-use Rattle.runs.proofs.SearchLaws.{and-both}
 use Rattle.arena.specs.declared.Arena.{Arena}
 use Rattle.arena.specs.Flags.{isOn}
 use Rattle.arena.specs.Registering.{newArena, reservedArena, managedArena}
-use Rattle.lookup.specs.Place.{bytesOf, endOf}
-use Rattle.lookup.proofs.SoundLaws.{never}
 use Rattle.layer.specs.declared.Question.{Question}
 use Rattle.layer.specs.declared.Question.the-variants.{Idle, Committing, Purging, Reserving, GivingBack}
 use Rattle.layer.specs.declared.Waiting.the-variants.{Reserve, Claim}
@@ -25,14 +20,13 @@ use Rattle.layer.specs.declared.Answer.the-variants.{Registered}
 use Rattle.layer.specs.declared.Reply.{Reply}
 use Rattle.layer.specs.World.{Outcome, outcome, worldOf}
 use Rattle.layer.specs.World as W
-use Rattle.layer.specs.Table.{at, meets, badRange}
+use Rattle.layer.specs.Table.{at, badRange}
 use Rattle.layer.specs.Registering.{chunksFor, badCount, registerReply, registers, withRecord, withStamps, register, firstWhole, pastWhole, noWholeChunk, manageOf}
 use Rattle.layer.specs.Answering.{isFor, answerMemory, answerOf}
 use Rattle.layer.specs.Step.{claim, reserve, Call, act, answer, stepOn}
 use Rattle.layer.specs.Book.{opened}
 use Rattle.layer.specs.History.{Marked, Trail, openAt, follow, standing, Registrable, Manages, Reserves, Registers, OpensAt}
 use Rattle.layer.proofs.Tools.{at-same}
-use Rattle.layer.proofs.Facts.{none-overlaps}
 use Rattle.layer.proofs.Shown.{calm, bookIn, Stays, bookAt, owedAt, Inv}
 use Rattle.layer.proofs.View.{book-reserved, book-managed}
 use Rattle.layer.proofs.Plain.{not-12, not-6}

@@ -280,7 +280,7 @@ not-broken S l k n named (Swept count) w h = refl
 not-broken S l k n named (Owns whether) w h = refl
 not-broken S l k n named (Area base bytes) w h = refl
 
-sound-question : (S : ℕ) (w : World) (page : ℕ) → sound S w page ≡ true → SoundQuestion (w .records) (w .state .count) (w .state .question)
+pub sound-question : (S : ℕ) (w : World) (page : ℕ) → sound S w page ≡ true → SoundQuestion (w .records) (w .state .count) (w .state .question)
 unfolding soundLent soundTable
 sound-question S w page e =
     let a = and-both (eqb (length (w .records)) 32) _ e in

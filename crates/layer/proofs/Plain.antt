@@ -1,14 +1,13 @@
 -- What rows 6 and 12 ask, by plain arithmetic: the tests of the rules let pass what `Registrable` says. Assumes nothing.
-use mathlib.Core.Path.{_≡_}
-use mathlib.Core.Bool.{Bool, true, false, _&&_, _||_}
-use mathlib.Core.List.{List}
+use mathlib.Core.Path.{_≡_, ap, ap₂, _∙_}
+use mathlib.Core.Bool.{true, false, _&&_, _||_}
 use mathlib.Core.Logic.{⊎-elim}
 use Prim.Native.Nat.{ℕ, _+_, _*_, _^_, _<_, _≤_}
-use mathlib.Core.Path.{ap₂}
 use native.Mathlib.Omega.{arith}
 use borrow.Author.Tests.{ne-eqb, lt-leb, ltb-true}
 use lib.Dec.{eqb, leb, ltb}
 use lib.ListN.{length}
+use Rattle.words.proofs.Tests.{when}
 use Rattle.words.proofs.RowLaws.{lt-or-le}
 use Rattle.runs.specs.Lowest.{all}
 use Rattle.runs.proofs.LowestLaws.{all-free-of}
@@ -16,24 +15,40 @@ use Rattle.runs.proofs.SearchLaws.{and-both}
 use Rattle.options.specs.Options.{pageSizeSound}
 use Rattle.lookup.specs.Place.{bytesOf, endOf}
 use Rattle.lookup.specs.Soundness.{soundArena}
-use Rattle.lookup.proofs.SoundLaws.{never, arena-facts}
+use Rattle.lookup.proofs.SoundLaws.{never, SoundArena, arena-facts}
+use Rattle.layer.specs.declared.Settings.{Settings}
+use Rattle.layer.specs.declared.Question.{Question}
 use Rattle.layer.specs.World.{World}
 use Rattle.layer.specs.Table.{at, meets, badRange, apart, askedId, soundQuestion, soundTable, soundLent, sound}
 use Rattle.layer.specs.Registering.{badCount}
+use Rattle.layer.specs.Step.{Call, stepOn, rules, step}
 use Rattle.layer.specs.History.{Registrable}
 use Rattle.layer.proofs.Facts.{none-overlaps}
 use Rattle.layer.proofs.Trails.{S}
 
--- every arena of a table that row 1 lets pass has a chunk
-pub some-chunk : (w : World) (page : ℕ) → sound S w page ≡ true → (i : ℕ) → i < w .state .count → 1 ≤ at (w .records) i .chunks
+-- a call that row 1 lets pass, where q is open
+pub passes : (w : World) (ns : ℕ) (settings : Settings) (c : Call) (q : Question) → sound S w (settings .page) ≡ true → w .state .question ≡ q
+    → step w ns settings c ≡ stepOn S (w .records) (w .stamps) (w .state .count) (w .state .mark) q ns settings c
+unfolding rules
+passes w ns settings c q e f =
+    when (sound S w (settings .page)) _ _ e ∙ ap (λ (x : Question). stepOn S (w .records) (w .stamps) (w .state .count) (w .state .mark) x ns settings c) f
+
+-- every arena of a table that row 1 lets pass has a chunk, and at most 1,024
+range-of : (w : World) (page : ℕ) → sound S w page ≡ true → (i : ℕ) → i < w .state .count → SoundArena S (at (w .records) i)
 unfolding soundLent soundTable
-some-chunk w page e i h =
+range-of w page e i h =
     let a = and-both (eqb (length (w .records)) 32) _ e in
     let b = and-both (eqb (length (w .stamps)) 32768) _ (a .1) in
     let c = and-both (pageSizeSound page) _ (b .1) in
     let d = and-both (leb (w .state .count) 32) _ (c .1) in
     let f = and-both (all (λ j. soundArena S (at (w .records) j)) 0 (w .state .count)) (apart S (w .records) (w .state .count) && soundQuestion (at (w .records) (askedId (w .state .question))) (w .state .count) (w .state .question)) (d .1) in
-    arena-facts S (at (w .records) i) (all-free-of (λ j. soundArena S (at (w .records) j)) 0 (w .state .count) (f .0) i (omega arith) (omega arith)) .range .some
+    arena-facts S (at (w .records) i) (all-free-of (λ j. soundArena S (at (w .records) j)) 0 (w .state .count) (f .0) i (omega arith) (omega arith))
+
+pub some-chunk : (w : World) (page : ℕ) → sound S w page ≡ true → (i : ℕ) → i < w .state .count → 1 ≤ at (w .records) i .chunks
+some-chunk w page e i h = range-of w page e i h .range .some
+
+pub few-chunks : (w : World) (page : ℕ) → sound S w page ≡ true → (i : ℕ) → i < w .state .count → at (w .records) i .chunks ≤ 1024
+few-chunks w page e i h = range-of w page e i h .range .few
 
 module _ (w : World) (b n : ℕ) (r : Registrable w b n) where
   pub not-12 : badCount n ≡ false

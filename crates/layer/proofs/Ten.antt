@@ -1,15 +1,15 @@
 -- Refusal 10 comes exactly where no eligible arena has the run: of a claim, and of one that goes on once its memory came. Assumes nothing.
 use mathlib.Core.Path.{_≡_, refl, sym, ap, ap₂, _∙_, subst}
-use mathlib.Core.Bool.{Bool, true, false, not, _&&_, true≢false}
+use mathlib.Core.Bool.{Bool, true, not, _&&_, true≢false}
 use mathlib.Core.List.{List}
 use mathlib.Core.Logic.{_↔_}
-use Prim.Native.Nat.{ℕ, suc, _+_, _%_, _*_, _≤_, _<_}
+use Prim.Native.Nat.{ℕ, suc, _%_, _*_}
 use native.Mathlib.Omega.{arith}
 use borrow.Author.Tests.{eq-eqb, ne-eqb, eqb-true, not-true, lt-leb}
 use lib.Dec.{eqb, leb}
 use lib.IntN.{ℤ, pos, negsuc}
 use Rattle.words.specs.Bits.{bitAt}
-use Rattle.words.proofs.Tests.{by-cond, when, unless}
+use Rattle.words.proofs.Tests.{when, unless}
 use Rattle.runs.specs.declared.Found.{Found}
 use Rattle.runs.specs.declared.Found.the-variants.{At, Nothing}
 use Rattle.runs.specs.Lowest.{Starts, Lowest}
@@ -22,21 +22,19 @@ use Rattle.arena.specs.Registering.{reservedArena}
 use Rattle.arena.specs.Claiming.{free, findRun}
 use Rattle.refusals.specs.declared.Refusal.the-variants.{NoRun}
 use Rattle.layer.specs.declared.Settings.{Settings}
-use Rattle.layer.specs.declared.Question.{Question}
 use Rattle.layer.specs.declared.Question.the-variants.{Idle, Reserving}
 use Rattle.layer.specs.declared.Waiting.the-variants.{Claim}
 use Rattle.layer.specs.declared.Kind.the-variants.{ForMemory}
 use Rattle.layer.specs.declared.Reply.{Reply}
-use Rattle.layer.specs.World.{World, Outcome, turnDown, after, calm}
-use Rattle.layer.specs.Table.{at, isAt, badRange, sound}
+use Rattle.layer.specs.World.{Outcome, turnDown, calm}
+use Rattle.layer.specs.Table.{at, isAt, badRange}
 use Rattle.layer.specs.Registering.{askMemory, badCount, withRecord, withStamps}
 use Rattle.layer.specs.Claiming.{eligible, serves, missReply, searchOf, claimOf}
-use Rattle.layer.specs.Answering.{isFor, resume, answerMemory, answerOf}
-use Rattle.layer.specs.Step.{claim, Call, act, answer, stepOn, rules, step}
-use Rattle.layer.specs.History.{Registrable}
+use Rattle.layer.specs.Answering.{isFor, answerMemory, answerOf}
+use Rattle.layer.specs.Step.{claim, act, answer, step}
 use Rattle.layer.specs.Ten.{Eligible, ClearFrom, NoneHas, IsMiss, TenExactly, TenAfterMemory}
 use Rattle.layer.proofs.Cases.{grant-cases, search-cases, miss-cases}
-use Rattle.layer.proofs.Plain.{some-chunk, not-12, not-6}
+use Rattle.layer.proofs.Plain.{some-chunk, not-12, not-6, passes}
 use Rattle.layer.proofs.Trails.{S}
 
 -- ---- an arena serves a claim exactly if it is eligible and has the run
@@ -95,12 +93,6 @@ module _ (l : List Arena) (stamps : List ℕ) (k : ℕ) (mark : Bool) (id : ℤ)
       served i e = unfold serves in and-both (eligible id i (at l i)) _ e .1
 
 -- ---- the claim, and the answer that goes on with one
-
-passes : (w : World) (ns : ℕ) (settings : Settings) (c : Call) (q : Question) → sound S w (settings .page) ≡ true → w .state .question ≡ q
-    → step w ns settings c ≡ stepOn S (w .records) (w .stamps) (w .state .count) (w .state .mark) q ns settings c
-unfolding rules
-passes w ns settings c q e f =
-    when (sound S w (settings .page)) _ _ e ∙ ap (λ (x : Question). stepOn S (w .records) (w .stamps) (w .state .count) (w .state .mark) x ns settings c) f
 
 missed-is : (l : List Arena) (stamps : List ℕ) (k : ℕ) (mark : Bool) (id : ℤ) (n : ℕ) (commits : Bool) (settings : Settings) → IsMiss (missReply S k mark id n commits settings .answer)
 unfolding askMemory

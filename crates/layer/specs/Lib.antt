@@ -10,3 +10,4 @@ pub mod Book
 pub mod History
 pub mod Demand
 pub mod Ten
+pub mod Questions

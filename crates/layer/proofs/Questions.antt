@@ -1,0 +1,187 @@
+-- What each call leaves of the open question. Assumes nothing.
+use mathlib.Core.Path.{_≡_, refl, sym, ap, _∙_, subst}
+use mathlib.Core.Bool.{Bool, true, false, true≢false}
+use mathlib.Core.List.{List}
+use mathlib.Core.Logic.{_⊎_, inl, inr}
+use Prim.Native.Nat.{ℕ, zero, suc, _+_, _-_, _*_, _%_, _≤_}
+use native.Mathlib.Omega.{arith}
+use lib.Dec.{eqb, leb}
+use Rattle.refusals.specs.declared.Refusal.{Refusal}
+use Rattle.refusals.specs.declared.Refusal.the-variants.{NoSuchQuestion}
+use Rattle.words.proofs.Tests.{by-cond, when, unless}
+use Rattle.runs.specs.declared.Found.{Found}
+use Rattle.runs.specs.declared.Found.the-variants.{At, Nothing}
+use Rattle.runs.specs.Lowest.{least}
+use Rattle.runs.proofs.LowestLaws.{First, first-says}
+use Rattle.arena.specs.declared.Arena.{Arena}
+use Rattle.arena.specs.Registering.{reservedArena}
+use Rattle.arena.specs.Sweeping.{sweepDue, disarm, toAsk, nextAsked}
+use Rattle.purge.specs.Stamps.{stampsOf}
+use Rattle.layer.specs.declared.Settings.{Settings}
+use Rattle.layer.specs.declared.Sweep.{Sweep}
+use Rattle.layer.specs.declared.Question.{Question}
+use Rattle.layer.specs.declared.Question.the-variants.{Idle, Committing, Purging, Reserving, GivingBack}
+use Rattle.layer.specs.declared.Waiting.{Waiting}
+use Rattle.layer.specs.declared.Waiting.the-variants.{Reserve, Claim}
+use Rattle.layer.specs.declared.Unusable.the-variants.{Count, Misaligned, Full}
+use Rattle.layer.specs.declared.Kind.{Kind}
+use Rattle.layer.specs.declared.Ask.{Ask}
+use Rattle.layer.specs.declared.Answer.the-variants.{Asks}
+use Rattle.layer.specs.World.{World, Outcome, stateOf, worldOf, after}
+use Rattle.layer.specs.Table.{at, badRange, sound}
+use Rattle.layer.specs.Registering.{askMemory, badCount, register, withRecord, withStamps}
+use Rattle.layer.specs.Sweeping.{purgeReply, sweptReply, visitAt, visit, sweepFrom}
+use Rattle.layer.specs.Answering.{isFor, counted, failReply, resume, answerPurge, answerMemory, answerTo, answerOf}
+use Rattle.layer.specs.Step.{Act, reserve, manage, adopt, claim, release, sweep, Call, act, query, answer, sweepOf, actOn, stepOn, step}
+use Rattle.layer.specs.Questions.{TurnedDown, CommitOf, AfterAnswer, AfterAct, AfterCall, QuestionsByRules}
+use Rattle.layer.proofs.Facts.{SoundQuestion}
+use Rattle.layer.proofs.Rules.{Again, again}
+use Rattle.layer.proofs.Cases.{grant-cases, search-cases, miss-cases, claim-cases, release-in-cases, release-cases, reserve-cases, register-cases, manage-cases, adopt-cases}
+use Rattle.layer.proofs.Plain.{some-chunk, few-chunks, not-6, passes}
+use Rattle.layer.proofs.Outcomes.{sound-question}
+use Rattle.layer.proofs.Demand.{no-question}
+use Rattle.layer.proofs.Trails.{S}
+
+-- ---- acts: an answer that is no question leaves none
+
+abbrev Put : Outcome → Type 0
+Put o = (o .world .state .question ≡ Idle) ⊎ ((ask : Ask) × (o .answer ≡ Asks ask))
+
+module _ (l : List Arena) (stamps : List ℕ) (k : ℕ) (mark : Bool) where
+  register-put : (chunks : ℕ) (a : Arena) → Put (register l stamps k mark chunks a)
+  register-put chunks a = register-cases S l stamps k mark Put chunks a (inl refl) (inl refl) (λ e f. inl refl)
+
+  -- a question about a place from lo on, or none
+  abbrev From : ℕ → Outcome → Type 0
+  From lo o = (o .world .state .question ≡ Idle) ⊎ ((i : ℕ) × (j : ℕ) × (x : Sweep) × (o .world .state .question ≡ Purging i j x) × (lo ≤ 1024 * i + j))
+
+  module _ (w : Sweep) where
+    visit-from : (lo : ℕ) (l : List Arena) (i : ℕ) (a : Arena) (from : ℕ) (rest : List Arena → Outcome) → lo ≤ 1024 * i + from → ((m : List Arena) → From lo (rest m)) → From lo (visit S stamps k mark w l i a from rest)
+    unfolding visit nextAsked purgeReply
+    visit-from lo l i a from rest h go-on =
+        go (least (toAsk a (stampsOf stamps i) (w .force) (w .now) (w .delay)) from (a .chunks - from)) (first-says (toAsk a (stampsOf stamps i) (w .force) (w .now) (w .delay)) from (a .chunks - from))
+      where
+        go : (f : Found) → First (toAsk a (stampsOf stamps i) (w .force) (w .now) (w .delay)) from (a .chunks - from) f → From lo (visitAt S stamps k mark w l i a rest f)
+        go (At j) g = inr (i, j, w, refl, omega (arith, h, g .0))
+        go Nothing g = go-on _
+
+    sweep-from : (lo f i : ℕ) (l : List Arena) → lo ≤ 1024 * i → From lo (sweepFrom S stamps k mark w f i l)
+    unfolding sweepFrom sweptReply
+    sweep-from lo zero i l h = inl refl
+    sweep-from lo (suc f) i l h =
+        by-cond (From lo) (sweepDue (at l i) (w .force) (w .now)) _ _
+        (λ e. visit-from lo l i (disarm (at l i)) 0 (sweepFrom S stamps k mark w f (i + 1)) (omega arith) (λ m. sweep-from lo f (i + 1) m (omega arith)))
+        (λ e. sweep-from lo f (i + 1) l (omega arith))
+
+    -- a sweep that starts asks, or ends
+    visit-put : (l : List Arena) (i : ℕ) (a : Arena) (from : ℕ) (rest : List Arena → Outcome) → ((m : List Arena) → Put (rest m)) → Put (visit S stamps k mark w l i a from rest)
+    unfolding visit purgeReply
+    visit-put l i a from rest go-on = go (nextAsked a (stampsOf stamps i) (w .force) (w .now) (w .delay) from)
+      where
+        go : (f : Found) → Put (visitAt S stamps k mark w l i a rest f)
+        go (At j) = inr (_, refl)
+        go Nothing = go-on _
+
+    sweep-put : (f i : ℕ) (l : List Arena) → Put (sweepFrom S stamps k mark w f i l)
+    unfolding sweepFrom sweptReply
+    sweep-put zero i l = inl refl
+    sweep-put (suc f) i l =
+        by-cond Put (sweepDue (at l i) (w .force) (w .now)) _ _ (λ e. visit-put l i (disarm (at l i)) 0 (sweepFrom S stamps k mark w f (i + 1)) (λ m. sweep-put f (i + 1) m)) (λ e. sweep-put f (i + 1) l)
+
+  act-put : (ns : ℕ) (settings : Settings) (a : Act) → Put (actOn S l stamps k mark Idle ns settings a)
+  unfolding askMemory
+  act-put ns settings (reserve size commit large exclusive) = reserve-cases S l stamps k mark Put size commit large exclusive (settings .page) (inl refl) (inr (_, refl))
+  act-put ns settings (manage start size exclusive node mapped reserved) =
+      manage-cases S l stamps k mark Put start size exclusive node mapped reserved (inl refl) (inl refl) (inl refl) (λ e. register-put _ _)
+  act-put ns settings (adopt address size) = adopt-cases S l stamps k mark Put address size (inl refl) (inl refl) (inl refl) (λ i w u e. inl refl) (λ w. register-put _ _)
+  act-put ns settings (claim id n commits) =
+      claim-cases S l stamps k mark Put id n commits settings (λ e. inl refl) (λ e f. inl refl)
+      (λ e f. search-cases S l stamps k mark Put id n commits _ (λ g. miss-cases S l stamps k mark Put id n commits settings (inl refl) (inl refl) (inr (_, refl)))
+      (λ i h g. grant-cases S l stamps k mark Put i n commits (λ _. inl refl) (λ s _. inl refl) (λ s _. inr (_, refl))))
+  act-put ns settings (release x n told pending) =
+      release-cases S l stamps k mark Put n told pending _ _ x (λ e. inl refl) (λ e f. inl refl)
+      (λ i e u f. release-in-cases S l stamps k mark Put n told pending _ _ i _ (λ g. inl refl) (λ g v. inl refl) (λ g v. inl refl))
+  act-put ns settings (sweep force) = sweep-put (sweepOf force ns settings) k 0 l
+
+-- ---- answers
+
+module _ (w : World) (page : ℕ) (e : sound S w page ≡ true) (base : ℕ) where
+  abbrev After : Question → Outcome → Type 0
+  After q o = AfterAnswer w base q (o .answer) (o .world .state .question)
+
+  abbrev l : List Arena
+  l = w .records
+
+  abbrev k : ℕ
+  k = w .state .count
+
+  fail-after : (why : Refusal) (waiting : Waiting) → after (failReply k (w .state .mark) why waiting) l (w .stamps) .world .state .question ≡ Idle
+  fail-after why Reserve = refl
+  fail-after why (Claim n commits) = refl
+
+  -- who waits goes on
+  resume-after : (a : Arena) (waiting : Waiting)
+      → let o = resume S l (w .stamps) k (w .state .mark) a waiting in
+      (o .world .state .question ≡ Idle) ⊎ CommitOf waiting (o .world .state .question)
+  resume-after a Reserve = inl refl
+  resume-after a (Claim n commits) =
+      let g : Again S l (w .stamps) k (w .state .mark) a n commits = again S l (w .stamps) k (w .state .mark) a n commits in
+      let P : Outcome → Type 0 = λ o. (o .world .state .question ≡ Idle) ⊎ CommitOf (Claim n commits) (o .world .state .question) in
+      subst P (sym (g .is))
+      (search-cases S (withRecord l k a) (withStamps (w .stamps) k) (suc k) (w .state .mark) P (g .id) n commits _ (λ _. inl refl)
+      (λ i h f. grant-cases S (withRecord l k a) (withStamps (w .stamps) k) (suc k) (w .state .mark) P i n commits (λ _. inl refl) (λ s _. inl refl) (λ s _. inr (i, s, refl))))
+
+  memory-after : (chunks bytes : ℕ) (commit exclusive : Bool) (waiting : Waiting) (accepted : Bool)
+      → After (Reserving chunks bytes commit exclusive waiting) (answerMemory S l (w .stamps) k (w .state .mark) chunks bytes commit exclusive waiting accepted base)
+  memory-after chunks bytes commit exclusive waiting false = inr (inl (fail-after _ waiting))
+  memory-after chunks bytes commit exclusive waiting true =
+      let P : Outcome → Type 0 = After (Reserving chunks bytes commit exclusive waiting) in
+      by-cond P (badRange S l k base (chunks * S)) _ _
+      (λ f. inl (refl, refl, λ r. true≢false (sym f ∙ not-6 w (some-chunk w page e) base chunks r)))
+      (λ f. by-cond P (badCount chunks) _ _ (λ g. inr (inr (inl (Count, refl))))
+      (λ g. by-cond P (eqb (base % S) 0) _ _
+      (λ h. by-cond P (leb 32 k) _ _ (λ m. inr (inr (inl (Full, refl)))) (λ m. goes (resume-after (reservedArena base chunks commit exclusive) waiting)))
+      (λ h. inr (inr (inl (Misaligned, refl))))))
+    where
+      goes : {v : Question} → (v ≡ Idle) ⊎ CommitOf waiting v → {A B : Type 0} → A ⊎ ((v ≡ Idle) ⊎ (B ⊎ CommitOf waiting v))
+      goes (inl x) = inr (inl x)
+      goes (inr x) = inr (inr (inr x))
+
+  answer-after : (q : Question) → SoundQuestion l k q → (kind : Kind) (accepted : Bool) → isFor q kind ≡ true → After q (answerTo S l (w .stamps) k (w .state .mark) q accepted base)
+  answer-after Idle h kind accepted f = absurd (true≢false (sym f ∙ no-question kind))
+  answer-after (Committing i s n) h kind true f = refl
+  answer-after (Committing i s n) h kind false f = refl
+  answer-after (Purging i j x) h kind accepted f =
+      behind (answerPurge S l (w .stamps) k (w .state .mark) i j x accepted) (visit-from l (w .stamps) k (w .state .mark) (counted x accepted) (1024 * i + (j + 1)) l i _ (j + 1) _ (omega arith)
+      (λ m. sweep-from l (w .stamps) k (w .state .mark) (counted x accepted) (1024 * i + (j + 1)) (k - (i + 1)) (i + 1) m (omega (arith, h .1, few-chunks w page e i (h .0)))))
+    where
+      behind : (o : Outcome) → From l (w .stamps) k (w .state .mark) (1024 * i + (j + 1)) o → After (Purging i j x) o
+      behind o (inl y) = inl y
+      behind o (inr y) = inr (y .0, y .1, y .2, y .3, omega (arith, y .4))
+  answer-after (Reserving chunks bytes commit exclusive waiting) h kind accepted f = memory-after chunks bytes commit exclusive waiting accepted
+  answer-after (GivingBack cause waiting) h kind accepted f = fail-after _ waiting
+
+-- ---- every call
+
+pub questions-by-rules : QuestionsByRules step
+unfolding answerOf
+questions-by-rules w ns settings c e = subst (AfterCall w c) (sym (passes w ns settings c (w .state .question) e refl)) (go c)
+  where
+    shut : (q : Question) → w .state .question ≡ q → (a : Act) → AfterAct w q (stepOn S (w .records) (w .stamps) (w .state .count) (w .state .mark) q ns settings (act a))
+    shut Idle is a = act-put (w .records) (w .stamps) (w .state .count) (w .state .mark) ns settings a
+    shut (Committing i s n) is a = (refl, ap (λ (q : Question). worldOf (w .records) (w .stamps) (stateOf (w .state .count) (w .state .mark) q)) (sym is))
+    shut (Purging i j x) is a = (refl, ap (λ (q : Question). worldOf (w .records) (w .stamps) (stateOf (w .state .count) (w .state .mark) q)) (sym is))
+    shut (Reserving chunks bytes commit exclusive waiting) is a = (refl, ap (λ (q : Question). worldOf (w .records) (w .stamps) (stateOf (w .state .count) (w .state .mark) q)) (sym is))
+    shut (GivingBack cause waiting) is a = (refl, ap (λ (q : Question). worldOf (w .records) (w .stamps) (stateOf (w .state .count) (w .state .mark) q)) (sym is))
+
+    answered : (kind : Kind) (accepted : Bool) (base : ℕ) → AfterCall w (answer kind accepted base) (answerOf S (w .records) (w .stamps) (w .state .count) (w .state .mark) (w .state .question) kind accepted base)
+    answered kind accepted base = (
+      (λ f. subst (λ (o : Outcome). AfterAnswer w base (w .state .question) (o .answer) (o .world .state .question)) (sym (when (isFor (w .state .question) kind) _ _ f))
+      (answer-after w (settings .page) e base (w .state .question) (sound-question S w (settings .page) e) kind accepted f)),
+      (λ f. subst (TurnedDown NoSuchQuestion w) (sym (unless (isFor (w .state .question) kind) _ _ f)) (refl, refl)),
+    )
+
+    go : (c : Call) → AfterCall w c (stepOn S (w .records) (w .stamps) (w .state .count) (w .state .mark) (w .state .question) ns settings c)
+    go (act a) = shut (w .state .question) refl a
+    go (query c) = refl
+    go (answer kind accepted base) = answered kind accepted base

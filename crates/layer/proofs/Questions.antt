@@ -177,7 +177,7 @@ questions-by-rules w ns settings c e = subst (AfterCall w c) (sym (passes w ns s
     answered : (kind : Kind) (accepted : Bool) (base : ℕ) → AfterCall w (answer kind accepted base) (answerOf S (w .records) (w .stamps) (w .state .count) (w .state .mark) (w .state .question) kind accepted base)
     answered kind accepted base = (
       (λ f. subst (λ (o : Outcome). AfterAnswer w base (w .state .question) (o .answer) (o .world .state .question)) (sym (when (isFor (w .state .question) kind) _ _ f))
-      (answer-after w (settings .page) e base (w .state .question) (sound-question S w (settings .page) e) kind accepted f)),
+          (answer-after w (settings .page) e base (w .state .question) (sound-question S w (settings .page) e) kind accepted f)),
       (λ f. subst (TurnedDown NoSuchQuestion w) (sym (unless (isFor (w .state .question) kind) _ _ f)) (refl, refl)),
     )
 

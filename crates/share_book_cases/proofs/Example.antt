@@ -2,7 +2,6 @@
 use mathlib.Core.Path.{_≡_, refl, ap, _∙_}
 use mathlib.Core.Bool.{true, false, not}
 use mathlib.Core.List.{List, [], _∷_, _++_}
-use mathlib.Core.Logic.{inl, inr}
 use Prim.Native.Nat.{ℕ, _+_, _*_}
 use native.Mathlib.Omega.{arith}
 use lib.Dec.{lit<}
@@ -33,7 +32,7 @@ use Rattle.layer.specs.History.{Marked, begin, isSound, Trail, start, inRange, 
 use Rattle.layer.specs.Demand.{bookOf}
 use Rattle.layer.proofs.Trails.{row-1}
 use Rattle.share_book_cases.specs.Example.{S, base, elsewhere, w₀, w₁, w₂, w₃, w₄, w₅, w₆, w₇, w₈, w₉, w₁₀, w₁₁, c₀, c₁, c₂, c₃, c₄, c₅, c₆, c₇, c₈, c₉, c₁₀, c₁₁, c₁₂, c₁₃, history, arena, feeding, telling, owing, Example}
-use Rattle.share_book_cases.proofs.Runs.{Before, at-start, After, Made, before-made, open-made, after-made, after-broken, own-call, own-answer, others-call, broken-call}
+use Rattle.share_book_cases.proofs.Runs.{at-start, After, Made, before-made, open-made, after-made, after-broken, own-call, own-answer, others-call, broken-call}
 
 -- the rules' own run after a call
 abbrev stand : World → ℕ → Marked → Trail

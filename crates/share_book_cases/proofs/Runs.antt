@@ -3,14 +3,15 @@ use mathlib.Core.Path.{_≡_, refl, sym, ap, ap₂, _∙_, subst}
 use mathlib.Core.Bool.{Bool, true, false, cond, _&&_, true≢false}
 use mathlib.Core.List.{List, [], _++_}
 use mathlib.Core.Logic.{inl, inr}
-use Prim.Native.Nat.{ℕ}
+use Prim.Native.Nat.{ℕ, _+_, _*_, _<_, _≤_}
 use Rattle.words.proofs.Tests.{when, unless}
 use Rattle.layer.specs.World.{World, Outcome, empty}
 use Rattle.layer.specs.Step.{step}
 use Rattle.layer.specs.declared.Question.the-variants.{Idle}
+use Rattle.layer.specs.declared.Answer.the-variants.{Claimed}
 use Rattle.layer.specs.Book.{Fed, Say, sayAll}
-use Rattle.layer.specs.History.{Marked, History, begin, next, isSound, Layer, outcomeBy, isBroken, left, Lent, Trail, openAt, isIdle, follow, start, ruled, entries, said, goesOn, tells, Place, isNone, feeds, hears, fedBy, toldBy, waits, standing, bytesIn, OpensAt, Where, place, fed, told, isAnswer, declines, Premises, Keeps}
-use Rattle.layer.specs.Demand.{bookOf, AllBut, Demand3}
+use Rattle.layer.specs.History.{Marked, History, begin, next, isSound, Layer, outcomeBy, isBroken, left, Lent, Trail, openAt, isIdle, follow, start, ruled, entries, said, goesOn, tells, Place, inRange, isNone, feeds, hears, fedBy, toldBy, waits, standing, bytesIn, OpensAt, Where, place, fed, told, isAnswer, declines, Premises, Keeps}
+use Rattle.layer.specs.Demand.{bookOf, AllBut, claimant, chunksOf, Demand3}
 
 module _ (L : Layer) where
   -- what the layer leaves after m, where x stood
@@ -129,6 +130,19 @@ module _ (L : Layer) where
       (subst (λ (z : List Say). AllBut (waits (place h (r .opens)) (ruled h)) z (sayAll (bookOf (place h (r .opens))) fs)) (r .told-is)
       (subst (λ (z : List Fed). AllBut (waits (place h (r .opens)) (ruled h)) (told L h (r .opens)) (sayAll (bookOf (place h (r .opens))) z)) (r .fed-is)
       (d .by-the-book p h (r .opens) (r .stands .lent) (r .keeps)))))
+
+  -- no address of what is granted to another lies in the arena
+  pub elsewhere-at : (p : ℕ) (a : Place) (h : History) (t : Trail) (x : World) (fs : List Fed) (ss : List Say) → After p a h t x fs ss → (m : Marked) (o o′ : Outcome)
+      → Made t m o o′ → m .lent ≡ x → Premises p a t m → Demand3 L → (claimant t m ≡ p → ⊥) → (z : ℕ) (fresh committed : Bool) → o′ .answer ≡ Claimed z fresh committed
+      → (y : ℕ) → z ≤ y → y < z + chunksOf (goesOn t (m .call)) * a .size → inRange a y ≡ false
+  elsewhere-at p a h t x fs ss r m o o′ k lent keeps d other z fresh committed e y lo hi =
+      let there : place h (r .opens) ≡ a = r .place-is in
+      let goes : ruled h ≡ t = r .stands .ruled-is in
+      subst (λ (b : Place). inRange b y ≡ false) there
+      (d .others-elsewhere p h m (r .opens) (r .stands .lent, λ f. lent ∙ sym (r .stands .left-is))
+      (r .keeps, subst (λ (b : Place). Premises p b (ruled h) m) (sym there) (subst (λ (q : Trail). Premises p a q m) (sym goes) keeps))
+      (λ f. other (ap (λ (q : Trail). claimant q m) (sym goes) ∙ f)) z fresh committed (ap (λ (q : Outcome). q .answer) (k .by-layer) ∙ e) y lo
+      (subst (λ (n : ℕ). y < z + n) (ap₂ (λ (q : Trail) (b : Place). chunksOf (goesOn q (m .call)) * b .size) (sym goes) (sym there)) hi))
 
 -- ---- the premises at one call
 

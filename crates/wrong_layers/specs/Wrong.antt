@@ -5,7 +5,7 @@ use mathlib.Core.Bool.{Bool, true, false, cond, not, _&&_}
 use mathlib.Core.List.{List}
 use Prim.Native.Nat.{ℕ, suc, _+_, _-_, _*_, _^_}
 use lib.Dec.{eqb, ltb}
-use lib.IntN.{ℤ, pos, negsuc}
+use lib.IntN.{pos, negsuc}
 use lib.ListN.{set}
 use Rattle.refusals.specs.declared.Refusal.{Refusal}
 use Rattle.refusals.specs.declared.Refusal.the-variants.{NoSuchQuestion, Range, NoRun, ChunkCount, TableFull}
@@ -15,7 +15,6 @@ use Rattle.arena.specs.Registering.{noBits}
 use Rattle.arena.specs.Record.{withPending}
 use Rattle.arena.specs.Claiming.{dirtyRun}
 use Rattle.layer.specs.declared.Settings.{Settings}
-use Rattle.layer.specs.declared.State.{State}
 use Rattle.layer.specs.declared.Question.{Question}
 use Rattle.layer.specs.declared.Question.the-variants.{Idle, Committing, Purging, Reserving, GivingBack}
 use Rattle.layer.specs.declared.Waiting.the-variants.{Reserve, Claim}
@@ -25,7 +24,7 @@ use Rattle.layer.specs.declared.Answer.the-variants.{Refused, Asks, Registered,
 use Rattle.layer.specs.World.{World, Outcome, outcome, worldOf, stateOf, sizeOf}
 use Rattle.layer.specs.Table.{at}
 use Rattle.layer.specs.Answering.{kindOpen}
-use Rattle.layer.specs.Step.{Act, reserve, manage, adopt, claim, release, sweep, Call, act, query, answer, step}
+use Rattle.layer.specs.Step.{reserve, manage, adopt, claim, release, sweep, Call, act, query, answer, step}
 use Rattle.layer.specs.History.{Layer}
 use Rattle.layer.specs.Demand.{Demand3}
 use Rattle.layer.specs.Ten.{TenExactly}

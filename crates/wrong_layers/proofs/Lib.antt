@@ -1,0 +1,5 @@
+pub mod Ground
+pub mod Claims
+pub mod Questions
+pub mod Registering
+pub mod Sweeps

@@ -1,0 +1,194 @@
+-- Wrong layers that turn an exclusive arena down which Registering's rules register: program 7's claim there then gets 10. Assumes nothing.
+use mathlib.Core.Path.{_≡_, refl, ap, _∙_}
+use mathlib.Core.Bool.{true, false}
+use mathlib.Core.List.{List, [], _∷_, _++_}
+use Prim.Native.Nat.{ℕ, _+_, _*_, _≤_, _<_}
+use native.Mathlib.Omega.{arith}
+use lib.Dec.{lit<}
+use lib.IntN.{pos, negsuc}
+use lib.ListN.{replicate}
+use Rattle.refusals.specs.declared.Refusal.the-variants.{Range, NoRun, ChunkCount, TableFull}
+use Rattle.words.specs.Bits.{bit, bitAt, within}
+use Rattle.words.specs.Rows.{number, pack, writeRun}
+use Rattle.runs.specs.Lowest.{all, least, lowestRun}
+use Rattle.clock.specs.Clock.{orOne, nowMs, delayMs, keeps, armed, isDue}
+use Rattle.options.specs.Options.{arenaAllowed, pageSizeSound}
+use Rattle.arena.specs.declared.Arena.{Arena}
+use Rattle.arena.specs.Registering.{newArena, reservedArena, managedArena, adoptedArena, grownArena}
+use Rattle.arena.specs.Claiming.{findRun, runCommitted, runFresh, takeRun, giveBackRun, commitRun, dirtyRun, finishGrant}
+use Rattle.arena.specs.Releasing.{tellRun, pendRun, releaseRun, stampRun}
+use Rattle.arena.specs.Sweeping.{sweepDue, disarm, young, toAsk, nextAsked, borrowChunk, unpendChunk, returnChunk, rearm}
+use Rattle.lookup.specs.Place.{bytesOf, endOf, isInside}
+use Rattle.lookup.specs.Soundness.{soundRange, clearPast, clearPastAll, soundArena}
+use Rattle.layer.specs.declared.Question.the-variants.{Idle}
+use Rattle.layer.specs.declared.Answer.the-variants.{Refused, Registered, Claimed}
+use Rattle.layer.specs.World.{World, blank, stateOf, worldOf, outcome, empty}
+use Rattle.layer.specs.Table.{at, meets, overlaps, badRange, findArena, apart, soundQuestion, soundTable, soundLent}
+use Rattle.layer.specs.Registering.{chunksFor, tooLarge, bytesAsked, askMemory, reserveReply, badCount, registerReply, registers, noWholeChunk, grows, reserveOf, manageOf, adoptOf}
+use Rattle.layer.specs.Claiming.{eligible, serves, asksCommit, grantArena, grantReply, missReply, searchOf, claimOf}
+use Rattle.layer.specs.Releasing.{releases, releaseReply, releaseOf}
+use Rattle.layer.specs.Sweeping.{purgeReply, sweptReply, visit, sweepFrom}
+use Rattle.layer.specs.Answering.{isFor, answerOf}
+use Rattle.layer.specs.Step.{manage, claim, act, rules, step}
+use Rattle.layer.specs.Book.{lowest, claims, refused, granted, enter, sayAll}
+use Rattle.layer.specs.History.{Marked, begin, isSound, start, Place, inRange, OpensAt}
+use Rattle.layer.specs.Demand.{bookOf, Demand3}
+use Rattle.share_book_cases.specs.Example.{S, plain, row, by}
+use Rattle.share_book_cases.proofs.Runs.{at-start, before-made, open-made, after-made, by-book, own-call}
+use Rattle.wrong_layers.proofs.Ground.{stand, clash, ground}
+use Rattle.wrong_layers.specs.Wrong.{smallOnly, lowOnly, fullAtOne, RegisteringFails}
+
+-- ---- 513 chunks at S; one chunk at 2^42; one chunk at 3 S beside a shared arena at S
+
+abbrev most : List ℕ
+most = replicate 16 4294967295 ++ 1 ∷ replicate 15 0
+
+abbrev large : ℕ → World
+large used = worldOf (record { base = S; chunks = 513; exclusive = 1; owned = 0; node = negsuc 0; deadline = 0; used = row used; dirty = most; committed = most; pending = row 0 } ∷ replicate 31 blank) (replicate 32768 0) (stateOf 1 false Idle)
+
+abbrev far : ℕ → World
+far used = worldOf (record { base = 4398046511104; chunks = 1; exclusive = 1; owned = 0; node = negsuc 0; deadline = 0; used = row used; dirty = row 1; committed = row 1; pending = row 0 } ∷ replicate 31 blank) (replicate 32768 0) (stateOf 1 false Idle)
+
+abbrev shared : Arena
+shared = record { base = S; chunks = 1; exclusive = 0; owned = 0; node = negsuc 0; deadline = 0; used = row 0; dirty = row 1; committed = row 1; pending = row 0 }
+
+abbrev alone : World
+alone = worldOf (shared ∷ replicate 31 blank) (replicate 32768 0) (stateOf 1 false Idle)
+
+abbrev both : ℕ → World
+both used = worldOf (shared ∷ record { base = 3 * S; chunks = 1; exclusive = 1; owned = 0; node = negsuc 0; deadline = 0; used = row used; dirty = row 1; committed = row 1; pending = row 0 } ∷ replicate 30 blank) (replicate 32768 0) (stateOf 2 false Idle)
+
+abbrev managesLarge : Marked
+managesLarge = by 9 empty 0 (act (manage S (513 * S) true (negsuc 0) false true))
+
+abbrev managesFar : Marked
+managesFar = by 9 empty 0 (act (manage 4398046511104 S true (negsuc 0) false true))
+
+abbrev sharesOne : Marked
+sharesOne = by 9 empty 0 (act (manage S S false (negsuc 0) false true))
+
+abbrev managesNext : Marked
+managesNext = by 9 alone 0 (act (manage (3 * S) S true (negsuc 0) false true))
+
+abbrev claimsAt : ℕ → World → Marked
+claimsAt id w = by 7 w 0 (act (claim (pos id) 1 false))
+
+abbrev at-large : Place
+at-large = record { id = 0; size = S; base = S; chunks = 513; managed = true }
+
+abbrev at-far : Place
+at-far = record { id = 0; size = S; base = 4398046511104; chunks = 1; managed = true }
+
+abbrev at-next : Place
+at-next = record { id = 1; size = S; base = 3 * S; chunks = 1; managed = true }
+
+record Facts : Type 0 where
+  large-registered : step empty 0 plain (managesLarge .call) ≡ outcome (Registered 0) (large 0)
+  large-claimed : step (large 0) 0 plain (claimsAt 0 empty .call) ≡ outcome (Claimed S false true) (large 1)
+  large-says : sayAll (bookOf at-large) (claims lowest 1 ∷ []) ≡ granted S false ∷ []
+  far-registered : step empty 0 plain (managesFar .call) ≡ outcome (Registered 0) (far 0)
+  far-claimed : step (far 0) 0 plain (claimsAt 0 empty .call) ≡ outcome (Claimed 4398046511104 false true) (far 1)
+  far-says : sayAll (bookOf at-far) (claims lowest 1 ∷ []) ≡ granted 4398046511104 false ∷ []
+  none-there : step empty 0 plain (claimsAt 0 empty .call) ≡ outcome (Refused NoRun) empty
+  sound-alone : isSound managesNext ≡ true
+  shared-registered : step empty 0 plain (sharesOne .call) ≡ outcome (Registered 0) alone
+  next-registered : step alone 0 plain (managesNext .call) ≡ outcome (Registered 1) (both 0)
+  next-claimed : step (both 0) 0 plain (claimsAt 1 alone .call) ≡ outcome (Claimed (3 * S) false true) (both 1)
+  none-next : step alone 0 plain (claimsAt 1 alone .call) ≡ outcome (Refused NoRun) alone
+  next-says : sayAll (bookOf at-next) (claims lowest 1 ∷ []) ≡ granted (3 * S) false ∷ []
+
+facts : Facts
+unfolding enter inRange bit bitAt within number pack writeRun all least lowestRun orOne nowMs delayMs keeps armed isDue arenaAllowed pageSizeSound newArena reservedArena managedArena adoptedArena grownArena findRun runCommitted runFresh takeRun giveBackRun commitRun dirtyRun finishGrant tellRun pendRun releaseRun stampRun sweepDue disarm young toAsk nextAsked borrowChunk unpendChunk returnChunk rearm bytesOf endOf isInside soundRange clearPast clearPastAll soundArena empty meets overlaps badRange findArena apart soundQuestion soundTable soundLent chunksFor tooLarge bytesAsked askMemory reserveReply badCount registerReply registers noWholeChunk grows reserveOf manageOf adoptOf eligible serves asksCommit grantArena grantReply missReply searchOf claimOf releases releaseReply releaseOf purgeReply sweptReply visit sweepFrom isFor answerOf rules
+facts = record {
+  large-registered = refl;
+  large-claimed = refl;
+  large-says = refl;
+  far-registered = refl;
+  far-claimed = refl;
+  far-says = refl;
+  none-there = refl;
+  sound-alone = refl;
+  shared-registered = refl;
+  next-registered = refl;
+  next-claimed = refl;
+  none-next = refl;
+  next-says = refl;
+}
+
+-- ---- each fails
+
+large-opens : OpensAt start managesLarge
+unfolding empty
+large-opens = record {
+  base = S;
+  chunks = 513;
+  managed = true;
+  is-sound = ground .sound-empty;
+  registrable = record { some = omega arith; few = omega arith; whole = refl; somewhere = omega arith; ends = lit< tt; apart = λ i h. absurd (omega arith); room = omega arith };
+  registers = record { from = S; bytes = 513 * S; node = negsuc 0; is-call = refl; none-open = refl; some-start = omega arith; first = (omega arith, omega arith); last = (omega arith, omega arith); sum-fits = lit< tt };
+}
+
+small-only : Demand3 smallOnly → ⊥
+unfolding inRange empty large-opens
+small-only d =
+    let L = smallOnly in
+    let r = open-made L 7 begin start empty (at-start L) managesLarge (outcome (Registered 0) (large 0)) (outcome (Refused ChunkCount) empty) large-opens
+    (record { sound = ground .sound-empty; by-rules = facts .large-registered; by-layer = refl; passed = refl }) refl in
+    let u = after-made L 7 at-large _ (stand (large 0) 9 managesLarge) empty _ _ r (claimsAt 0 empty) (outcome (Claimed S false true) (large 1)) (outcome (Refused NoRun) empty) (claims lowest 1 ∷ []) (refused 10 ∷ [])
+    (record { sound = ground .sound-empty; by-rules = facts .large-claimed; by-layer = facts .none-there; passed = refl }) refl (own-call 7 at-large (stand (large 0) 9 managesLarge) (claimsAt 0 empty) refl refl refl) refl refl in
+    let b = by-book L 7 at-large _ (stand (large 1) 7 (claimsAt 0 empty)) empty _ _ u d in
+    clash 10 S false (b .0) [] (b .1 ∙ facts .large-says)
+
+far-opens : OpensAt start managesFar
+unfolding empty
+far-opens = record {
+  base = 4398046511104;
+  chunks = 1;
+  managed = true;
+  is-sound = ground .sound-empty;
+  registrable = record { some = omega arith; few = omega arith; whole = refl; somewhere = omega arith; ends = lit< tt; apart = λ i h. absurd (omega arith); room = omega arith };
+  registers = record { from = 4398046511104; bytes = S; node = negsuc 0; is-call = refl; none-open = refl; some-start = omega arith; first = (omega arith, omega arith); last = (omega arith, omega arith); sum-fits = lit< tt };
+}
+
+low-only : Demand3 lowOnly → ⊥
+unfolding inRange empty far-opens
+low-only d =
+    let L = lowOnly in
+    let r = open-made L 7 begin start empty (at-start L) managesFar (outcome (Registered 0) (far 0)) (outcome (Refused Range) empty) far-opens
+    (record { sound = ground .sound-empty; by-rules = facts .far-registered; by-layer = refl; passed = refl }) refl in
+    let u = after-made L 7 at-far _ (stand (far 0) 9 managesFar) empty _ _ r (claimsAt 0 empty) (outcome (Claimed 4398046511104 false true) (far 1)) (outcome (Refused NoRun) empty) (claims lowest 1 ∷ []) (refused 10 ∷ [])
+    (record { sound = ground .sound-empty; by-rules = facts .far-claimed; by-layer = facts .none-there; passed = refl }) refl (own-call 7 at-far (stand (far 0) 9 managesFar) (claimsAt 0 empty) refl refl refl) refl refl in
+    let b = by-book L 7 at-far _ (stand (far 1) 7 (claimsAt 0 empty)) empty _ _ u d in
+    clash 10 4398046511104 false (b .0) [] (b .1 ∙ facts .far-says)
+
+next-opens : OpensAt (stand alone 9 sharesOne) managesNext
+next-opens = record {
+  base = 3 * S;
+  chunks = 1;
+  managed = true;
+  is-sound = facts .sound-alone;
+  registrable = record { some = omega arith; few = omega arith; whole = refl; somewhere = omega arith; ends = lit< tt; apart = λ i h x c lo hi. apart-there i h x c lo hi; room = omega arith };
+  registers = record { from = 3 * S; bytes = S; node = negsuc 0; is-call = refl; none-open = refl; some-start = omega arith; first = (omega arith, omega arith); last = (omega arith, omega arith); sum-fits = lit< tt };
+}
+  where
+    apart-there : (i : ℕ) → i < 1 → (x : ℕ) → (at (alone .records) i .base ≤ x) × (x < at (alone .records) i .base + at (alone .records) i .chunks * S) → 3 * S ≤ x → x < 3 * S + 1 * S → ⊥
+    apart-there i h x c lo hi =
+        let z : i ≡ 0 = omega arith in
+        let b : at (alone .records) i .base + at (alone .records) i .chunks * S ≡ 67108864 = ap (λ (j : ℕ). at (alone .records) j .base + at (alone .records) j .chunks * S) z in
+        omega (arith, c .1, b)
+
+full-at-one : Demand3 fullAtOne → ⊥
+unfolding inRange empty next-opens
+full-at-one d =
+    let L = fullAtOne in
+    let b₁ = before-made L begin start empty (at-start L) sharesOne (outcome (Registered 0) alone) (outcome (Registered 0) alone)
+    (record { sound = ground .sound-empty; by-rules = facts .shared-registered; by-layer = facts .shared-registered; passed = refl }) refl in
+    let r = open-made L 7 _ (stand alone 9 sharesOne) alone b₁ managesNext (outcome (Registered 1) (both 0)) (outcome (Refused TableFull) alone) next-opens
+    (record { sound = facts .sound-alone; by-rules = facts .next-registered; by-layer = refl; passed = refl }) refl in
+    let u = after-made L 7 at-next _ (stand (both 0) 9 managesNext) alone _ _ r (claimsAt 1 alone) (outcome (Claimed (3 * S) false true) (both 1)) (outcome (Refused NoRun) alone) (claims lowest 1 ∷ []) (refused 10 ∷ [])
+    (record { sound = facts .sound-alone; by-rules = facts .next-claimed; by-layer = facts .none-next; passed = refl }) refl (own-call 7 at-next (stand (both 0) 9 managesNext) (claimsAt 1 alone) refl refl refl) refl refl in
+    let b = by-book L 7 at-next _ (stand (both 1) 7 (claimsAt 1 alone)) alone _ _ u d in
+    clash 10 (3 * S) false (b .0) [] (b .1 ∙ facts .next-says)
+
+pub registering-fails : RegisteringFails
+registering-fails = record { small-only = small-only; low-only = low-only; full-at-one = full-at-one }

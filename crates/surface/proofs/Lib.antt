@@ -1,4 +1,5 @@
 mod Cases
 pub mod NumberLaws
 pub mod CallLaws
+pub mod Exported
 pub mod Steps

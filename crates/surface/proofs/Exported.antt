@@ -1,0 +1,205 @@
+-- Demand 3 of the exported calls: read back, they answer and leave what the rules say. Assumes nothing.
+use mathlib.Core.Path.{_≡_, refl, sym, ap, ap₂, _∙_, subst}
+use mathlib.Core.Bool.{Bool, true, false}
+use mathlib.Core.List.{List}
+use Prim.Native.Nat.{ℕ, zero, suc, _+_, _-_}
+use lib.Dec.{ltb}
+use lib.IntN.{pos, negsuc}
+use Rattle.words.proofs.Tests.{by-cond, when}
+use Rattle.runs.specs.declared.Found.{Found}
+use Rattle.runs.specs.declared.Found.the-variants.{At, Nothing}
+use Rattle.refusals.specs.declared.Refusal.{Refusal}
+use Rattle.refusals.specs.declared.Refusal.the-variants.{Broken, QuestionOpen, NoSuchQuestion, Zero, ArenasOff, Range, NotWhole, NotInside, PastEnd, NoRun, CommitRefused, ChunkCount, TableFull, MemoryRefused, NoWholeChunk, HostRefused}
+use Rattle.arena.specs.declared.Arena.{Arena}
+use Rattle.arena.specs.Sweeping.{sweepDue, disarm, nextAsked}
+use Rattle.arena.proofs.FlagLaws.{flag-read}
+use Rattle.purge.specs.Stamps.{stampsOf}
+use Rattle.layer.specs.declared.Settings.{Settings}
+use Rattle.layer.specs.declared.State.{State}
+use Rattle.layer.specs.declared.Sweep.{Sweep}
+use Rattle.layer.specs.declared.Question.{Question}
+use Rattle.layer.specs.declared.Question.the-variants.{Idle, Committing, Purging, Reserving, GivingBack}
+use Rattle.layer.specs.declared.Waiting.{Waiting}
+use Rattle.layer.specs.declared.Waiting.the-variants.{Reserve, Claim}
+use Rattle.layer.specs.declared.Kind.{Kind}
+use Rattle.layer.specs.declared.Ask.the-variants.{AskCommit, AskPurge, AskMemory, AskGiveBack}
+use Rattle.layer.specs.declared.Answer.{Answer}
+use Rattle.layer.specs.declared.Answer.the-variants.{Refused, Asks, Registered, Claimed, Released, Swept, Owns, Area}
+use Rattle.layer.specs.World.{World, Outcome, outcome, worldOf, after}
+use Rattle.layer.specs.Table.{at, sound}
+use Rattle.layer.specs.Registering.{askMemory, withRecord, withStamps, register}
+use Rattle.layer.specs.Sweeping.{purgeReply, sweptReply, visitAt, visit, sweepFrom}
+use Rattle.layer.specs.Answering.{isFor, counted, failReply, resume, answerTo, answerOf as answerOn}
+use Rattle.layer.specs.Step.{Act, reserve, manage, adopt, claim, release, sweep, Query, owns, area, Call, act, query, answer, sweepOf, actOn, queryOn, stepOn, rules, step}
+use Rattle.layer.specs.Demand.{Demand3}
+use Rattle.layer.proofs.Rules.{Again, again}
+use Rattle.layer.proofs.Cases.{grant-cases, search-cases, miss-cases, claim-cases, release-in-cases, release-cases, reserve-cases, register-cases, manage-cases, adopt-cases, memory-cases}
+use Rattle.layer.proofs.Elsewhere.{demand3}
+use Rattle.surface.specs.declared.StateNumbers.{StateNumbers}
+use Rattle.surface.specs.Numbers.{stateOf, numbersOf, isState}
+use Rattle.surface.specs.Told.{settingsOf}
+use Rattle.surface.specs.Replies.{answerNumbers, inNumbers, stepNumbers}
+use Rattle.surface.specs.Exported.{settingsNumbers, Grant, registering, claiming, releasing, sweeping, owning, lying, grantOfAct, grantOfQuery, grantOfWaiting, grantOfQuestion, grantOf, granting, answerOf, readBack, exported}
+use Rattle.surface.proofs.NumberLaws.{state-read, is-state}
+
+-- ---- what is granted is of the call's kind
+
+abbrev Shape : Grant → Answer → Type 0
+Shape g (Refused why) = Unit {0}
+Shape g (Asks ask) = Unit {0}
+Shape g (Registered id) = g ≡ registering
+Shape g (Claimed address fresh committed) = g ≡ claiming
+Shape g Released = g ≡ releasing
+Shape g (Swept count) = g ≡ sweeping
+Shape g (Owns whether) = g ≡ owning
+Shape g (Area base bytes) = g ≡ lying
+
+abbrev ShapeOf : Grant → Outcome → Type 0
+ShapeOf g o = Shape g (o .answer)
+
+module _ (S : ℕ) (l : List Arena) (stamps : List ℕ) (k : ℕ) (mark : Bool) where
+  register-shape : (chunks : ℕ) (a : Arena) → ShapeOf registering (register l stamps k mark chunks a)
+  register-shape chunks a = register-cases S l stamps k mark (ShapeOf registering) chunks a tt tt (λ e f. refl)
+
+  module _ (w : Sweep) where
+    visit-shape : (l : List Arena) (i : ℕ) (a : Arena) (from : ℕ) (rest : List Arena → Outcome) → ((m : List Arena) → ShapeOf sweeping (rest m)) → ShapeOf sweeping (visit S stamps k mark w l i a from rest)
+    unfolding visit purgeReply
+    visit-shape l i a from rest go-on = go (nextAsked a (stampsOf stamps i) (w .force) (w .now) (w .delay) from)
+      where
+        go : (f : Found) → ShapeOf sweeping (visitAt S stamps k mark w l i a rest f)
+        go (At j) = tt
+        go Nothing = go-on _
+
+    sweep-shape : (f i : ℕ) (l : List Arena) → ShapeOf sweeping (sweepFrom S stamps k mark w f i l)
+    unfolding sweepFrom sweptReply
+    sweep-shape zero i l = refl
+    sweep-shape (suc f) i l =
+        by-cond (ShapeOf sweeping) (sweepDue (at l i) (w .force) (w .now)) _ _ (λ e. visit-shape l i (disarm (at l i)) 0 (sweepFrom S stamps k mark w f (i + 1)) (λ m. sweep-shape f (i + 1) m)) (λ e. sweep-shape f (i + 1) l)
+
+  act-shape : (q : Question) (ns : ℕ) (settings : Settings) (a : Act) → ShapeOf (grantOfAct a) (actOn S l stamps k mark q ns settings a)
+  unfolding askMemory
+  act-shape q ns settings (reserve size commit large exclusive) = reserve-cases S l stamps k mark (ShapeOf registering) size commit large exclusive (settings .page) tt tt
+  act-shape q ns settings (manage start size exclusive node mapped reserved) =
+      manage-cases S l stamps k mark (ShapeOf registering) start size exclusive node mapped reserved tt tt tt (λ e. register-shape _ _)
+  act-shape q ns settings (adopt address size) = adopt-cases S l stamps k mark (ShapeOf registering) address size tt tt tt (λ i w u e. refl) (λ w. register-shape _ _)
+  act-shape q ns settings (claim id n commits) =
+      claim-cases S l stamps k mark (ShapeOf claiming) id n commits settings (λ e. tt) (λ e f. tt)
+      (λ e f. search-cases S l stamps k mark (ShapeOf claiming) id n commits _ (λ g. miss-cases S l stamps k mark (ShapeOf claiming) id n commits settings tt tt tt)
+      (λ i h g. grant-cases S l stamps k mark (ShapeOf claiming) i n commits (λ _. tt) (λ s _. refl) (λ s _. tt)))
+  act-shape q ns settings (release x n told pending) =
+      release-cases S l stamps k mark (ShapeOf releasing) n told pending _ _ x (λ e. tt) (λ e f. tt)
+      (λ i e u f. release-in-cases S l stamps k mark (ShapeOf releasing) n told pending _ _ i _ (λ g. tt) (λ g v. tt) (λ g v. refl))
+  act-shape q ns settings (sweep force) = sweep-shape (sweepOf force ns settings) k 0 l
+
+  fail-shape : (g : Grant) (why : Refusal) (waiting : Waiting) → ShapeOf g (after (failReply k mark why waiting) l stamps)
+  fail-shape g why Reserve = tt
+  fail-shape g why (Claim n commits) = tt
+
+  resume-shape : (a : Arena) (waiting : Waiting) → ShapeOf (grantOfWaiting waiting) (resume S l stamps k mark a waiting)
+  resume-shape a Reserve = refl
+  resume-shape a (Claim n commits) =
+      let g : Again S l stamps k mark a n commits = again S l stamps k mark a n commits in
+      subst (ShapeOf claiming) (sym (g .is))
+      (search-cases S (withRecord l k a) (withStamps stamps k) (suc k) mark (ShapeOf claiming) (g .id) n commits _ (λ _. tt)
+      (λ i h f. grant-cases S (withRecord l k a) (withStamps stamps k) (suc k) mark (ShapeOf claiming) i n commits (λ _. tt) (λ s _. refl) (λ s _. tt)))
+
+  answer-shape : (q : Question) (kind : Kind) (accepted : Bool) (base : ℕ) → ShapeOf (grantOfQuestion q) (answerOn S l stamps k mark q kind accepted base)
+  unfolding answerOn
+  answer-shape q kind accepted base = by-cond (ShapeOf (grantOfQuestion q)) (isFor q kind) _ _ (λ e. go q accepted) (λ e. tt)
+    where
+      go : (p : Question) (accepted : Bool) → ShapeOf (grantOfQuestion p) (answerTo S l stamps k mark p accepted base)
+      go Idle accepted = tt
+      go (Committing i s n) true = refl
+      go (Committing i s n) false = tt
+      go (Purging i j w) accepted = visit-shape (counted w accepted) l i _ _ _ (λ m. sweep-shape (counted w accepted) (k - (i + 1)) (i + 1) m)
+      go (Reserving chunks bytes commit exclusive waiting) false = fail-shape _ _ waiting
+      go (Reserving chunks bytes commit exclusive waiting) true =
+          memory-cases S l stamps k mark (ShapeOf (grantOfWaiting waiting)) chunks bytes commit exclusive waiting base tt (λ cause. tt) (λ d e f u. resume-shape _ waiting)
+      go (GivingBack cause waiting) accepted = fail-shape _ _ waiting
+
+  query-shape : (q : Question) (ns : ℕ) (settings : Settings) (c : Query) → Shape (grantOfQuery c) (queryOn S l stamps k mark q ns settings c)
+  query-shape q ns settings (owns address) = refl
+  query-shape q ns settings (area (pos i)) = by-cond (Shape lying) (ltb i k) _ _ (λ e. refl) (λ e. refl)
+  query-shape q ns settings (area (negsuc i)) = refl
+
+  call-shape : (q : Question) (ns : ℕ) (settings : Settings) (c : Call) → ShapeOf (grantOf q c) (stepOn S l stamps k mark q ns settings c)
+  call-shape q ns settings (act a) = go q
+    where
+      go : (p : Question) → ShapeOf (grantOfAct a) (stepOn S l stamps k mark p ns settings (act a))
+      go Idle = act-shape Idle ns settings a
+      go (Committing i s n) = tt
+      go (Purging i j w) = tt
+      go (Reserving chunks bytes commit exclusive waiting) = tt
+      go (GivingBack cause waiting) = tt
+  call-shape q ns settings (query c) = query-shape q ns settings c
+  call-shape q ns settings (answer kind accepted base) = answer-shape q kind accepted base
+
+-- ---- an answer is read as it was written
+
+answer-read : (q : Question) (c : Call) (r : Answer) (st : StateNumbers) → Shape (grantOf q c) r → answerOf q c (answerNumbers r st) ≡ r
+answer-read q c (Refused Broken) st h = refl
+answer-read q c (Refused QuestionOpen) st h = refl
+answer-read q c (Refused NoSuchQuestion) st h = refl
+answer-read q c (Refused Zero) st h = refl
+answer-read q c (Refused ArenasOff) st h = refl
+answer-read q c (Refused Range) st h = refl
+answer-read q c (Refused NotWhole) st h = refl
+answer-read q c (Refused NotInside) st h = refl
+answer-read q c (Refused PastEnd) st h = refl
+answer-read q c (Refused NoRun) st h = refl
+answer-read q c (Refused CommitRefused) st h = refl
+answer-read q c (Refused ChunkCount) st h = refl
+answer-read q c (Refused TableFull) st h = refl
+answer-read q c (Refused MemoryRefused) st h = refl
+answer-read q c (Refused NoWholeChunk) st h = refl
+answer-read q c (Refused HostRefused) st h = refl
+answer-read q c (Asks (AskCommit address bytes)) st h = refl
+answer-read q c (Asks (AskPurge address bytes decommit)) st h = refl
+answer-read q c (Asks (AskMemory bytes align commit large)) st h = refl
+answer-read q c (Asks (AskGiveBack address bytes)) st h = refl
+answer-read q c (Registered id) st h = ap (λ (g : Grant). granting g (answerNumbers (Registered id) st)) h
+answer-read q c (Claimed address fresh committed) st h = ap (λ (g : Grant). granting g (answerNumbers (Claimed address fresh committed) st)) h
+answer-read q c Released st h = ap (λ (g : Grant). granting g (answerNumbers Released st)) h
+answer-read q c (Swept count) st h = ap (λ (g : Grant). granting g (answerNumbers (Swept count) st)) h
+answer-read q c (Owns whether) st h = ap (λ (g : Grant). granting g (answerNumbers (Owns whether) st)) h
+answer-read q c (Area base bytes) st h = ap (λ (g : Grant). granting g (answerNumbers (Area base bytes) st)) h
+
+-- the reply has the state's numbers
+reply-state : (r : Answer) (st : StateNumbers) → answerNumbers r st .state ≡ st
+reply-state (Refused why) st = refl
+reply-state (Asks (AskCommit address bytes)) st = refl
+reply-state (Asks (AskPurge address bytes decommit)) st = refl
+reply-state (Asks (AskMemory bytes align commit large)) st = refl
+reply-state (Asks (AskGiveBack address bytes)) st = refl
+reply-state (Registered id) st = refl
+reply-state (Claimed address fresh committed) st = refl
+reply-state Released st = refl
+reply-state (Swept count) st = refl
+reply-state (Owns whether) st = refl
+reply-state (Area base bytes) st = refl
+
+settings-read : (s : Settings) → settingsOf true (settingsNumbers s) ≡ s
+unfolding settingsOf
+settings-read s = λ i. record { delay = s .delay; decommits = flag-read (s .decommits) i; off = flag-read (s .off) i; reserve = s .reserve; page = s .page }
+
+-- ---- so the exported calls are the rules
+
+step-shape : (w : World) (ns : ℕ) (settings : Settings) (c : Call) → Shape (grantOf (w .state .question) c) (step w ns settings c .answer)
+unfolding rules
+step-shape w ns settings c =
+    by-cond (ShapeOf (grantOf (w .state .question) c)) (sound 33554432 w (settings .page)) _ _
+    (λ e. call-shape 33554432 (w .records) (w .stamps) (w .state .count) (w .state .mark) (w .state .question) ns settings c) (λ e. tt)
+
+pub exported-rules : (w : World) (ns : ℕ) (settings : Settings) (c : Call) → exported w ns settings c ≡ step w ns settings c
+unfolding stepNumbers
+exported-rules w ns settings c =
+    let o : Outcome = step w ns settings c in
+    ap (readBack w c) (when (isState (numbersOf (w .state))) _ _ (is-state (w .state)))
+    ∙ ap₂ (λ (s : State) (t : Settings). readBack w c (inNumbers (step (worldOf (w .records) (w .stamps) s) ns t c))) (state-read (w .state)) (settings-read settings)
+    ∙ ap₂ (λ (r : Answer) (s : State). outcome r (worldOf (o .world .records) (o .world .stamps) s))
+    (answer-read (w .state .question) c (o .answer) (numbersOf (o .world .state)) (step-shape w ns settings c))
+    (ap stateOf (reply-state (o .answer) (numbersOf (o .world .state))) ∙ state-read (o .world .state))
+
+-- DEMAND 3, of what people link
+pub demand3-exported : Demand3 exported
+demand3-exported = demand3 exported exported-rules

@@ -1,0 +1,114 @@
+-- The exported calls as a layer: the state and the settings are written in numbers, the call is made as include/sirqobal.h declares it, and its reply is read back. So
+-- demand 3 is stated of what people link. Assumes nothing.
+use mathlib.Core.Bool.{cond}
+use Prim.Native.Nat.{ℕ}
+use lib.Dec.{eqb}
+use Rattle.refusals.specs.declared.Refusal.{Refusal}
+use Rattle.refusals.specs.declared.Refusal.the-variants.{Broken, QuestionOpen, NoSuchQuestion, Zero, ArenasOff, Range, NotWhole, NotInside, PastEnd, NoRun, CommitRefused, ChunkCount, TableFull, MemoryRefused, NoWholeChunk, HostRefused}
+use Rattle.arena.specs.Flags.{asFlag}
+use Rattle.layer.specs.declared.Settings.{Settings}
+use Rattle.layer.specs.declared.Question.{Question}
+use Rattle.layer.specs.declared.Question.the-variants.{Idle, Committing, Purging, Reserving, GivingBack}
+use Rattle.layer.specs.declared.Waiting.{Waiting}
+use Rattle.layer.specs.declared.Waiting.the-variants.{Reserve, Claim}
+use Rattle.layer.specs.declared.Ask.{Ask}
+use Rattle.layer.specs.declared.Ask.the-variants.{AskCommit, AskPurge, AskMemory, AskGiveBack}
+use Rattle.layer.specs.declared.Answer.{Answer}
+use Rattle.layer.specs.declared.Answer.the-variants.{Refused, Asks, Registered, Claimed, Released, Swept, Owns, Area}
+use Rattle.layer.specs.World.{World, Outcome, outcome, worldOf}
+use Rattle.layer.specs.Step.{Act, reserve, manage, adopt, claim, release, sweep, Query, owns, area, Call, act, query, answer}
+use Rattle.layer.specs.History.{Layer}
+use Rattle.surface.specs.Numbers.{stateOf, numbersOf}
+use Rattle.surface.specs.declared.told.SettingsNumbers.{SettingsNumbers}
+use Rattle.surface.specs.declared.reply.ReplyNumbers.{ReplyNumbers}
+use Rattle.surface.specs.Replies.{Left, stepNumbers}
+
+-- the settings, written in numbers
+abbrev pub settingsNumbers : Settings → SettingsNumbers
+settingsNumbers s = record { delay = s .delay; decommits = asFlag (s .decommits); off = asFlag (s .off); reserve = s .reserve; page = s .page }
+
+-- ---- a reply, read back
+
+-- what a call is granted
+pub data Grant : Type 0 where
+  registering : Grant
+  claiming : Grant
+  releasing : Grant
+  sweeping : Grant
+  owning : Grant
+  lying : Grant
+
+abbrev pub grantOfAct : Act → Grant
+grantOfAct (reserve size commit large exclusive) = registering
+grantOfAct (manage from size exclusive node mapped reserved) = registering
+grantOfAct (adopt address size) = registering
+grantOfAct (claim id n commits) = claiming
+grantOfAct (release address n told pending) = releasing
+grantOfAct (sweep force) = sweeping
+
+abbrev pub grantOfQuery : Query → Grant
+grantOfQuery (owns address) = owning
+grantOfQuery (area id) = lying
+
+abbrev pub grantOfWaiting : Waiting → Grant
+grantOfWaiting Reserve = registering
+grantOfWaiting (Claim n commits) = claiming
+
+-- by an answer, the call that put the question; an answer for no question, or for a give-back, grants nothing
+abbrev pub grantOfQuestion : Question → Grant
+grantOfQuestion Idle = releasing
+grantOfQuestion (Committing i s n) = claiming
+grantOfQuestion (Purging i j w) = sweeping
+grantOfQuestion (Reserving chunks bytes commit exclusive waiting) = grantOfWaiting waiting
+grantOfQuestion (GivingBack cause waiting) = releasing
+
+abbrev pub grantOf : Question → Call → Grant
+grantOf q (act a) = grantOfAct a
+grantOf q (query c) = grantOfQuery c
+grantOf q (answer kind accepted base) = grantOfQuestion q
+
+abbrev pub granting : Grant → ReplyNumbers → Answer
+granting registering r = Registered (r .id)
+granting claiming r = Claimed (r .address) (r .fresh) (r .committed)
+granting releasing r = Released
+granting sweeping r = Swept (r .count)
+granting owning r = Owns (r .owns)
+granting lying r = Area (r .address) (r .bytes)
+
+-- the question, by the number of its kind
+abbrev pub askOf : ReplyNumbers → Ask
+askOf r =
+    cond (eqb (r .kind) 1) (AskCommit (r .address) (r .bytes))
+    (cond (eqb (r .kind) 2) (AskPurge (r .address) (r .bytes) (r .decommit))
+    (cond (eqb (r .kind) 3) (AskMemory (r .bytes) (r .align) (r .commit) (r .large)) (AskGiveBack (r .address) (r .bytes))))
+
+-- the refusal of a number
+abbrev pub refusalOf : ℕ → Refusal
+refusalOf n =
+    cond (eqb n 1) Broken
+    (cond (eqb n 2) QuestionOpen
+    (cond (eqb n 3) NoSuchQuestion
+    (cond (eqb n 4) Zero
+    (cond (eqb n 5) ArenasOff
+    (cond (eqb n 6) Range
+    (cond (eqb n 7) NotWhole
+    (cond (eqb n 8) NotInside
+    (cond (eqb n 9) PastEnd
+    (cond (eqb n 10) NoRun
+    (cond (eqb n 11) CommitRefused
+    (cond (eqb n 12) ChunkCount
+    (cond (eqb n 13) TableFull
+    (cond (eqb n 14) MemoryRefused
+    (cond (eqb n 15) NoWholeChunk HostRefused))))))))))))))
+
+-- "0 granted, 255 a question, else the refusal"
+abbrev pub answerOf : Question → Call → ReplyNumbers → Answer
+answerOf q c r = cond (eqb (r .number) 0) (granting (grantOf q c) r) (cond (eqb (r .number) 255) (Asks (askOf r)) (Refused (refusalOf (r .number))))
+
+-- ---- the layer
+
+abbrev pub readBack : World → Call → Left → Outcome
+readBack w c o = outcome (answerOf (w .state .question) c (o .reply)) (worldOf (o .records) (o .stamps) (stateOf (o .reply .state)))
+
+abbrev pub exported : Layer
+exported w ns settings c = readBack w c (stepNumbers (w .records) (w .stamps) (numbersOf (w .state)) ns (settingsNumbers settings) c)

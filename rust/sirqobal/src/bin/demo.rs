@@ -1,11 +1,29 @@
 //! Two programs share one arena layer over real memory: guidance keeps its rings in an exclusive
-//! arena, the recorder its telemetry in shared ones. Follow it on the terminal.
+//! arena, the recorder its telemetry in shared ones. Follow it on the terminal. What it says is
+//! compared, and it ends with 1 if something is not so.
 
 use sirqobal::linux::{page_size, Chunks, Memory};
-use sirqobal::{Refusal, ANY, CHUNK};
+use sirqobal::{Layer, Refusal, ANY, CHUNK};
 use std::fs;
+use std::process::ExitCode;
 
-fn main() -> Result<(), Refusal> {
+fn main() -> ExitCode {
+    match drive() {
+        Ok(0) => ExitCode::SUCCESS,
+        Ok(wrong) => {
+            eprintln!("{wrong} things are not as they should be");
+            ExitCode::FAILURE
+        }
+        Err(refusal) => {
+            eprintln!("turned down: {refusal}");
+            ExitCode::FAILURE
+        }
+    }
+}
+
+/// The demonstration: how many things are not as it says.
+fn drive() -> Result<usize, Refusal> {
+    let mut wrong = 0;
     let mut memory = Memory::new();
     memory.settings().reserve = 4 * CHUNK;
 
@@ -20,10 +38,14 @@ fn main() -> Result<(), Refusal> {
 
     say("The recorder claims 3 chunks of any shared arena. There is none: the layer reserves 4.");
     let telemetry = written(memory.claim(ANY, 3)?, b't');
+    wrong += compare("its chunks are fresh", telemetry.is_fresh());
     show(&memory);
 
     say("Ring 1 is closed: its chunks are released, and stay resident until a sweep.");
+    let closed = ring1.address();
+    let before = resident();
     memory.release(ring1)?;
+    wrong += compare("they stay resident", resident() + 1 >= before);
     show(&memory);
 
     say("The recorder asks for 2 chunks more. Ring 1's are free, but not for it: a new arena.");
@@ -31,15 +53,28 @@ fn main() -> Result<(), Refusal> {
     show(&memory);
 
     say("A forced sweep hands the memory of ring 1's chunks back to the OS.");
-    println!("  {} chunks purged", memory.sweep(true)?);
+    let before = resident();
+    let purged = memory.sweep(true)?;
+    println!("  {purged} chunks purged");
+    wrong += compare("2 chunks are purged", purged == 2);
+    wrong += compare("64 MiB less are resident", resident() + 63 <= before);
     show(&memory);
 
     say("Guidance wants a run of 3. Free are 2 and 2, apart: turned down, and nothing changes.");
-    let refused = memory.claim(guidance, 3).map(|_| ());
-    println!("  {}", refused.expect_err("no run of 3 is free"));
+    let before = memory.layer().clone();
+    match memory.claim(guidance, 3) {
+        Ok(_) => wrong += compare("it is turned down", false),
+        Err(refusal) => {
+            println!("  {refusal}");
+            wrong += compare("by 10", refusal == Refusal::NoRun);
+        }
+    }
+    wrong += compare("nothing changes", same(memory.layer(), &before));
 
     say("A run of 2 is granted, the lowest: where ring 1 was.");
     let ring3 = written(memory.claim(guidance, 2)?, b'3');
+    wrong += compare("it is where ring 1 was", ring3.address() == closed);
+    wrong += compare("it is not fresh", !ring3.is_fresh());
     show(&memory);
 
     say("Every page still holds what its owner wrote:");
@@ -49,15 +84,28 @@ fn main() -> Result<(), Refusal> {
         ("telemetry", &telemetry, b't'),
         ("telemetry", &more, b'u'),
     ] {
-        let pages = pages(chunks);
-        let kept = pages.clone().filter(|page| chunks[*page] == mark).count();
+        let all = pages(chunks).count();
+        let kept = pages(chunks).filter(|page| chunks[*page] == mark).count();
         println!(
-            "  {name:<9} at {:#x}: {kept} of {} pages",
-            chunks.address(),
-            pages.count()
+            "  {name:<9} at {:#x}: {kept} of {all} pages",
+            chunks.address()
         );
+        wrong += compare("every page is its owner's", kept == all);
     }
-    Ok(())
+    Ok(wrong)
+}
+
+/// 0 where it is so; else it is said, and counts 1.
+fn compare(what: &str, so: bool) -> usize {
+    if !so {
+        println!("  NOT SO: {what}");
+    }
+    usize::from(!so)
+}
+
+/// The same records, stamps and state.
+fn same(a: &Layer, b: &Layer) -> bool {
+    a.records() == b.records() && a.stamps() == b.stamps() && a.state() == b.state()
 }
 
 fn say(text: &str) {

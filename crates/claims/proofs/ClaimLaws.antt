@@ -1,8 +1,7 @@
--- A claim's decisions and one scan, put together, are the layer's step; and refusal 10 without any search. Assumes nothing.
+-- A claim's decisions and one scan, put together, are the layer's step. Assumes nothing.
 use mathlib.Core.Path.{_≡_, refl, sym, ap, ap₂, _∙_, subst}
-use mathlib.Core.Bool.{Bool, true, false, cond, not, _&&_, true≢false}
+use mathlib.Core.Bool.{Bool, true, false, cond, _&&_, true≢false}
 use mathlib.Core.List.{List}
-use mathlib.Core.Logic.{_↔_}
 use Prim.Native.Nat.{ℕ, zero, suc, _+_, _≤_, _<_}
 use native.Mathlib.Nat.{le-refl}
 use native.Mathlib.Omega.{arith}
@@ -14,12 +13,12 @@ use lib.Seq.{set-getD}
 use Rattle.refusals.specs.declared.Refusal.the-variants.{Broken, QuestionOpen, Zero, ArenasOff}
 use Rattle.runs.specs.declared.Found.{Found}
 use Rattle.runs.specs.declared.Found.the-variants.{At, Nothing}
-use Rattle.runs.specs.Lowest.{Starts, all, least}
-use Rattle.runs.proofs.LowestLaws.{all-free-of, least-none, First, first-says, nothing-iff}
+use Rattle.runs.specs.Lowest.{all, least}
+use Rattle.runs.proofs.LowestLaws.{all-free-of, First, first-says}
 use Rattle.runs.proofs.SearchLaws.{and-both}
 use Rattle.options.specs.Options.{arenaAllowed, pageSizeSound}
 use Rattle.arena.specs.declared.Arena.{Arena}
-use Rattle.arena.specs.Claiming.{free, findRun}
+use Rattle.arena.specs.Claiming.{findRun}
 use Rattle.lookup.specs.Soundness.{soundArena}
 use Rattle.lookup.proofs.SoundLaws.{arena-facts}
 use Rattle.layer.specs.declared.Settings.{Settings}
@@ -30,7 +29,7 @@ use Rattle.layer.specs.declared.Reply.{Reply}
 use Rattle.layer.specs.World.{Outcome, stateOf, worldOf, after, turnDown, calm}
 use Rattle.layer.specs.Table.{at, isAt, soundTable, soundLent}
 use Rattle.layer.specs.Claiming.{eligible, serves, missReply, grantFound, searchAt, searchOf, claimOf}
-use Rattle.layer.specs.Step.{claim, gate, step, act, rules}
+use Rattle.layer.specs.Step.{claim, gate, act, rules}
 use Rattle.judge.specs.declared.Query.the-variants.{Serves}
 use Rattle.judge.specs.Scan.{hit, scanOf}
 use Rattle.registers.specs.Core.{isIdle, storedAt}
@@ -245,29 +244,3 @@ module _ (S : ℕ) (l : List Arena) (stamps : List ℕ) (k : ℕ) (mark : Bool) 
       let f = least (λ i. hits id n l i) 0 (claimCount ok state settings id n) in
       (x : ℕ) → f ≡ At x → soundArena S (at l (storedAt f)) ≡ true
   found-sound x e = ap (λ (f : Found). soundArena S (at l (storedAt f))) e ∙ scanned S l stamps k mark q settings id n commits x e
-
--- ---- refusal 10
-
-not-found : (f : Found) → isAt f ≡ false → f ≡ Nothing
-not-found (At x) e = absurd (true≢false e)
-not-found Nothing e = refl
-
--- "Refusal 10 comes if and only if no eligible arena has n neighbouring clear used bits, written without any search"
-pub refused-10 : (id : ℤ) (n : ℕ) (l : List Arena) (k : ℕ)
-    → (least (serves id n l) 0 k ≡ Nothing)
-    ↔ ((i s : ℕ) → i < k → eligible id i (at l i) ≡ true → Starts (free (at l i)) (at l i .chunks) n s → ⊥)
-unfolding serves findRun
-refused-10 id n l k = (
-  λ e i s h m r.
-      let none : First (serves id n l) 0 k Nothing = subst (First (serves id n l) 0 k) e (first-says (serves id n l) 0 k) in
-      nothing-iff (free (at l i)) (at l i .chunks) n .0
-      (not-found (findRun (at l i) n) (sym (ap (λ (b : Bool). b && isAt (findRun (at l i) n)) m) ∙ none i (omega arith) (omega arith))) s r,
-  λ h. least-none (serves id n l) 0 k (λ i p m. go i (eligible id i (at l i)) refl (λ e s. h i s (omega arith) e)),
-)
-  where
-    go : (i : ℕ) (b : Bool) → eligible id i (at l i) ≡ b
-        → (eligible id i (at l i) ≡ true → (s : ℕ) → Starts (free (at l i)) (at l i .chunks) n s → ⊥)
-        → serves id n l i ≡ false
-    go i true e h =
-        ap (λ (b : Bool). b && isAt (findRun (at l i) n)) e ∙ ap isAt (nothing-iff (free (at l i)) (at l i .chunks) n .1 (h e))
-    go i false e h = ap (λ (b : Bool). b && isAt (findRun (at l i) n)) e

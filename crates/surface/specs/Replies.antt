@@ -76,7 +76,7 @@ abbrev pub inNumbers : Outcome → Left
 inNumbers o =
     record { reply = answerNumbers (o .answer) (numbersOf (o .world .state)); records = o .world .records; stamps = o .world .stamps }
 
--- a call of the layer, its chunks being of 33,554,432 bytes. "a number in a lent state that names no kind, flag or case of ours makes the table broken (1)"
+-- a call of the layer; numbers that are no state's make the table broken: 1
 unfoldable pub stepNumbers : List Arena → List ℕ → StateNumbers → ℕ → SettingsNumbers → Call → Left
 stepNumbers l stamps f ns s call =
     cond (isState f) (inNumbers (step (worldOf l stamps (stateOf f)) ns (settingsOf true s) call))

@@ -57,7 +57,7 @@ fn drive() -> Result<usize, Refusal> {
     let purged = memory.sweep(true)?;
     println!("  {purged} chunks purged");
     wrong += compare("2 chunks are purged", purged == 2);
-    wrong += compare("64 MiB less are resident", resident() + 63 <= before);
+    wrong += compare("64 MiB less are resident", before == 0 || resident() + 63 <= before);
     show(&memory);
 
     say("Guidance wants a run of 3. Free are 2 and 2, apart: turned down, and nothing changes.");
@@ -147,7 +147,7 @@ fn pages(chunks: &Chunks) -> impl Iterator<Item = usize> + Clone {
     (0..chunks.len()).step_by(page_size() as usize)
 }
 
-/// MiB of this process in memory.
+/// MiB of this process in memory; 0 where the system does not say.
 fn resident() -> u64 {
     let statm = fs::read_to_string("/proc/self/statm").unwrap_or_default();
     let pages = statm.split(' ').nth(1).and_then(|n| n.parse::<u64>().ok());

@@ -1,2 +1,4 @@
 pub mod Left
 pub mod Order
+pub mod Mark
+pub mod Free

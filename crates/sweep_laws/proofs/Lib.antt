@@ -1,3 +1,4 @@
 pub mod Counts
 pub mod Goes
 pub mod Swept
+pub mod Deadline

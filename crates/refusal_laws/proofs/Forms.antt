@@ -1,18 +1,21 @@
 -- Every outcome of a call is of one of six forms: what holds of each of them holds of the call. Assumes nothing.
-use mathlib.Core.Path.{_≡_, refl, subst}
+use mathlib.Core.Path.{_≡_, refl, sym, ap, _∙_, subst}
 use mathlib.Core.Bool.{Bool, true, false}
-use mathlib.Core.List.{List}
+use mathlib.Core.List.{List, [], _∷_}
 use mathlib.Core.Logic.{_⊎_, inl, inr}
 use Prim.Native.Nat.{ℕ, zero, suc, _+_, _-_, _*_, _%_}
 use borrow.Author.Tests.{eqb-false}
 use lib.Dec.{eqb, leb, ltb}
 use lib.IntN.{ℤ, pos, negsuc}
+use lib.ListN.{set}
+use lib.Seq.{set-getD}
 use Rattle.refusals.specs.declared.Refusal.{Refusal}
 use Rattle.refusals.specs.declared.Refusal.the-variants.{Broken, QuestionOpen, Range, NoRun}
 use Rattle.words.proofs.Tests.{by-cond}
 use Rattle.runs.specs.declared.Found.{Found}
 use Rattle.runs.specs.declared.Found.the-variants.{At, Nothing}
 use Rattle.arena.specs.declared.Arena.{Arena}
+use Rattle.arena.specs.Claiming.{takeRun}
 use Rattle.arena.specs.Sweeping.{sweepDue, nextAsked, disarm, returnChunk}
 use Rattle.purge.specs.Stamps.{stampsOf}
 use Rattle.layer.specs.declared.Settings.{Settings}
@@ -28,7 +31,7 @@ use Rattle.layer.specs.declared.Ask.the-variants.{AskCommit, AskPurge, AskGiveB
 use Rattle.layer.specs.declared.Answer.{Answer}
 use Rattle.layer.specs.declared.Answer.the-variants.{Refused, Asks, Registered, Claimed, Released, Swept, Owns, Area}
 use Rattle.layer.specs.declared.Reply.{Reply}
-use Rattle.layer.specs.World.{World, Outcome, stateOf, worldOf, outcome, after, turnDown, calm}
+use Rattle.layer.specs.World.{World, Outcome, blank, stateOf, worldOf, outcome, after, turnDown, calm}
 use Rattle.layer.specs.Table.{at, badRange, sound}
 use Rattle.layer.specs.Registering.{askMemory, badCount, withRecord, withStamps, register}
 use Rattle.layer.specs.Claiming.{searchOf, claimOf}
@@ -36,6 +39,7 @@ use Rattle.layer.specs.Sweeping.{purgeReply, sweptReply, visitAt, visit, sweepF
 use Rattle.layer.specs.Answering.{isFor, counted, failReply, answerCommit, resume, answerMemory, answerTo, answerOf}
 use Rattle.layer.specs.Step.{Call, reserve, manage, adopt, claim, release, sweep, answer, owns, area, sweepOf, gate, stepOn, step}
 use Rattle.layer.proofs.Cases.{grant-cases, search-cases, miss-cases, claim-cases, release-in-cases, release-cases, reserve-cases, register-cases, manage-cases, adopt-cases}
+use Rattle.layer.proofs.Kept.{take-range}
 
 abbrev pub isAsk : Answer → Bool
 isAsk (Refused why) = false
@@ -57,14 +61,26 @@ abbrev pub Waits : Waiting → Type 0
 Waits Reserve = Unit {0}
 Waits (Claim n commits) = n ≡ 0 → ⊥
 
+-- a store of a record that f cannot tell from another, and from the one that stood there
+pub set-as : {X : Type 0} (f : Arena → X) (l : List Arena) (i : ℕ) (a b : Arena) (j : ℕ) → f a ≡ f b → f (at (set l i a) j) ≡ f (at (set l i b) j)
+set-as f [] i a b j e = refl
+set-as f (x ∷ l) zero a b zero e = e
+set-as f (x ∷ l) zero a b (suc j) e = refl
+set-as f (x ∷ l) (suc i) a b zero e = refl
+set-as f (x ∷ l) (suc i) a b (suc j) e = set-as f l i a b j e
+
+pub set-keeps : {X : Type 0} (f : Arena → X) (l : List Arena) (i : ℕ) (a : Arena) (j : ℕ) → f a ≡ f (at l i) → f (at (set l i a) j) ≡ f (at l j)
+set-keeps f l i a j e = set-as f l i a (at l i) j e ∙ ap (λ (m : List Arena). f (at m j)) (set-getD l i blank)
+
 module _ (S : ℕ) (l : List Arena) (stamps : List ℕ) (k : ℕ) (mark : Bool) (q : Question) (P : Outcome → Type 0) where
   pub record Forms (c : Call) : Type 0 where
     -- nothing changes: a refusal, or a query
     pub as-it-was : (r : Answer) → isAsk r ≡ false → P (outcome r (worldOf l stamps (stateOf k mark q)))
     -- no question is open then
     pub ended : (r : Answer) → isAsk r ≡ false → (m : List Arena) (t : List ℕ) (n : ℕ) (gave-up : Bool) → (mark ≡ true → gave-up ≡ true) → P (outcome r (worldOf m t (calm n gave-up)))
-    -- a question is put
-    pub commits : (m : List Arena) (t : List ℕ) (count i s n address : ℕ) → Claims q n → P (outcome (Asks (AskCommit address (n * S))) (worldOf m t (stateOf count mark (Committing i s n))))
+    -- a question is put; a commit question is about the run's own address
+    pub commits : (m : List Arena) (t : List ℕ) (count i s n address : ℕ) → Claims q n → address ≡ at m i .base + s * S
+        → P (outcome (Asks (AskCommit address (n * S))) (worldOf m t (stateOf count mark (Committing i s n))))
     pub purges : (m : List Arena) (i j address : ℕ) (w : Sweep) → P (outcome (Asks (AskPurge address S (w .decommit))) (worldOf m stamps (stateOf k mark (Purging i j w))))
     pub reserves : (size page : ℕ) (commit large exclusive : Bool) (waiting : Waiting) → Waits waiting → P (after (askMemory S k mark size page commit large exclusive waiting) l stamps)
     pub gives-back : (chunks bytes : ℕ) (commit exclusive : Bool) (waiting : Waiting) (kind : Kind) (base : ℕ) (cause : Unusable)
@@ -81,7 +97,7 @@ module _ (S : ℕ) (l : List Arena) (stamps : List ℕ) (k : ℕ) (mark : Bool) 
     search-forms m t count id n asks missed some none =
         search-cases S m t count mark P id n asks missed (λ e. none)
         (λ i h e. grant-cases S m t count mark P i n asks (λ g. f .ended _ refl m t count mark (λ x. x)) (λ s g. f .ended _ refl _ t count mark (λ x. x))
-        (λ s g. f .commits _ t count i s n _ some))
+        (λ s g. f .commits _ t count i s n _ some (ap (λ (x : ℕ). x + s * S) (sym (set-keeps (λ (a : Arena). a .base) m i (takeRun (at m i) s n) i (take-range (at m i) s n .0))))))
 
     register-forms : (chunks : ℕ) (a : Arena) → P (register l stamps k mark chunks a)
     register-forms chunks a = register-cases S l stamps k mark P chunks a (down _) (down _) (λ e h. f .ended _ refl _ _ (suc k) mark (λ x. x))

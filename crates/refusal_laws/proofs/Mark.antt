@@ -12,7 +12,7 @@ unfolding askMemory
 mark-stays S w ns settings c set = step-forms S w ns settings c (λ (o : Outcome). o .world .state .mark ≡ true) (record {
   as-it-was = λ r a. set;
   ended = λ r a m t n gave-up kept. kept set;
-  commits = λ m t count i s n address a. set;
+  commits = λ m t count i s n address a b. set;
   purges = λ m i j address v. set;
   reserves = λ size page commit large exclusive waiting a. set;
   gives-back = λ chunks bytes commit exclusive waiting kind base cause a b d. set;

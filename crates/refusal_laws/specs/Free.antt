@@ -51,9 +51,9 @@ EmptyCommit S =
     (w : World) (ns : ℕ) (settings : Settings) (i s : ℕ) (granted : Bool) (base : ℕ) → Lent S w settings → w .state .question ≡ Committing i s 0
     → step S w ns settings (answer ForCommit granted base) ≡ emptyCommit S w i s granted
 
--- The claim of no chunk that waits for memory. A no is answered as to every claim: 10, and the mark (`Left`). A yes goes through the same checks as for every
--- claim; where the memory is registered, the claim is granted the empty run at the base of the lowest arena that is not exclusive, fresh and committed, or
--- refused with 10 if there is none. The new arena stands, and nothing else changes.
+-- The claim of no chunk that waits for memory. A no is answered as to every claim: 10, and the mark (`Left`). A yes goes through the same checks as
+-- for every claim; where the memory is registered, the claim is granted the empty run at the base of the lowest arena that is not exclusive, fresh
+-- and committed, or refused with 10 if there is none. The new arena stands, and nothing else changes.
 abbrev pub emptyRun : World → Found → Outcome
 emptyRun v (At i) = outcome (Claimed (at (v .records) i .base) true true) v
 emptyRun v Nothing = outcome (Refused NoRun) v

@@ -1,6 +1,6 @@
--- The next deadline of an arena. Document 01, "Sweeping": "Unforced, a pending chunk, used or not, younger than the delay (now − stamp, wrapping) gives a next
--- deadline of stamp + delay, wrapping, the earliest counted from now being rearmed after the arena". The definition that computes it, `rearm`, counts the waits
--- from now on; here it is said as the document says it. `stamps` are the arena's own. Assumes nothing.
+-- The next deadline of an arena. Document 01, "Sweeping": "Unforced, a pending chunk, used or not, younger than the delay (now − stamp, wrapping)
+-- gives a next deadline of stamp + delay, wrapping, the earliest counted from now being rearmed after the arena". The definition that computes it,
+-- `rearm`, counts the waits from now on; here it is said as the document says it. `stamps` are the arena's own. Assumes nothing.
 use mathlib.Core.Path.{_≡_}
 use mathlib.Core.Bool.{true, false}
 use mathlib.Core.List.{List}

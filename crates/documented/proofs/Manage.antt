@@ -34,8 +34,9 @@ use Rattle.layer.proofs.Registered.{good-range, meets-false}
 use Rattle.refusal_laws.specs.Order.{broken, questionOpen, manageChecks}
 use Rattle.refusal_laws.proofs.Answers.{registered-not}
 use Rattle.refusal_laws.proofs.Order.{first-each, manage-order}
-use Rattle.refusal_laws.proofs.Forms.{isAsk, step-forms}
-use Rattle.documented.specs.Areas.{bytes, Apart, Whole, AlignedInward, Managed, BroughtNow, TakenAsUsed}
+use Rattle.refusal_laws.specs.Standing.{headOf, Grown}
+use Rattle.refusal_laws.proofs.Forms.{isAsk, step-forms, arenas-stand}
+use Rattle.documented.specs.Areas.{bytes, isOwned, Stands, Apart, Whole, AlignedInward, Managed, BroughtNow, TakenAsUsed}
 use Rattle.documented.proofs.Tools.{holds, sound-long, registered-at, each-bit, up-enough, up-least, down-most, sub-mul}
 
 -- ---- aligned inward
@@ -147,9 +148,9 @@ pub never-frees : (S : ℕ) (w : World) (ns : ℕ) (settings : Settings) (c : Ca
 unfolding askMemory
 never-frees S w ns settings c address many = step-forms S w ns settings c P (record {
   as-it-was = λ r a e. absurd (true≢false (sym (ap isAsk e) ∙ a));
-  ended = λ r a m t n gave-up kept e. absurd (true≢false (sym (ap isAsk e) ∙ a));
-  commits = λ m t count i s n x a b e. absurd (other (AskCommit x (n * S)) refl e);
-  purges = λ m i j x v e. absurd (other (AskPurge x S (v .decommit)) refl e);
+  ended = λ r a m t n gave-up stand kept e. absurd (true≢false (sym (ap isAsk e) ∙ a));
+  commits = λ m t count i s n x stand a b e. absurd (other (AskCommit x (n * S)) refl e);
+  purges = λ m i j x v stand e. absurd (other (AskPurge x S (v .decommit)) refl e);
   reserves = λ size page commit large exclusive waiting a e. absurd (other (AskMemory (bytesAsked S size page) S commit large) refl e);
   gives-back = λ chunks bytes commit exclusive waiting kind base cause a b g e.
       let same : (base ≡ address) × (bytes ≡ many) = (same-address base bytes e, same-bytes base bytes e) in
@@ -182,3 +183,11 @@ never-frees S w ns settings c address many = step-forms S w ns settings c P (rec
 
     same-bytes : (x n : ℕ) → Asks (AskGiveBack x n) ≡ Asks (AskGiveBack address many) → n ≡ many
     same-bytes x n e = cc
+
+-- the arena stands for good, and its area, its node and whom it serves stay, whatever is called
+pub managed-stays : (S : ℕ) (w : World) (ns : ℕ) (settings : Settings) (c : Call) (i : ℕ) → Stands w i → isOwned (at (w .records) i) ≡ false
+    → let v = step S w ns settings c .world in Stands v i × (headOf (at (v .records) i) ≡ headOf (at (w .records) i))
+managed-stays S w ns settings c i h e =
+    let s = arenas-stand S w ns settings c i h in
+    let v = step S w ns settings c .world in
+    (s .0, ⊎-elim (λ (g : headOf (at (v .records) i) ≡ headOf (at (w .records) i)). g) (λ (g : Grown (at (w .records) i) (at (v .records) i)). absurd (true≢false (sym (g .0) ∙ e))) (s .1))

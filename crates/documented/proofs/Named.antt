@@ -191,9 +191,9 @@ awaits : (S : ℕ) (w : World) (ns : ℕ) (settings : Settings) (c : Call) (addr
 unfolding askMemory
 awaits S w ns settings c address many = step-forms S w ns settings c P (record {
   as-it-was = λ r a e. absurd (true≢false (sym (ap isAsk e) ∙ a));
-  ended = λ r a m t n gave-up kept e. absurd (true≢false (sym (ap isAsk e) ∙ a));
-  commits = λ m t count i s n x a b e. record { id = i; start = s; n = n; waits = refl; is = sym (same x (n * S) e) ∙ b };
-  purges = λ m i j x v e. not-given address (ap givenAt e);
+  ended = λ r a m t n gave-up stand kept e. absurd (true≢false (sym (ap isAsk e) ∙ a));
+  commits = λ m t count i s n x stand a b e. record { id = i; start = s; n = n; waits = refl; is = sym (same x (n * S) e) ∙ b };
+  purges = λ m i j x v stand e. not-given address (ap givenAt e);
   reserves = λ size page commit large exclusive waiting a e. not-given address (ap givenAt e);
   gives-back = λ chunks bytes commit exclusive waiting kind base cause a b g e. not-given address (ap givenAt e);
 })

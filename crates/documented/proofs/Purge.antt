@@ -58,9 +58,9 @@ asks-purge : (S : ℕ) (address many : ℕ) (flag : Bool) (w : World) (ns : ℕ)
 unfolding askMemory
 asks-purge S address many flag w ns settings c = step-forms S w ns settings c (AllSay address many flag) (record {
   as-it-was = λ r a e. absurd (true≢false (sym (ap isAsk e) ∙ a));
-  ended = λ r a m t n gave-up kept e. absurd (true≢false (sym (ap isAsk e) ∙ a));
-  commits = λ m t count i s n x a b e. absurd (let z : _≡_ {A = ℕ} 0 1 = cc in omega arith);
-  purges = λ m i j x v e. record { id = i; chunk = j; kept = v; waits = refl; as-kept = same x S (v .decommit) e };
+  ended = λ r a m t n gave-up stand kept e. absurd (true≢false (sym (ap isAsk e) ∙ a));
+  commits = λ m t count i s n x stand a b e. absurd (let z : _≡_ {A = ℕ} 0 1 = cc in omega arith);
+  purges = λ m i j x v stand e. record { id = i; chunk = j; kept = v; waits = refl; as-kept = same x S (v .decommit) e };
   reserves = λ size page commit large exclusive waiting a e. absurd (let z : _≡_ {A = ℕ} 0 1 = cc in omega arith);
   gives-back = λ chunks bytes commit exclusive waiting kind base cause a b g e. absurd (let z : _≡_ {A = ℕ} 0 1 = cc in omega arith);
 })

@@ -53,9 +53,9 @@ pub none-made : (S : ℕ) → NoneMade S
 unfolding askMemory
 none-made S w ns settings c some = step-forms S w ns settings c (λ (o : Outcome). isEmpty (o .world .state .question) ≡ false) (record {
   as-it-was = λ r a. some;
-  ended = λ r a m t n gave-up kept. refl;
-  commits = λ m t count i s n address a b. ⊎-elim (λ (h : n ≡ 0 → ⊥). not-empty n h) (λ h. sym (ap isEmpty (h .5)) ∙ some) a;
-  purges = λ m i j address v. refl;
+  ended = λ r a m t n gave-up stand kept. refl;
+  commits = λ m t count i s n address stand a b. ⊎-elim (λ (h : n ≡ 0 → ⊥). not-empty n h) (λ h. sym (ap isEmpty (h .5)) ∙ some) a;
+  purges = λ m i j address v stand. refl;
   reserves = λ size page commit large exclusive waiting a. waits size page commit exclusive waiting a;
   gives-back = λ chunks bytes commit exclusive waiting kind base cause a b d. refl;
 })

@@ -11,9 +11,9 @@ pub mark-stays : (S : ℕ) → MarkStays S
 unfolding askMemory
 mark-stays S w ns settings c set = step-forms S w ns settings c (λ (o : Outcome). o .world .state .mark ≡ true) (record {
   as-it-was = λ r a. set;
-  ended = λ r a m t n gave-up kept. kept set;
-  commits = λ m t count i s n address a b. set;
-  purges = λ m i j address v. set;
+  ended = λ r a m t n gave-up stand kept. kept set;
+  commits = λ m t count i s n address stand a b. set;
+  purges = λ m i j address v stand. set;
   reserves = λ size page commit large exclusive waiting a. set;
   gives-back = λ chunks bytes commit exclusive waiting kind base cause a b d. set;
 })

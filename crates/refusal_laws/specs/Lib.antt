@@ -2,3 +2,4 @@ pub mod Left
 pub mod Order
 pub mod Mark
 pub mod Free
+pub mod Standing

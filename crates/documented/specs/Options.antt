@@ -1,5 +1,5 @@
--- What mimalloc.h documents of the options that the arena layer reads, with the numbers of version 2.4. Option 15, purge_delay, stands in crate
--- `options`, with where the port differs. Assumes nothing.
+-- What mimalloc.h documents of the options that the arena layer reads, with the numbers of version 2.4, and not read off the layer's rules. Option 15,
+-- purge_delay, stands in crate `options` (`documentedDelay`), with where the port differs. Assumes nothing.
 use mathlib.Core.Path.{_≡_}
 use mathlib.Core.Bool.{Bool, true, false}
 use Prim.Native.Nat.{ℕ, _+_, _*_, _%_, _<_, _≤_}

@@ -1,7 +1,8 @@
--- What mimalloc.h documents of the options that the arena layer reads, with the numbers of version 2.4. The port's own reading of the
--- delay stands in the crate clock; proofs/Differences.antt holds it against this one. Assumes nothing.
+-- What mimalloc.h documents of options 15 and 27, with the numbers of version 2.4; crate `documented` has the other options, and holds the layer's
+-- rules against all but the delay. The port's own reading of the delay stands in the crate clock; proofs/Differences.antt holds it against this one.
+-- Assumes nothing.
 use mathlib.Core.Bool.{Bool, true, false, _||_}
-use Prim.Native.Nat.{ℕ, zero, suc, _*_}
+use Prim.Native.Nat.{ℕ, zero, suc}
 use lib.Dec.{eqb}
 use lib.IntN.{ℤ, pos, negsuc}
 
@@ -17,20 +18,6 @@ unfoldable pub documentedDelay : ℤ → Purging
 documentedDelay (pos n) = after n
 documentedDelay (negsuc zero) = never
 documentedDelay (negsuc (suc n)) = unsaid
-
--- what a purge does with the memory
-pub data Purge : Type 0 where
-  decommit : Purge
-  reset : Purge
-
--- option 5, mi_option_purge_decommits: a purge decommits; where the option is off, it resets
-unfoldable pub documentedPurge : Bool → Purge
-documentedPurge true = decommit
-documentedPurge false = reset
-
--- option 23, mi_option_arena_reserve: the size of an arena that is reserved where none has room, kept in KiB and read as bytes
-unfoldable pub documentedReserve : ℕ → ℕ
-documentedReserve kib = kib * 1024
 
 -- option 27, mi_option_disallow_arena_alloc: off, arenas serve every claim; on, only one that names its arena, whose id is not negative
 unfoldable pub arenaAllowed : Bool → ℤ → Bool

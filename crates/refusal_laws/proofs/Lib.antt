@@ -2,3 +2,6 @@ pub mod Answers
 pub mod Order
 pub mod Left
 pub mod Restored
+pub mod Forms
+pub mod Mark
+pub mod Free

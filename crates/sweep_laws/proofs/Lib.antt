@@ -1,3 +1,5 @@
 pub mod Counts
 pub mod Goes
 pub mod Swept
+pub mod Deadline
+pub mod Passing

@@ -15,6 +15,7 @@ use Rattle.refusals.specs.declared.Refusal.the-variants.{NoWholeChunk}
 use Rattle.words.proofs.Tests.{when, unless}
 use Rattle.words.proofs.RowLaws.{lt-or-le}
 use Rattle.arena.specs.declared.Arena.{Arena}
+use Rattle.arena.proofs.FlagLaws.{flag-read}
 use Rattle.arena.specs.Registering.{newArena, managedArena}
 use Rattle.lookup.specs.Place.{bytesOf, endOf}
 use Rattle.layer.specs.declared.Settings.{Settings}
@@ -27,7 +28,7 @@ use Rattle.layer.specs.World.{World, Outcome, outcome}
 use Rattle.layer.specs.Table.{at, meets, sound}
 use Rattle.layer.specs.Registering.{chunksFor, bytesAsked, askMemory, firstWhole, pastWhole, noWholeChunk}
 use Rattle.layer.specs.Answering.{kindOpen}
-use Rattle.layer.specs.Step.{Call, manage, answer, step}
+use Rattle.layer.specs.Step.{Call, manage, answer, act, rules}
 use Rattle.layer.proofs.Tools.{or-false}
 use Rattle.layer.proofs.Rules.{count-facts}
 use Rattle.layer.proofs.Registered.{good-range, meets-false}
@@ -88,11 +89,11 @@ taken-as-used base chunks exclusive node few j h = (each-bit chunks true j few h
 
 stored-as-told : (base chunks : ℕ) (exclusive : Bool) (node : ℤ) (S start size : ℕ) → AlignedInward S start size (managedArena base chunks exclusive node) → Managed S start size exclusive node (managedArena base chunks exclusive node)
 unfolding managedArena newArena
-stored-as-told base chunks exclusive node S start size a = record { area = a; alone = refl; stored = refl; not-owned = refl }
+stored-as-told base chunks exclusive node S start size a = record { area = a; alone = flag-read exclusive; stored = refl; not-owned = refl }
 
 -- the arena that a manage registers; its chunks count as committed and dirty whatever the host knows of them
 pub manage-registers : (S : ℕ) → 0 < S → (w : World) (ns : ℕ) (settings : Settings) (start size : ℕ) (exclusive : Bool) (node : ℤ) (mapped reserved : Bool) (id : ℕ)
-    → let o = step S w ns settings (manage start size exclusive node mapped reserved) in
+    → let o = rules S w ns settings (act (manage start size exclusive node mapped reserved)) in
     o .answer ≡ Registered id → Managed S start size exclusive node (at (o .world .records) id) × TakenAsUsed (at (o .world .records) id)
 manage-registers S some w ns settings start size exclusive node mapped reserved id =
     subst P (sym (manage-order S w settings ns start size exclusive node mapped reserved))
@@ -114,7 +115,7 @@ manage-registers S some w ns settings start size exclusive node mapped reserved 
 
 -- it puts no question
 pub manage-asks-nothing : (S : ℕ) (w : World) (ns : ℕ) (settings : Settings) (start size : ℕ) (exclusive : Bool) (node : ℤ) (mapped reserved : Bool)
-    → isAsk (step S w ns settings (manage start size exclusive node mapped reserved) .answer) ≡ false
+    → isAsk (rules S w ns settings (act (manage start size exclusive node mapped reserved)) .answer) ≡ false
 manage-asks-nothing S w ns settings start size exclusive node mapped reserved =
     subst (λ (o : Outcome). isAsk (o .answer) ≡ false) (sym (manage-order S w settings ns start size exclusive node mapped reserved))
     (first-each (λ (o : Outcome). isAsk (o .answer) ≡ false) (broken S w settings ∷ questionOpen S w settings ∷ manageChecks S w settings start size mapped reserved) _
@@ -123,7 +124,7 @@ manage-asks-nothing S w ns settings start size exclusive node mapped reserved =
 -- "The area must be at least as large as the allocator's arena unit": a range with no whole chunk is refused with 15
 pub manage-too-small : (S : ℕ) → 0 < S → (w : World) (ns : ℕ) (settings : Settings) (start size : ℕ) (exclusive : Bool) (node : ℤ) (mapped reserved : Bool)
     → sound S w (settings .page) ≡ true → w .state .question ≡ Idle → ((c : ℕ) → Whole S start size c → ⊥)
-    → step S w ns settings (manage start size exclusive node mapped reserved) ≡ outcome (Refused NoWholeChunk) w
+    → rules S w ns settings (act (manage start size exclusive node mapped reserved)) ≡ outcome (Refused NoWholeChunk) w
 manage-too-small S some w ns settings start size exclusive node mapped reserved s idle none =
     manage-order S w settings ns start size exclusive node mapped reserved
     ∙ unless (not (sound S w (settings .page))) _ _ (ap not s)
@@ -144,7 +145,7 @@ elsewhere S a address chunks e x u v =
     (meets-false S a address (chunks * S) e (omega (arith, u .0, u .1)))
 
 pub never-frees : (S : ℕ) (w : World) (ns : ℕ) (settings : Settings) (c : Call) (address many : ℕ)
-    → step S w ns settings c .answer ≡ Asks (AskGiveBack address many) → BroughtNow S w c address many
+    → rules S w ns settings c .answer ≡ Asks (AskGiveBack address many) → BroughtNow S w c address many
 unfolding askMemory
 never-frees S w ns settings c address many = step-forms S w ns settings c P (record {
   as-it-was = λ r a e. absurd (true≢false (sym (ap isAsk e) ∙ a));
@@ -186,8 +187,8 @@ never-frees S w ns settings c address many = step-forms S w ns settings c P (rec
 
 -- the arena stands for good, and its area, its node and whom it serves stay, whatever is called
 pub managed-stays : (S : ℕ) (w : World) (ns : ℕ) (settings : Settings) (c : Call) (i : ℕ) → Stands w i → isOwned (at (w .records) i) ≡ false
-    → let v = step S w ns settings c .world in Stands v i × (headOf (at (v .records) i) ≡ headOf (at (w .records) i))
+    → let v = rules S w ns settings c .world in Stands v i × (headOf (at (v .records) i) ≡ headOf (at (w .records) i))
 managed-stays S w ns settings c i h e =
     let s = arenas-stand S w ns settings c i h in
-    let v = step S w ns settings c .world in
+    let v = rules S w ns settings c .world in
     (s .0, ⊎-elim (λ (g : headOf (at (v .records) i) ≡ headOf (at (w .records) i)). g) (λ (g : Grown (at (w .records) i) (at (v .records) i)). absurd (true≢false (sym (g .0) ∙ e))) (s .1))

@@ -13,6 +13,7 @@ use Rattle.refusals.specs.declared.Refusal.the-variants.{NoRun}
 use Rattle.words.proofs.RowLaws.{lt-or-le}
 use Rattle.runs.specs.declared.Found.the-variants.{At, Nothing}
 use Rattle.arena.specs.declared.Arena.{Arena}
+use Rattle.arena.specs.Flags.{isOn}
 use Rattle.arena.specs.Registering.{reservedArena}
 use Rattle.arena.specs.Claiming.{findRun}
 use Rattle.lookup.specs.Place.{bytesOf, endOf}
@@ -30,7 +31,7 @@ use Rattle.layer.specs.Table.{at, meets, badRange, sound}
 use Rattle.layer.specs.Registering.{askMemory, withRecord, withStamps}
 use Rattle.layer.specs.Claiming.{serves, missReply, searchOf}
 use Rattle.layer.specs.Answering.{answerTo}
-use Rattle.layer.specs.Step.{Call, claim, answer, step}
+use Rattle.layer.specs.Step.{Call, claim, answer, act, rules}
 use Rattle.layer.proofs.Tools.{at-other}
 use Rattle.layer.proofs.Facts.{SoundTable}
 use Rattle.layer.proofs.Rules.{not-shared, served-named, count-facts}
@@ -77,7 +78,7 @@ module _ (S : ℕ) (l : List Arena) (k : ℕ) (id : ℤ) (n address : ℕ) (f : 
   named : (i : ℕ) → id ≡ pos i → f .arena ≡ i
   named i e = served-named i n l (f .arena) (ap (λ (z : ℤ). serves z n l (f .arena)) (sym e) ∙ f .serves)
 
-  other : (j : ℕ) → at l j .exclusive ≡ true → (id ≡ pos j → ⊥) → f .arena ≡ j → ⊥
+  other : (j : ℕ) → isOn (at l j .exclusive) ≡ true → (id ≡ pos j → ⊥) → f .arena ≡ j → ⊥
   other j e d = go id refl
     where
       go : (z : ℤ) → id ≡ z → f .arena ≡ j → ⊥
@@ -106,7 +107,7 @@ search-found S l stamps k mark id n commits missed address m =
 -- ---- a claim
 
 claim-found : (S : ℕ) (w : World) (ns : ℕ) (settings : Settings) (id : ℤ) (n : ℕ) (commits : Bool) (address : ℕ)
-    → givenAt (step S w ns settings (claim id n commits) .answer) ≡ At address → Found-in S (w .records) (w .state .count) id n address
+    → givenAt (rules S w ns settings (act (claim id n commits)) .answer) ≡ At address → Found-in S (w .records) (w .state .count) id n address
 claim-found S w ns settings id n commits address =
     subst P (sym (claim-order S w settings ns id n commits))
     (first-each P (broken S w settings ∷ questionOpen S w settings ∷ claimChecks S w settings id n) _
@@ -121,7 +122,7 @@ claim-found S w ns settings id n commits address =
         miss-cases S (w .records) (w .stamps) (w .state .count) (w .state .mark) (λ (o : Outcome). givenAt (o .answer) ≡ Nothing) id n commits settings refl refl (unfold askMemory in refl)
 
 pub claim-only-named : (S : ℕ) (w : World) (ns : ℕ) (settings : Settings) (id : ℤ) (n : ℕ) (commits : Bool) (address : ℕ) → Words w → sound S w (settings .page) ≡ true
-    → givenAt (step S w ns settings (claim id n commits) .answer) ≡ At address → OnlyNamed S w id n address × InNamed S w id n address
+    → givenAt (rules S w ns settings (act (claim id n commits)) .answer) ≡ At address → OnlyNamed S w id n address × InNamed S w id n address
 claim-only-named S w ns settings id n commits address words passed e =
     let l = w .records in
     let k = w .state .count in
@@ -147,7 +148,7 @@ module _ (S : ℕ) (l : List Arena) (stamps : List ℕ) (k : ℕ) (mark : Bool) 
 
 pub resumed-only-named : (S : ℕ) (w : World) (ns : ℕ) (settings : Settings) (chunks many : ℕ) (commit exclusive : Bool) (n : ℕ) (commits : Bool) (base address : ℕ) → Words w
     → sound S w (settings .page) ≡ true → w .state .question ≡ Reserving chunks many commit exclusive (Claim n commits)
-    → givenAt (step S w ns settings (answer ForMemory true base) .answer) ≡ At address → OnlyNamed S w (negsuc 0) n address
+    → givenAt (rules S w ns settings (answer ForMemory true base) .answer) ≡ At address → OnlyNamed S w (negsuc 0) n address
 resumed-only-named S w ns settings chunks many commit exclusive n commits base address words passed q =
     subst P (sym (yes-order S w settings ns base chunks many commit exclusive (Claim n commits) q))
     (first-each P (broken S w settings ∷ noSuchQuestion S w settings ForMemory ∷ yesChecks S w settings chunks many (Claim n commits) base) _
@@ -187,7 +188,7 @@ record Awaits (S address : ℕ) (w : World) : Type 0 where
   waits : w .state .question ≡ Committing id start n
   is : address ≡ at (w .records) id .base + start * S
 
-awaits : (S : ℕ) (w : World) (ns : ℕ) (settings : Settings) (c : Call) (address many : ℕ) → step S w ns settings c .answer ≡ Asks (AskCommit address many) → Awaits S address (step S w ns settings c .world)
+awaits : (S : ℕ) (w : World) (ns : ℕ) (settings : Settings) (c : Call) (address many : ℕ) → rules S w ns settings c .answer ≡ Asks (AskCommit address many) → Awaits S address (rules S w ns settings c .world)
 unfolding askMemory
 awaits S w ns settings c address many = step-forms S w ns settings c P (record {
   as-it-was = λ r a e. absurd (true≢false (sym (ap isAsk e) ∙ a));
@@ -206,8 +207,8 @@ awaits S w ns settings c address many = step-forms S w ns settings c P (record {
 
 -- the yes to a commit question, whichever call put it, grants the chunks that it was about
 pub asked-is-granted : (S : ℕ) (w : World) (ns later : ℕ) (settings others : Settings) (c : Call) (address many base x : ℕ) (fresh committed : Bool)
-    → step S w ns settings c .answer ≡ Asks (AskCommit address many)
-    → step S (step S w ns settings c .world) later others (answer ForCommit true base) .answer ≡ Claimed x fresh committed → x ≡ address
+    → rules S w ns settings c .answer ≡ Asks (AskCommit address many)
+    → rules S (rules S w ns settings c .world) later others (answer ForCommit true base) .answer ≡ Claimed x fresh committed → x ≡ address
 asked-is-granted S w ns later settings others c address many base x fresh committed e =
     let a = awaits S w ns settings c address many e in
     subst P (sym (answer-order S v others later ForCommit true base))
@@ -215,7 +216,7 @@ asked-is-granted S w ns later settings others c address many base x fresh commit
     (λ p. subst (λ (q : Question). P (answerTo S (v .records) (v .stamps) (v .state .count) (v .state .mark) q true base)) (sym (a .waits)) (λ f. same _ (ap givenAt f) ∙ sym (a .is))))
   where
     v : World
-    v = step S w ns settings c .world
+    v = rules S w ns settings c .world
 
     P : Outcome → Type 0
     P o = o .answer ≡ Claimed x fresh committed → x ≡ address

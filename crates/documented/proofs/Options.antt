@@ -20,6 +20,7 @@ use Rattle.runs.proofs.LowestLaws.{nothing-iff}
 use Rattle.runs.proofs.SearchLaws.{and-both}
 use Rattle.options.specs.Options.{arenaAllowed}
 use Rattle.arena.specs.declared.Arena.{Arena}
+use Rattle.arena.specs.Flags.{isOn}
 use Rattle.arena.specs.Claiming.{free, findRun}
 use Rattle.lookup.proofs.SoundLaws.{never}
 use Rattle.lookup.proofs.Changes.{found-inside, found-free}
@@ -35,7 +36,7 @@ use Rattle.layer.specs.Table.{at, isAt, sound}
 use Rattle.layer.specs.Registering.{chunksFor, tooLarge, bytesAsked, askMemory}
 use Rattle.layer.specs.Claiming.{eligible, serves, missReply, searchOf}
 use Rattle.layer.specs.Answering.{kindOpen}
-use Rattle.layer.specs.Step.{claim, step}
+use Rattle.layer.specs.Step.{claim, act, rules}
 use Rattle.layer.proofs.Rules.{not-shared}
 use Rattle.layer.proofs.Cases.{grant-cases, search-cases, miss-cases}
 use Rattle.refusal_laws.specs.Order.{broken, questionOpen, claimChecks}
@@ -50,7 +51,7 @@ module _ (S : ℕ) (w : World) (ns : ℕ) (settings : Settings) (id : ℤ) (n : 
   abbrev searches : Outcome
   searches = searchOf S (w .records) (w .stamps) (w .state .count) (w .state .mark) id n commits (missReply S (w .state .count) (w .state .mark) id n commits settings)
 
-  past-4 : step S w ns settings (claim id n commits) ≡ cond (not (arenaAllowed (settings .off) id)) (outcome (Refused ArenasOff) w) searches
+  past-4 : rules S w ns settings (act (claim id n commits)) ≡ cond (not (arenaAllowed (settings .off) id)) (outcome (Refused ArenasOff) w) searches
   past-4 =
       claim-order S w settings ns id n commits
       ∙ unless (not (sound S w (settings .page))) _ _ (ap not passed)
@@ -81,7 +82,7 @@ search-not-off S w settings id n commits =
 
 -- of a claim that rows 1, 2 and 4 let pass
 pub arenas-off : (S : ℕ) (w : World) (ns : ℕ) (settings : Settings) (id : ℤ) (n : ℕ) (commits : Bool) → sound S w (settings .page) ≡ true → w .state .question ≡ Idle → (n ≡ 0 → ⊥)
-    → (step S w ns settings (claim id n commits) .answer ≡ Refused ArenasOff) ↔ Disallowed (settings .off) id
+    → (rules S w ns settings (act (claim id n commits)) .answer ≡ Refused ArenasOff) ↔ Disallowed (settings .off) id
 arenas-off S w ns settings id n commits passed idle some = (
   λ e. disallowed (settings .off) id .1 (go (arenaAllowed (settings .off) id) refl (sym (ap (λ (o : Outcome). o .answer) (past-4 S w ns settings id n commits passed idle some)) ∙ e)),
   λ h. ap (λ (o : Outcome). o .answer) (past-4 S w ns settings id n commits passed idle some ∙ when (not (arenaAllowed (settings .off) id)) _ _ (ap not (disallowed (settings .off) id .0 h))),
@@ -113,7 +114,7 @@ room-found a n r = go (findRun a n) refl
 
 serves-room : (x n : ℕ) (l : List Arena) (i : ℕ) → serves (negsuc x) n l i ≡ true → (isExclusive (at l i) ≡ false) × HasRoom n (at l i)
 unfolding serves
-serves-room x n l i e = (never (at l i .exclusive) (λ f. not-shared x n l i i f e refl), go (findRun (at l i) n) refl)
+serves-room x n l i e = (never (isOn (at l i .exclusive)) (λ f. not-shared x n l i i f e refl), go (findRun (at l i) n) refl)
   where
     go : (f : Found) → findRun (at l i) n ≡ f → HasRoom n (at l i)
     go (At s) g = has-room (at l i) n s g
@@ -161,7 +162,7 @@ miss-asks S some k x n commits settings many c small unit =
 pub reserves-default : (S : ℕ) → 0 < S → (w : World) (ns : ℕ) (settings : Settings) (x n : ℕ) (commits : Bool) (kib many : ℕ)
     → sound S w (settings .page) ≡ true → w .state .question ≡ Idle → (n ≡ 0 → ⊥) → settings .off ≡ false → settings .reserve ≡ documentedReserve kib
     → w .state .mark ≡ false → S ≤ documentedReserve kib → InChunks S (documentedReserve kib) many → many + S < 2 ^ 64
-    → NoneHasRoom w n → step S w ns settings (claim (negsuc x) n commits) .answer ≡ Asks (AskMemory many S false false)
+    → NoneHasRoom w n → rules S w ns settings (act (claim (negsuc x) n commits)) .answer ≡ Asks (AskMemory many S false false)
 reserves-default S some w ns settings x n commits kib many passed idle n0 on size mark unit c small none =
     ap (λ (o : Outcome). o .answer)
     (past-4 S w ns settings (negsuc x) n commits passed idle n0
@@ -199,7 +200,7 @@ miss-memory S some w settings n commits many align commit large (negsuc x) h =
 
 -- and only then is memory asked for by a claim
 pub reserves-only : (S : ℕ) → 0 < S → (w : World) (ns : ℕ) (settings : Settings) (id : ℤ) (n : ℕ) (commits : Bool) (many align : ℕ) (commit large : Bool)
-    → step S w ns settings (claim id n commits) .answer ≡ Asks (AskMemory many align commit large)
+    → rules S w ns settings (act (claim id n commits)) .answer ≡ Asks (AskMemory many align commit large)
     → AsksDefault S (settings .reserve) (AskMemory many align commit large) × NoneHasRoom w n × ((i : ℕ) → id ≡ pos i → ⊥)
 reserves-only S some w ns settings id n commits many align commit large =
     subst P (sym (claim-order S w settings ns id n commits))

@@ -31,7 +31,7 @@ use Rattle.layer.specs.Table.{at, sound}
 use Rattle.layer.specs.Registering.{askMemory}
 use Rattle.layer.specs.Sweeping.{purgeReply, sweptReply, visitAt, visit, sweepFrom}
 use Rattle.layer.specs.Answering.{isFor, counted, answerTo}
-use Rattle.layer.specs.Step.{Call, sweep, answer, step}
+use Rattle.layer.specs.Step.{Call, sweep, answer, act, rules}
 use Rattle.layer.proofs.Tools.{at-same, at-other}
 use Rattle.layer.proofs.Facts.{SoundQuestion}
 use Rattle.layer.proofs.Stepped.{Words, sound-facts}
@@ -54,7 +54,7 @@ record Says (flag : Bool) (w : World) : Type 0 where
 abbrev AllSay : ℕ → ℕ → Bool → Outcome → Type 0
 AllSay address many flag o = o .answer ≡ Asks (AskPurge address many flag) → Says flag (o .world)
 
-asks-purge : (S : ℕ) (address many : ℕ) (flag : Bool) (w : World) (ns : ℕ) (settings : Settings) (c : Call) → AllSay address many flag (step S w ns settings c)
+asks-purge : (S : ℕ) (address many : ℕ) (flag : Bool) (w : World) (ns : ℕ) (settings : Settings) (c : Call) → AllSay address many flag (rules S w ns settings c)
 unfolding askMemory
 asks-purge S address many flag w ns settings c = step-forms S w ns settings c (AllSay address many flag) (record {
   as-it-was = λ r a e. absurd (true≢false (sym (ap isAsk e) ∙ a));
@@ -69,14 +69,14 @@ asks-purge S address many flag w ns settings c = step-forms S w ns settings c (A
     same x y f e = cc
 
 -- what holds of every call's outcome holds of the last in a sweep's run
-module _ (S : ℕ) (P : Outcome → Type 0) (each : (w : World) (ns : ℕ) (settings : Settings) (c : Call) → P (step S w ns settings c)) where
+module _ (S : ℕ) (P : Outcome → Type 0) (each : (w : World) (ns : ℕ) (settings : Settings) (c : Call) → P (rules S w ns settings c)) where
   last-goes : (cs : List Made) (r : Run) → P (r .last) → P (goOn S r cs .last)
   unfolding goOn
   last-goes [] r h = h
   last-goes (c ∷ cs) r h = last-goes cs (more S r c) (by-cond (λ (x : Run). P (x .last)) (isOpen r) _ _ (λ e. each _ _ _ _) (λ e. h))
 
   last-of : (w : World) (ns : ℕ) (settings : Settings) (force : Bool) (calls : List Made) → P (runSweep S w ns settings force calls .last)
-  last-of w ns settings force calls = last-goes calls _ (each w ns settings (sweep force))
+  last-of w ns settings force calls = last-goes calls _ (each w ns settings (act (sweep force)))
 
 -- a sweep's own call on a world that row 1 lets pass and where no question is open, and then any calls until it ends
 module _ (S : ℕ) (some : 0 < S) (w : World) (ns : ℕ) (settings : Settings) (force : Bool) (calls : List Made) (words : Words w) (passed : sound S w (settings .page) ≡ true)
@@ -158,7 +158,7 @@ module _ (a : Arena) (j : ℕ) (granted flag : Bool) (r : Rows a) (h : j < 1024)
 module _ (S : ℕ) (v : World) (later : ℕ) (others : Settings) (i j : ℕ) (kept : Sweep) (granted : Bool) (base : ℕ) (words : Words v) (passed : sound S v (others .page) ≡ true)
     (waits : v .state .question ≡ Purging i j kept) where
   abbrev left : World
-  left = step S v later others (answer ForPurge granted base) .world
+  left = rules S v later others (answer ForPurge granted base) .world
 
   asked-about : SoundQuestion (v .records) (v .state .count) (Purging i j kept)
   asked-about = subst (SoundQuestion (v .records) (v .state .count)) waits (sound-facts S v (others .page) words passed .0 .question)
@@ -200,7 +200,7 @@ module _ (S : ℕ) (v : World) (later : ℕ) (others : Settings) (i j : ℕ) (ke
 pub purge-run : (S : ℕ) → 0 < S → (w : World) (ns : ℕ) (settings : Settings) (force : Bool) (calls : List Made) → Words w → sound S w (settings .page) ≡ true → w .state .question ≡ Idle
     → let v = runSweep S w ns settings force calls .last .world in
     (later : ℕ) (others : Settings) (i j : ℕ) (kept : Sweep) (granted : Bool) (base : ℕ) → Words v → sound S v (others .page) ≡ true → v .state .question ≡ Purging i j kept
-    → bitAt (at (step S v later others (answer ForPurge granted base) .world .records) i .committed) j
+    → bitAt (at (rules S v later others (answer ForPurge granted base) .world .records) i .committed) j
     ≡ answered granted (documentedPurge (settings .decommits)) (bitAt (at (v .records) i .committed) j)
 purge-run S some w ns settings force calls words passed idle later others i j kept granted base u t waits =
     let v = runSweep S w ns settings force calls .last .world in

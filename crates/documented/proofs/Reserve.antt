@@ -10,6 +10,7 @@ use lib.ListN.{length}
 use Rattle.refusals.specs.declared.Refusal.{Refusal}
 use Rattle.words.proofs.Tests.{by-cond}
 use Rattle.arena.specs.declared.Arena.{Arena}
+use Rattle.arena.proofs.FlagLaws.{flag-read}
 use Rattle.arena.specs.Registering.{newArena, reservedArena}
 use Rattle.layer.specs.declared.Settings.{Settings}
 use Rattle.layer.specs.declared.Question.the-variants.{Reserving}
@@ -21,7 +22,7 @@ use Rattle.layer.specs.declared.Answer.the-variants.{Refused, Asks, Registered}
 use Rattle.layer.specs.World.{World, Outcome, outcome}
 use Rattle.layer.specs.Table.{at, sound}
 use Rattle.layer.specs.Registering.{chunksFor, bytesAsked, askMemory}
-use Rattle.layer.specs.Step.{reserve, answer, step}
+use Rattle.layer.specs.Step.{reserve, answer, act, rules}
 use Rattle.layer.proofs.Rules.{count-facts}
 use Rattle.refusal_laws.specs.Order.{Check, firstOf, broken, questionOpen, noSuchQuestion, reserveChecks, yesChecks}
 use Rattle.refusal_laws.proofs.Answers.{asks-not, registered-not}
@@ -43,7 +44,7 @@ record Asked (S size : ℕ) (commit large exclusive : Bool) (o : Outcome) : Type
   waits : o .world .state .question ≡ Reserving (chunksFor S size) (bytesAsked S size page) commit exclusive Reserve
 
 asked : (S : ℕ) (w : World) (ns : ℕ) (settings : Settings) (size : ℕ) (commit large exclusive : Bool) (ask : Ask)
-    → step S w ns settings (reserve size commit large exclusive) .answer ≡ Asks ask → Asked S size commit large exclusive (step S w ns settings (reserve size commit large exclusive))
+    → rules S w ns settings (act (reserve size commit large exclusive)) .answer ≡ Asks ask → Asked S size commit large exclusive (rules S w ns settings (act (reserve size commit large exclusive)))
 unfolding askMemory
 asked S w ns settings size commit large exclusive ask =
     subst P (sym (reserve-order S w settings ns size commit large exclusive))
@@ -57,7 +58,7 @@ asked S w ns settings size commit large exclusive ask =
     turned why e = absurd (asks-not ask why (sym e))
 
 pub reserve-asks : (S : ℕ) → 0 < S → (w : World) (ns : ℕ) (settings : Settings) (size : ℕ) (commit large exclusive : Bool) (ask : Ask)
-    → step S w ns settings (reserve size commit large exclusive) .answer ≡ Asks ask → AsksFor S size commit large ask
+    → rules S w ns settings (act (reserve size commit large exclusive)) .answer ≡ Asks ask → AsksFor S size commit large ask
 reserve-asks S some w ns settings size commit large exclusive ask e =
     let a = asked S w ns settings size commit large exclusive ask e in
     record { many = bytesAsked S size (a .page); is = same ask _ (sym e ∙ a .asks); enough = enough S some size (a .page) }
@@ -74,13 +75,13 @@ reserved S some size commit exclusive base whole few = record {
   aligned = whole;
   enough = up-enough S some size;
   all-committed = λ j h. each-bit (chunksFor S size) commit j few h;
-  alone = refl;
+  alone = flag-read exclusive;
 }
 
 -- a yes at a base, on the world that the reserve left
 pub reserve-registers : (S : ℕ) → 0 < S → (w : World) (ns later : ℕ) (settings others : Settings) (size : ℕ) (commit large exclusive : Bool) (ask : Ask) (base id : ℕ)
-    → step S w ns settings (reserve size commit large exclusive) .answer ≡ Asks ask
-    → let o = step S (step S w ns settings (reserve size commit large exclusive) .world) later others (answer ForMemory true base) in
+    → rules S w ns settings (act (reserve size commit large exclusive)) .answer ≡ Asks ask
+    → let o = rules S (rules S w ns settings (act (reserve size commit large exclusive)) .world) later others (answer ForMemory true base) in
     o .answer ≡ Registered id → Reserved S size commit exclusive base (at (o .world .records) id)
 reserve-registers S some w ns later settings others size commit large exclusive ask base id e =
     let a = asked S w ns settings size commit large exclusive ask e in
@@ -94,7 +95,7 @@ reserve-registers S some w ns later settings others size commit large exclusive 
     (reserved S some size commit exclusive base (eqb-true (base % S) 0 (holds (eqb (base % S) 0) (p .1 .1 .1 .1 .0))) (count-facts (chunksFor S size) (p .1 .1 .1 .0) .1))))
   where
     v : World
-    v = step S w ns settings (reserve size commit large exclusive) .world
+    v = rules S w ns settings (act (reserve size commit large exclusive)) .world
 
     new : Arena
     new = reservedArena base (chunksFor S size) commit exclusive
@@ -119,7 +120,7 @@ same-world (c ∷ cs) a b e = go (c .holds) (same-world cs a b e)
 
 -- the recorded difference: allow_large is handed on with the question, and nothing of it is kept
 pub large-not-kept : (S : ℕ) (w : World) (ns : ℕ) (settings : Settings) (size : ℕ) (commit exclusive : Bool)
-    → step S w ns settings (reserve size commit true exclusive) .world ≡ step S w ns settings (reserve size commit false exclusive) .world
+    → rules S w ns settings (act (reserve size commit true exclusive)) .world ≡ rules S w ns settings (act (reserve size commit false exclusive)) .world
 unfolding askMemory
 large-not-kept S w ns settings size commit exclusive =
     ap (λ (o : Outcome). o .world) (reserve-order S w settings ns size commit true exclusive)

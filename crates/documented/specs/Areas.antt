@@ -8,6 +8,7 @@ use Rattle.words.specs.Bits.{bitAt}
 use Rattle.runs.specs.declared.Found.{Found}
 use Rattle.runs.specs.declared.Found.the-variants.{At, Nothing}
 use Rattle.arena.specs.declared.Arena.{Arena}
+use Rattle.arena.specs.Flags.{isOn}
 use Rattle.layer.specs.declared.Question.the-variants.{Reserving}
 use Rattle.layer.specs.declared.Waiting.{Waiting}
 use Rattle.layer.specs.declared.Kind.{Kind}
@@ -30,10 +31,10 @@ abbrev pub bytes : ℕ → Arena → ℕ
 bytes S a = a .chunks * S
 
 abbrev pub isExclusive : Arena → Bool
-isExclusive a = a .exclusive
+isExclusive a = isOn (a .exclusive)
 
 abbrev pub isOwned : Arena → Bool
-isOwned a = a .owned
+isOwned a = isOn (a .owned)
 
 -- arena i stands in a table
 abbrev pub Stands : World → ℕ → Type 0

@@ -17,6 +17,7 @@ use Rattle.runs.specs.declared.Found.{Found}
 use Rattle.runs.specs.declared.Found.the-variants.{At, Nothing}
 use Rattle.runs.proofs.SearchLaws.{and-both}
 use Rattle.arena.specs.declared.Arena.{Arena}
+use Rattle.arena.specs.Flags.{isOn}
 use Rattle.arena.specs.declared.Commitment.{Commitment}
 use Rattle.arena.specs.declared.Commitment.the-variants.{Untold, Committed, Uncommitted}
 use Rattle.arena.specs.Registering.{grownArena}
@@ -43,7 +44,7 @@ use Rattle.layer.specs.Registering.{askMemory, badCount, withRecord, withStamps
 use Rattle.layer.specs.Claiming.{searchOf, claimOf}
 use Rattle.layer.specs.Sweeping.{purgeReply, sweptReply, visitAt, visit, sweepFrom}
 use Rattle.layer.specs.Answering.{isFor, counted, failReply, answerCommit, resume, answerMemory, answerTo, answerOf}
-use Rattle.layer.specs.Step.{Call, reserve, manage, adopt, claim, release, sweep, answer, owns, area, sweepOf, gate, stepOn, step}
+use Rattle.layer.specs.Step.{Call, reserve, manage, adopt, claim, release, sweep, answer, owns, area, sweepOf, gate, stepOn, act, query, rules}
 use Rattle.layer.proofs.Tools.{at-other}
 use Rattle.layer.proofs.Rules.{grows-facts}
 use Rattle.layer.proofs.Cases.{grant-cases, search-cases, miss-cases, claim-cases, release-in-cases, release-cases, reserve-cases, register-cases, manage-cases, adopt-cases}
@@ -143,9 +144,9 @@ unfolding grownArena
 grown-head a n = refl
 
 -- only an owned arena grows
-owned-grows : (S : ℕ) (a : Arena) (address n : ℕ) → grows S a address n ≡ true → a .owned ≡ true
+owned-grows : (S : ℕ) (a : Arena) (address n : ℕ) → grows S a address n ≡ true → isOn (a .owned) ≡ true
 unfolding grows
-owned-grows S a address n e = and-both (a .owned) _ e .0
+owned-grows S a address n e = and-both (isOn (a .owned)) _ e .0
 
 -- ---- the k arenas of l stand among the first so many of m
 
@@ -166,7 +167,7 @@ stand-put l k m count i a e h = (
 stand-new : (l : List Arena) (k : ℕ) (a : Arena) → Stand l k (set l k a) (suc k)
 stand-new l k a = (omega arith, λ j u. inl (ap headOf (at-other l k j a (λ e. omega arith))))
 
-stand-grown : (l : List Arena) (k i n : ℕ) → at l i .owned ≡ true → at l i .exclusive ≡ false → Stand l k (set l i (grownArena (at l i) n)) k
+stand-grown : (l : List Arena) (k i n : ℕ) → isOn (at l i .owned) ≡ true → isOn (at l i .exclusive) ≡ false → Stand l k (set l i (grownArena (at l i) n)) k
 stand-grown l k i n o x = (
   omega arith,
   λ j u. ⊎-elim (λ (e : at (set l i (grownArena (at l i) n)) j ≡ at l j). inl (ap headOf e))
@@ -279,7 +280,7 @@ module _ (S : ℕ) (l : List Arena) (stamps : List ℕ) (k : ℕ) (mark : Bool) 
       at-gate (Reserving chunks bytes commit exclusive waiting) y = y
       at-gate (GivingBack cause waiting) y = y
 
-  claim-forms : (id : ℤ) (n : ℕ) (asks : Bool) (settings : Settings) → Forms (claim id n asks) → P (claimOf S l stamps k mark id n asks settings)
+  claim-forms : (id : ℤ) (n : ℕ) (asks : Bool) (settings : Settings) → Forms (act (claim id n asks)) → P (claimOf S l stamps k mark id n asks settings)
   claim-forms id n asks settings f =
       claim-cases S l stamps k mark P id n asks settings (λ e. down c f _) (λ e g. down c f _)
       (λ e g. search-forms c f l stamps k id n asks _ (stand-same l k) (inl (eqb-false n 0 e))
@@ -287,39 +288,39 @@ module _ (S : ℕ) (l : List Arena) (stamps : List ℕ) (k : ℕ) (mark : Bool) 
       (f .reserves (settings .reserve) (settings .page) false false false (Claim n asks) (eqb-false n 0 e))))
     where
       c : Call
-      c = claim id n asks
+      c = act (claim id n asks)
 
   module _ (ns : ℕ) (settings : Settings) where
     pub step-on-forms : (c : Call) → Forms c → P (stepOn S l stamps k mark q ns settings c)
-    step-on-forms (reserve size commit large exclusive) f =
+    step-on-forms (act (reserve size commit large exclusive)) f =
         gate-forms _ f _
-        (reserve-cases S l stamps k mark P size commit large exclusive (settings .page) (down (reserve size commit large exclusive) f _) (f .reserves size (settings .page) commit large exclusive Reserve tt))
-    step-on-forms (manage start size exclusive node mapped reserved) f =
+        (reserve-cases S l stamps k mark P size commit large exclusive (settings .page) (down (act (reserve size commit large exclusive)) f _) (f .reserves size (settings .page) commit large exclusive Reserve tt))
+    step-on-forms (act (manage start size exclusive node mapped reserved)) f =
         gate-forms _ f _
-        (manage-cases S l stamps k mark P start size exclusive node mapped reserved (down (manage start size exclusive node mapped reserved) f _)
-        (down (manage start size exclusive node mapped reserved) f _) (down (manage start size exclusive node mapped reserved) f _) (λ g. register-forms (manage start size exclusive node mapped reserved) f _ _))
-    step-on-forms (adopt address size) f =
+        (manage-cases S l stamps k mark P start size exclusive node mapped reserved (down (act (manage start size exclusive node mapped reserved)) f _)
+        (down (act (manage start size exclusive node mapped reserved)) f _) (down (act (manage start size exclusive node mapped reserved)) f _) (λ g. register-forms (act (manage start size exclusive node mapped reserved)) f _ _))
+    step-on-forms (act (adopt address size)) f =
         gate-forms _ f _
-        (adopt-cases S l stamps k mark P address size (down (adopt address size) f _) (down (adopt address size) f _) (down (adopt address size) f _)
-        (λ i w h g. f .ended _ refl _ stamps k mark (stand-grown l k i (size / S) (owned-grows S (at l i) address (size / S) g) (grows-facts S (at l i) address (size / S) g .0)) (λ x. x)) (λ w. register-forms (adopt address size) f _ _))
-    step-on-forms (claim id n asks) f = gate-forms _ f _ (claim-forms id n asks settings f)
-    step-on-forms (release address n told pending) f =
+        (adopt-cases S l stamps k mark P address size (down (act (adopt address size)) f _) (down (act (adopt address size)) f _) (down (act (adopt address size)) f _)
+        (λ i w h g. f .ended _ refl _ stamps k mark (stand-grown l k i (size / S) (owned-grows S (at l i) address (size / S) g) (grows-facts S (at l i) address (size / S) g .0)) (λ x. x)) (λ w. register-forms (act (adopt address size)) f _ _))
+    step-on-forms (act (claim id n asks)) f = gate-forms _ f _ (claim-forms id n asks settings f)
+    step-on-forms (act (release address n told pending)) f =
         gate-forms _ f _
         (release-cases S l stamps k mark P n told pending _ _ address (λ e. down c f _) (λ e g. down c f _)
         (λ i e h g. release-in-cases S l stamps k mark P n told pending _ _ i _ (λ x. down c f _) (λ x y. down c f _) (λ x y. f .ended _ refl _ _ k mark (stand-put l k l k i _ (release-head (at l i) _ n told pending _ _) (stand-same l k)) (λ z. z))))
       where
         c : Call
-        c = release address n told pending
-    step-on-forms (sweep force) f = gate-forms _ f _ (sweep-forms (sweep force) f (sweepOf force ns settings) k 0 l (stand-same l k))
+        c = act (release address n told pending)
+    step-on-forms (act (sweep force)) f = gate-forms _ f _ (sweep-forms (act (sweep force)) f (sweepOf force ns settings) k 0 l (stand-same l k))
     step-on-forms (answer kind granted base) f = answer-forms kind granted base f
-    step-on-forms (owns address) f = f .as-it-was _ refl
-    step-on-forms (area (pos i)) f =
+    step-on-forms (query (owns address)) f = f .as-it-was _ refl
+    step-on-forms (query (area (pos i))) f =
         by-cond (λ (r : Answer). P (outcome r (worldOf l stamps (stateOf k mark q)))) (ltb i k) _ _ (λ e. f .as-it-was _ refl) (λ e. f .as-it-was _ refl)
-    step-on-forms (area (negsuc i)) f = f .as-it-was _ refl
+    step-on-forms (query (area (negsuc i))) f = f .as-it-was _ refl
 
 pub step-forms : (S : ℕ) (w : World) (ns : ℕ) (settings : Settings) (c : Call) (P : Outcome → Type 0)
-    → Forms S (w .records) (w .stamps) (w .state .count) (w .state .mark) (w .state .question) P c → P (step S w ns settings c)
-unfolding step
+    → Forms S (w .records) (w .stamps) (w .state .count) (w .state .mark) (w .state .question) P c → P (rules S w ns settings c)
+unfolding rules
 step-forms S w ns settings c P f =
     by-cond P (sound S w (settings .page)) _ _
     (λ e. step-on-forms S (w .records) (w .stamps) (w .state .count) (w .state .mark) (w .state .question) P ns settings c f) (λ e. f .as-it-was (Refused Broken) refl)

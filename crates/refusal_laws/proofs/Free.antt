@@ -18,6 +18,7 @@ use Rattle.runs.specs.declared.Found.the-variants.{At, Nothing}
 use Rattle.runs.specs.Lowest.{all, least}
 use Rattle.runs.proofs.LowestLaws.{First, first-says, at-iff}
 use Rattle.arena.specs.declared.Arena.{Arena}
+use Rattle.arena.specs.Flags.{isOn}
 use Rattle.arena.specs.Record.{withUsed, withDirty, withCommitted}
 use Rattle.arena.specs.Registering.{reservedArena}
 use Rattle.arena.specs.Claiming.{free, findRun, runCommitted, runFresh, takeRun, giveBackRun, commitRun, dirtyRun, finishGrant}
@@ -125,9 +126,9 @@ least-same p q h s zero = refl
 least-same p q h s (suc k) = ap₂ (λ (b : Bool) (r : Found). cond b (At s) r) (h s) (least-same p q h (suc s) k)
 
 -- so every arena that is not exclusive serves it
-serves-none : (l : List Arena) (j : ℕ) → serves (negsuc 0) 0 l j ≡ not (at l j .exclusive)
+serves-none : (l : List Arena) (j : ℕ) → serves (negsuc 0) 0 l j ≡ not (isOn (at l j .exclusive))
 unfolding serves eligible
-serves-none l j = ap (λ (f : Found). not (at l j .exclusive) && isAt f) (found-none (at l j)) ∙ and-true (not (at l j .exclusive))
+serves-none l j = ap (λ (f : Found). not (isOn (at l j .exclusive)) && isAt f) (found-none (at l j)) ∙ and-true (not (isOn (at l j .exclusive)))
   where
     and-true : (b : Bool) → b && true ≡ b
     and-true true = refl
@@ -148,7 +149,7 @@ module _ (S : ℕ) (l : List Arena) (stamps : List ℕ) (k : ℕ) (mark : Bool) 
   grant-none i true h = granted i h
   grant-none i false h = granted i h
 
-  found : (commits : Bool) (f : Found) → First (λ i. not (at l i .exclusive)) 0 k f
+  found : (commits : Bool) (f : Found) → First (λ i. not (isOn (at l i .exclusive))) 0 k f
       → searchAt S l stamps k mark 0 commits (turnDown NoRun (calm k mark)) f ≡ emptyRun (worldOf l stamps (calm k mark)) f
   found commits (At i) h = ap (grantFound S l stamps k mark i 0 commits) (found-none (at l i)) ∙ grant-none i commits (omega (arith, h .1))
   found commits Nothing h = refl
@@ -156,8 +157,8 @@ module _ (S : ℕ) (l : List Arena) (stamps : List ℕ) (k : ℕ) (mark : Bool) 
   search-none : (commits : Bool) → searchOf S l stamps k mark (negsuc 0) 0 commits (turnDown NoRun (calm k mark)) ≡ emptyClaim (worldOf l stamps (calm k mark))
   unfolding searchOf
   search-none commits =
-      ap (searchAt S l stamps k mark 0 commits (turnDown NoRun (calm k mark))) (least-same (serves (negsuc 0) 0 l) (λ i. not (at l i .exclusive)) (serves-none l) 0 k)
-      ∙ found commits (least (λ i. not (at l i .exclusive)) 0 k) (first-says (λ i. not (at l i .exclusive)) 0 k)
+      ap (searchAt S l stamps k mark 0 commits (turnDown NoRun (calm k mark))) (least-same (serves (negsuc 0) 0 l) (λ i. not (isOn (at l i .exclusive))) (serves-none l) 0 k)
+      ∙ found commits (least (λ i. not (isOn (at l i .exclusive))) 0 k) (first-says (λ i. not (isOn (at l i .exclusive))) 0 k)
 
 -- checks whose way on is the same where none of them holds
 first-same : (cs : List Check) (a b : Outcome) → (Passed cs → a ≡ b) → firstOf cs a ≡ firstOf cs b

@@ -34,7 +34,7 @@ use Rattle.layer.specs.Registering.{tooLarge, askMemory, badCount, withRecord, 
 use Rattle.layer.specs.Claiming.{serves, asksCommit, grantArena, grantReply, isNegative, missReply, grantFound, searchAt, searchOf}
 use Rattle.layer.specs.Sweeping.{purgeReply, sweptReply, visitAt, visit, sweepFrom}
 use Rattle.layer.specs.Answering.{causeRefusal, counted, failReply, answerCommit, answerPurge, resume, answerMemory, answerTo}
-use Rattle.layer.specs.Step.{Call, reserve, manage, adopt, claim, release, sweep, answer, owns, area, sweepOf, step, act, query, rules}
+use Rattle.layer.specs.Step.{Call, reserve, manage, adopt, claim, release, sweep, answer, owns, area, sweepOf, act, query, rules}
 use Rattle.refusal_laws.proofs.Answers.{same-refusal, asks-not, registered-not, claimed-not, released-not, swept-not}
 use Rattle.refusal_laws.proofs.Order.{first-each, idle-of, claim-order, release-order, adopt-order, manage-order, reserve-order, sweep-order, answer-order}
 use Rattle.refusal_laws.specs.Order.{broken, questionOpen, noSuchQuestion, claimChecks, releaseChecks, adoptChecks, manageChecks, reserveChecks}

@@ -29,7 +29,7 @@ use Rattle.layer.specs.Claiming.{missReply, searchOf, claimOf}
 use Rattle.layer.specs.Releasing.{releases, releaseReply, releaseAt, releaseOf}
 use Rattle.layer.specs.Sweeping.{sweepFrom}
 use Rattle.layer.specs.Answering.{kindOpen, isFor, resume, answerTo, answerOf}
-use Rattle.layer.specs.Step.{reserve, manage, adopt, claim, release, sweep, answer, sweepOf, gate, step, act, rules}
+use Rattle.layer.specs.Step.{reserve, manage, adopt, claim, release, sweep, answer, sweepOf, gate, act, rules}
 use Rattle.refusal_laws.specs.Order.{Check, firstOf, idOf, registered, row, chunkCount, tableFull, broken, questionOpen, noSuchQuestion, claimChecks, releaseChecks, releasedAt, growing, grown, adoptChecks, manageChecks, reserveChecks, yesChecks}
 
 -- what holds of each check's end, and of the way on where no check holds, holds of the call

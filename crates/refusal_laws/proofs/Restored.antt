@@ -39,7 +39,7 @@ use Rattle.layer.specs.Table.{at, badRange, sound}
 use Rattle.layer.specs.Registering.{tooLarge, askMemory, badCount, withRecord, withStamps}
 use Rattle.layer.specs.Claiming.{serves, asksCommit, grantArena, grantReply, missReply, isNegative, grantFound, searchAt, searchOf}
 use Rattle.layer.specs.Answering.{isFor, resume, answerOf}
-use Rattle.layer.specs.Step.{claim, answer, step, act, rules}
+use Rattle.layer.specs.Step.{claim, answer, act, rules}
 use Rattle.layer.proofs.Tools.{or-false, at-same, by-set}
 use Rattle.layer.proofs.Registered.{reserved-rows}
 use Rattle.layer.proofs.Stepped.{Words, sound-facts, step-sound}

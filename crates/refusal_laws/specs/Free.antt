@@ -8,6 +8,7 @@ use Rattle.refusals.specs.declared.Refusal.the-variants.{NoRun, CommitRefused}
 use Rattle.runs.specs.declared.Found.{Found}
 use Rattle.runs.specs.declared.Found.the-variants.{At, Nothing}
 use Rattle.runs.specs.Lowest.{least}
+use Rattle.arena.specs.Flags.{isOn}
 use Rattle.arena.specs.Registering.{reservedArena}
 use Rattle.lookup.specs.Rows.{Rows}
 use Rattle.layer.specs.declared.Settings.{Settings}
@@ -18,7 +19,7 @@ use Rattle.layer.specs.declared.Kind.the-variants.{ForCommit, ForMemory}
 use Rattle.layer.specs.declared.Answer.the-variants.{Refused, Claimed}
 use Rattle.layer.specs.World.{World, Outcome, outcome}
 use Rattle.layer.specs.Table.{at, sound}
-use Rattle.layer.specs.Step.{Call, answer, step}
+use Rattle.layer.specs.Step.{Call, answer, rules}
 use Rattle.refusal_laws.specs.Left.{closed, withArena}
 use Rattle.refusal_laws.specs.Order.{firstOf, yesChecks}
 
@@ -34,7 +35,7 @@ isEmpty (GivingBack cause waiting) = false
 -- the layer makes none: a call on a world with no such question leaves none. The empty layer has no question at all.
 abbrev pub NoneMade : ℕ → Type 0
 NoneMade S =
-    (w : World) (ns : ℕ) (settings : Settings) (c : Call) → isEmpty (w .state .question) ≡ false → isEmpty (step S w ns settings c .world .state .question) ≡ false
+    (w : World) (ns : ℕ) (settings : Settings) (c : Call) → isEmpty (w .state .question) ≡ false → isEmpty (rules S w ns settings c .world .state .question) ≡ false
 
 -- a world that a call can be lent: row 1 lets it pass, and its maps are of machine words
 abbrev pub Lent : ℕ → World → Settings → Type 0
@@ -49,7 +50,7 @@ emptyCommit S w i s false = outcome (Refused CommitRefused) (closed w)
 abbrev pub EmptyCommit : ℕ → Type 0
 EmptyCommit S =
     (w : World) (ns : ℕ) (settings : Settings) (i s : ℕ) (granted : Bool) (base : ℕ) → Lent S w settings → w .state .question ≡ Committing i s 0
-    → step S w ns settings (answer ForCommit granted base) ≡ emptyCommit S w i s granted
+    → rules S w ns settings (answer ForCommit granted base) ≡ emptyCommit S w i s granted
 
 -- The claim of no chunk that waits for memory. A no is answered as to every claim: 10, and the mark (`Left`). A yes goes through the same checks as
 -- for every claim; where the memory is registered, the claim is granted the empty run at the base of the lowest arena that is not exclusive, fresh
@@ -59,11 +60,11 @@ emptyRun v (At i) = outcome (Claimed (at (v .records) i .base) true true) v
 emptyRun v Nothing = outcome (Refused NoRun) v
 
 abbrev pub emptyClaim : World → Outcome
-emptyClaim v = emptyRun v (least (λ i. not (at (v .records) i .exclusive)) 0 (v .state .count))
+emptyClaim v = emptyRun v (least (λ i. not (isOn (at (v .records) i .exclusive))) 0 (v .state .count))
 
 abbrev pub EmptyClaim : ℕ → Type 0
 EmptyClaim S =
     (w : World) (ns : ℕ) (settings : Settings) (chunks bytes : ℕ) (commit exclusive commits : Bool) (base : ℕ) → Lent S w settings
     → w .state .question ≡ Reserving chunks bytes commit exclusive (Claim 0 commits)
-    → step S w ns settings (answer ForMemory true base)
+    → rules S w ns settings (answer ForMemory true base)
     ≡ firstOf (yesChecks S w settings chunks bytes (Claim 0 commits) base) (emptyClaim (withArena w (reservedArena base chunks commit exclusive)))

@@ -5,7 +5,7 @@ use mathlib.Core.Bool.{true}
 use Prim.Native.Nat.{ℕ}
 use Rattle.layer.specs.declared.Settings.{Settings}
 use Rattle.layer.specs.World.{World}
-use Rattle.layer.specs.Step.{Call, step}
+use Rattle.layer.specs.Step.{Call, rules}
 
 abbrev pub MarkStays : ℕ → Type 0
-MarkStays S = (w : World) (ns : ℕ) (settings : Settings) (c : Call) → w .state .mark ≡ true → step S w ns settings c .world .state .mark ≡ true
+MarkStays S = (w : World) (ns : ℕ) (settings : Settings) (c : Call) → w .state .mark ≡ true → rules S w ns settings c .world .state .mark ≡ true

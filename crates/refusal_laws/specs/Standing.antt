@@ -1,22 +1,23 @@
 -- An arena that is registered stands for good. Document 01, "Registering", has no call that ends one; `adopt_os_block` "grows the owned,
 -- non-exclusive arena". Assumes nothing.
 use mathlib.Core.Path.{_≡_}
-use mathlib.Core.Bool.{Bool, true, false}
+use mathlib.Core.Bool.{true, false}
 use mathlib.Core.Logic.{_⊎_}
 use Prim.Native.Nat.{ℕ, _+_, _<_}
 use lib.IntN.{ℤ}
 use Rattle.arena.specs.declared.Arena.{Arena}
+use Rattle.arena.specs.Flags.{isOn}
 use Rattle.layer.specs.declared.Settings.{Settings}
 use Rattle.layer.specs.World.{World}
 use Rattle.layer.specs.Table.{at}
-use Rattle.layer.specs.Step.{Call, step}
+use Rattle.layer.specs.Step.{Call, rules}
 
 -- what registering says of an arena once: its area, whom it serves, whose it is, and its node
 pub record Head : Type 0 where
   pub base : ℕ
   pub chunks : ℕ
-  pub exclusive : Bool
-  pub owned : Bool
+  pub exclusive : ℕ
+  pub owned : ℕ
   pub node : ℤ
 
 abbrev pub headOf : Arena → Head
@@ -28,7 +29,7 @@ longer a n = record { base = a .base; chunks = a .chunks + n; exclusive = a .exc
 
 -- b is a as it was, or as it grew: only an owned arena that is not exclusive grows
 abbrev pub Grown : Arena → Arena → Type 0
-Grown a b = (a .owned ≡ true) × (a .exclusive ≡ false) × (n : ℕ) × (headOf b ≡ longer a n)
+Grown a b = (isOn (a .owned) ≡ true) × (isOn (a .exclusive) ≡ false) × (n : ℕ) × (headOf b ≡ longer a n)
 
 abbrev pub GoesOn : Arena → Arena → Type 0
 GoesOn a b = (headOf b ≡ headOf a) ⊎ Grown a b
@@ -37,4 +38,4 @@ GoesOn a b = (headOf b ≡ headOf a) ⊎ Grown a b
 abbrev pub ArenasStand : ℕ → Type 0
 ArenasStand S =
     (w : World) (ns : ℕ) (settings : Settings) (c : Call) (i : ℕ) → i < w .state .count
-    → let v = step S w ns settings c .world in (i < v .state .count) × GoesOn (at (w .records) i) (at (v .records) i)
+    → let v = rules S w ns settings c .world in (i < v .state .count) × GoesOn (at (w .records) i) (at (v .records) i)

@@ -38,7 +38,7 @@ use Rattle.layer.specs.World.{World, Outcome, stateOf, worldOf, calm}
 use Rattle.layer.specs.Table.{at, sound}
 use Rattle.layer.specs.Sweeping.{purgeReply, sweptReply, visitAt, visit, sweepFrom}
 use Rattle.layer.specs.Answering.{isFor, answerPurge, answerOf}
-use Rattle.layer.specs.Step.{Call, reserve, manage, adopt, claim, release, sweep, answer, owns, area, sweepOf, stepOn, step}
+use Rattle.layer.specs.Step.{Call, reserve, manage, adopt, claim, release, sweep, answer, owns, area, sweepOf, stepOn, act, query, rules}
 use Rattle.layer.proofs.Tools.{at-same, at-other}
 use Rattle.layer.proofs.Kept.{SoundWorld, return-range}
 use Rattle.layer.proofs.Stepped.{Words, sound-facts, step-on-kept}
@@ -257,19 +257,19 @@ during : (S : ℕ) (l : List Arena) (stamps : List ℕ) (k : ℕ) (mark : Bool) 
     → (stepOn S l stamps k mark (Purging i j x) ns settings c .world ≡ worldOf l stamps (stateOf k mark (Purging i j x)))
     ⊎ ((granted : Bool) × (stepOn S l stamps k mark (Purging i j x) ns settings c ≡ answerPurge S l stamps k mark i j x granted))
 unfolding answerOf isFor
-during S l stamps k mark i j x ns settings (reserve size commit large exclusive) = inl refl
-during S l stamps k mark i j x ns settings (manage start size exclusive node mapped reserved) = inl refl
-during S l stamps k mark i j x ns settings (adopt address size) = inl refl
-during S l stamps k mark i j x ns settings (claim id n commits) = inl refl
-during S l stamps k mark i j x ns settings (release address n told pending) = inl refl
-during S l stamps k mark i j x ns settings (sweep force) = inl refl
+during S l stamps k mark i j x ns settings (act (reserve size commit large exclusive)) = inl refl
+during S l stamps k mark i j x ns settings (act (manage start size exclusive node mapped reserved)) = inl refl
+during S l stamps k mark i j x ns settings (act (adopt address size)) = inl refl
+during S l stamps k mark i j x ns settings (act (claim id n commits)) = inl refl
+during S l stamps k mark i j x ns settings (act (release address n told pending)) = inl refl
+during S l stamps k mark i j x ns settings (act (sweep force)) = inl refl
 during S l stamps k mark i j x ns settings (answer ForCommit granted base) = inl refl
 during S l stamps k mark i j x ns settings (answer ForPurge granted base) = inr (granted, refl)
 during S l stamps k mark i j x ns settings (answer ForMemory granted base) = inl refl
 during S l stamps k mark i j x ns settings (answer ForGiveBack granted base) = inl refl
 during S l stamps k mark i j x ns settings (answer ForNone granted base) = inl refl
-during S l stamps k mark i j x ns settings (owns address) = inl refl
-during S l stamps k mark i j x ns settings (area id) = inl refl
+during S l stamps k mark i j x ns settings (query (owns address)) = inl refl
+during S l stamps k mark i j x ns settings (query (area id)) = inl refl
 
 module _ (S : ℕ) (some : 0 < S) (l₀ : List Arena) (stamps : List ℕ) (k : ℕ) (mark : Bool) (first : Sweep) (clocked : (i : ℕ) → Clocked (stampsOf stamps i) (first .now) (first .delay)) where
   -- the sweep is under way, or has ended
@@ -284,8 +284,8 @@ module _ (S : ℕ) (some : 0 < S) (l₀ : List Arena) (stamps : List ℕ) (k : �
 
   called : (l : List Arena) (i j n ns : ℕ) (settings : Settings) (c : Call) → SoundWorld S (worldOf l stamps (stateOf k mark (Purging i j (withCount first n))))
       → Asked l₀ stamps k (first .force) (first .now) (first .delay) l i j
-      → Fares (step S (worldOf l stamps (stateOf k mark (Purging i j (withCount first n)))) ns settings c .world)
-  unfolding step
+      → Fares (rules S (worldOf l stamps (stateOf k mark (Purging i j (withCount first n)))) ns settings c .world)
+  unfolding rules
   called l i j n ns settings c t q =
       by-cond (λ (o : Outcome). Fares (o .world)) (sound S (worldOf l stamps (stateOf k mark (Purging i j (withCount first n)))) (settings .page)) _ _
       (λ e. go (during S l stamps k mark i j (withCount first n) ns settings c) (step-on-kept S some l stamps k mark (t .table) (t .stamps) (Purging i j (withCount first n)) ns settings c (t .question)))
@@ -305,7 +305,7 @@ module _ (S : ℕ) (some : 0 < S) (l₀ : List Arena) (stamps : List ℕ) (k : �
   more-fares r c (finished l p e) = by-cond (λ (x : Run). Fares (x .last .world)) (isOpen r) _ _ (λ f. absurd (true≢false (sym f ∙ ap (λ (w : World). isPurging (w .state .question)) e))) (λ f. finished l p e)
   more-fares r c (going l i j n t q e) =
       by-cond (λ (x : Run). Fares (x .last .world)) (isOpen r) _ _
-      (λ f. subst (λ (w : World). Fares (step S w (c .ns) (c .settings) (c .call) .world)) (sym e) (called l i j n (c .ns) (c .settings) (c .call) t q)) (λ f. going l i j n t q e)
+      (λ f. subst (λ (w : World). Fares (rules S w (c .ns) (c .settings) (c .call) .world)) (sym e) (called l i j n (c .ns) (c .settings) (c .call) t q)) (λ f. going l i j n t q e)
 
   goes-fares : (cs : List Made) (r : Run) → Fares (r .last .world) → Fares (goOn S r cs .last .world)
   unfolding goOn
@@ -344,7 +344,7 @@ stamp-small stamps i h j = take-small 1024 (drop (1024 * i) stamps) (λ x. subst
 -- sweep has ended
 pub sweep-leaves : (S : ℕ) → 0 < S → (w : World) (ns : ℕ) (settings : Settings) (force : Bool) (calls : List Made) → Words w → ((j : ℕ) → getD (w .stamps) j 0 < 2 ^ 32)
     → sound S w (settings .page) ≡ true → w .state .question ≡ Idle → DeadlinesLeft S w ns settings force calls
-unfolding step
+unfolding rules
 sweep-leaves S some w ns settings force calls words small passed idle = go _ (goes-fares S some l (w .stamps) k (w .state .mark) first clocked calls _ begins)
   where
     l : List Arena
@@ -359,12 +359,12 @@ sweep-leaves S some w ns settings force calls words small passed idle = go _ (go
     clocked : (i : ℕ) → Clocked (stampsOf (w .stamps) i) (nowMs ns) (delayMs (settings .delay))
     clocked i = (clock-small ns, delay-small (settings .delay), stamp-small (w .stamps) i small)
 
-    begins : Fares S some l (w .stamps) k (w .state .mark) first clocked (step S w ns settings (sweep force) .world)
+    begins : Fares S some l (w .stamps) k (w .state .mark) first clocked (rules S w ns settings (act (sweep force)) .world)
     begins =
         let f = sound-facts S w (settings .page) words passed .0 in
         subst (λ (o : Outcome). Fares S some l (w .stamps) k (w .state .mark) first clocked (o .world))
-        (sym (when (sound S w (settings .page)) _ _ passed ∙ ap (λ (q : Question). stepOn S l (w .stamps) k (w .state .mark) q ns settings (sweep force)) idle))
-        (fares S some l (w .stamps) k (w .state .mark) first clocked 0 _ (step-on-kept S some l (w .stamps) k (w .state .mark) (f .table) (f .stamps) Idle ns settings (sweep force) tt)
+        (sym (when (sound S w (settings .page)) _ _ passed ∙ ap (λ (q : Question). stepOn S l (w .stamps) k (w .state .mark) q ns settings (act (sweep force))) idle))
+        (fares S some l (w .stamps) k (w .state .mark) first clocked 0 _ (step-on-kept S some l (w .stamps) k (w .state .mark) (f .table) (f .stamps) Idle ns settings (act (sweep force)) tt)
         (sweep-goes S l (w .stamps) k (w .state .mark) first clocked k 0 l (omega arith) (omega (arith, f .table .long, f .table .few)) (λ i u. (λ v. absurd (omega arith), λ v. refl))))
 
     go : (v : World) → Fares S some l (w .stamps) k (w .state .mark) first clocked v → isPurging (v .state .question) ≡ false → (i : ℕ) → i < k

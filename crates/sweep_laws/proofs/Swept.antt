@@ -22,11 +22,11 @@ use Rattle.layer.specs.declared.Question.the-variants.{Idle, Purging}
 use Rattle.layer.specs.declared.Kind.the-variants.{ForCommit, ForPurge, ForMemory, ForGiveBack, ForNone}
 use Rattle.layer.specs.declared.Answer.{Answer}
 use Rattle.layer.specs.declared.Answer.the-variants.{Refused, Swept, Owns}
-use Rattle.layer.specs.World.{World, Outcome, stateOf, worldOf, outcome, after}
+use Rattle.layer.specs.World.{World, Outcome, stateOf, worldOf, outcome}
 use Rattle.layer.specs.Table.{at, isAt, findArena, sound}
 use Rattle.layer.specs.Sweeping.{sweepFrom}
 use Rattle.layer.specs.Answering.{isFor, counted, answerPurge, answerOf}
-use Rattle.layer.specs.Step.{Call, reserve, manage, adopt, claim, release, sweep, answer, owns, area, areaOf, sweepOf, stepOn, step, act, query, rules}
+use Rattle.layer.specs.Step.{Call, reserve, manage, adopt, claim, release, sweep, answer, owns, area, areaOf, sweepOf, stepOn, act, query, rules}
 use Rattle.layer.proofs.Kept.{SoundWorld}
 use Rattle.layer.proofs.Stepped.{Words, sound-facts, step-on-kept}
 use Rattle.sweep_laws.specs.Run.{pendingIn, pendingBits, asksPurge, isRefused, isYes, saysYes, isPurging, Made, Run, isOpen, more, goOn, withCount, runSweep}

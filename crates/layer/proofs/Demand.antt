@@ -261,6 +261,8 @@ along p (next h m) (inr w) l k =
 
 pub by-the-book : ByTheBook step
 by-the-book p h w l k =
-    let r = along p h w l k in
-    (owedAt S p (place h w .id) (place h w .base) (place h w .chunks) (ruled h .world .records) (openAt (ruled h)), sym (r .says),
-    waits-owed (place h w) (ruled h .world .records) (r .inv .stays .exclusive) (openAt (ruled h)) (ruled h .asked) (good-ruled h .asked))
+    let r = along p h w l k in (
+      owedAt S p (place h w .id) (place h w .base) (place h w .chunks) (ruled h .world .records) (openAt (ruled h)),
+      sym (r .says),
+      waits-owed (place h w) (ruled h .world .records) (r .inv .stays .exclusive) (openAt (ruled h)) (ruled h .asked) (good-ruled h .asked),
+    )

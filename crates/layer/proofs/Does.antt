@@ -27,7 +27,7 @@ use Rattle.clock.specs.Clock.{nowMs, delayMs}
 use Rattle.options.specs.Options.{arenaAllowed}
 use Rattle.arena.specs.declared.Arena.{Arena}
 use Rattle.arena.specs.declared.Commitment.{Commitment}
-use Rattle.arena.specs.Registering.{grownArena}
+use Rattle.arena.specs.Registering.{newArena, reservedArena, managedArena, adoptedArena, grownArena}
 use Rattle.arena.specs.Claiming.{findRun, runFresh, runCommitted, takeRun, giveBackRun, dirtyRun}
 use Rattle.arena.specs.Releasing.{releaseRun}
 use Rattle.arena.specs.Sweeping.{sweepDue, disarm, toAsk, young, nextAsked, borrowChunk, returnChunk, rearm}
@@ -51,21 +51,21 @@ use Rattle.layer.specs.declared.Answer.the-variants.{Refused, Asks, Regi
 use Rattle.layer.specs.declared.Reply.{Reply}
 use Rattle.layer.specs.World.{Outcome, stateOf, reply, after, turnDown}
 use Rattle.layer.specs.Table.{at, isAt}
-use Rattle.layer.specs.Registering.{askMemory, withRecord, withStamps, register, grows as growsBy}
+use Rattle.layer.specs.Registering.{askMemory, badCount, withRecord, withStamps, register, grows as growsBy}
 use Rattle.layer.specs.Claiming.{eligible, serves, missReply, grantFound, searchOf, claimOf}
 use Rattle.layer.specs.Releasing.{releaseIn, releaseOf}
 use Rattle.layer.specs.Sweeping.{purgeReply, sweptReply, visitAt, visit, sweepFrom}
 use Rattle.layer.specs.Answering.{isFor, counted, failReply, resume, answerCommit, answerPurge, answerOf}
 use Rattle.layer.specs.Step.{Act, reserve, manage, adopt, claim, release, sweep, Call, act, query, answer, actOn, stepOn}
 use Rattle.layer.specs.Ten.{Eligible}
-use Rattle.layer.specs.Book.{Book, lowest, Fed, claims, releases, Say, refused, released, turn, unheld, hold, unhold, claimed, enter}
-use Rattle.layer.specs.History.{isIdle, said, inRange, isAnswer}
+use Rattle.layer.specs.Book.{Book, lowest, Fed, claims, releases, Say, refused, released, turn, opened, unheld, hold, unhold, claimed, enter}
+use Rattle.layer.specs.History.{isIdle, said, Place, inRange, isAnswer}
 use Rattle.layer.proofs.Tools.{at-same, at-other}
 use Rattle.layer.proofs.Facts.{SoundTable, SoundQuestion}
-use Rattle.layer.proofs.Rules.{served-named, served-eligible, served-found, grows-facts, grows-owned, others-left, Again, again}
-use Rattle.layer.proofs.Registered.{meets-false}
+use Rattle.layer.proofs.Rules.{served-named, served-eligible, served-found, grows-facts, grows-owned, others-left, Again, again, count-facts}
+use Rattle.layer.proofs.Registered.{meets-false, reserved-rows, managed-rows, adopted-rows}
 use Rattle.layer.proofs.Shown.{View, calm, committing, purging, viewOf, waitsIn, owedIn, Role, feeding, closing, aside, ends, role, bookIn, grow, Same}
-use Rattle.layer.proofs.View.{view-commit, view-purge, view-commit-other, view-purge-other, book-granted, book-taken, book-committed, freed-held, book-freed, book-released, say-fresh, owed-taken, book-disarmed, book-rearmed, book-borrowed, book-returned, book-grown, unchanged, take-same, dirty-same, finish-same, give-back-same, release-same, disarm-same, borrow-same, return-same, rearm-same, grown-same}
+use Rattle.layer.proofs.View.{view-commit, view-purge, view-commit-other, view-purge-other, book-granted, book-taken, book-committed, freed-held, book-freed, book-released, say-fresh, owed-taken, book-disarmed, book-rearmed, book-borrowed, book-returned, book-reserved, book-managed, book-adopted, book-grown, unchanged, take-same, dirty-same, finish-same, give-back-same, release-same, disarm-same, borrow-same, return-same, rearm-same, grown-same}
 use Rattle.layer.proofs.Cases.{granting, asking, grant-cases, search-cases, miss-cases, claim-cases, release-in-cases, release-cases, reserve-cases, register-cases, manage-cases, adopt-cases, memory-cases}
 
 -- ---- what a call does to one arena's book
@@ -418,17 +418,75 @@ only-one S l k i j x t u v e f = go (ℕ-discrete i j)
     go (yes d) = d
     go (no d) = ⊎-elim (λ (m : i < j). absurd (apart i j m v e f)) (λ (m : j ≤ i). absurd (apart j i (omega (arith, d)) u f e)) (lt-or-le i j)
 
+-- ---- what comes of it, where l is the table that the arena is seen in before the call
+
+module _ (S id : ℕ) (l : List Arena) (small : at l id .chunks ≤ 1024) where
+  abbrev shown : Question → Book
+  shown q = bookIn S (viewOf id q) (at l id)
+
+  passed : (q : Question) (call : Call) (o : Outcome) → waitsIn (viewOf id q) ≡ [] → Is S id l q call o aside → Leaves S id (at l id) small (shown q) o → Does S id l q call o
+  passed q call o e is h = record {
+    what = still;
+    does-it = h .book;
+    because = passes is (none-owed S (viewOf id (o .world .state .question)) (at (o .world .records) id) (h .none) ∙ sym (none-owed S (viewOf id q) (at l id) e)) (inl (h .none));
+    low = h .low;
+    same = h .same;
+  }
+
+  taken : (q : Question) (call : Call) (o : Outcome) (m s : ℕ) → Claims S id l q call o m → lowestRun (unheld (shown q)) (shown q .chunks) m ≡ At s
+      → Takes S id (at l id) small (shown q) m s o → Does S id l q call o
+  taken q call o m s by e h = record {
+    what = holds s m;
+    does-it = h .book;
+    because = record { by = by; lowest = e; given = h .given; says = h .says };
+    low = h .low;
+    same = h .same;
+  }
+
+  -- memory came, and a is its record: who waits goes on in the new table, and a claim "searches once more"
+  module _ (old : List Arena) (stamps : List ℕ) (k : ℕ) (mark : Bool) (a : Arena) (h : Stands S id (at l id) small (shown Idle) (withRecord old k a) (suc k)) where
+    resumes : (chunks bytes : ℕ) (commit exclusive : Bool) (waiting : Waiting) (base : ℕ)
+        → Does S id l (Reserving chunks bytes commit exclusive waiting) (answer ForMemory true base) (resume S old stamps k mark a waiting)
+    resumes chunks bytes commit exclusive Reserve base =
+        passed _ _ _ refl (λ managed. refl) (rests S id (at l id) small (shown Idle) (withRecord old k a) (suc k) Idle _ _ mark refl h)
+    resumes chunks bytes commit exclusive (Claim m commits) base =
+        subst P (sym (g .is)) (go _ (seeks S id (at l id) small (shown Idle) (withRecord old k a) (withStamps stamps k) (suc k) mark h (g .id) m commits _))
+      where
+        q : Question
+        q = Reserving chunks bytes commit exclusive (Claim m commits)
+
+        P : Outcome → Type 0
+        P = Does S id l q (answer ForMemory true base)
+
+        g : Again S old stamps k mark a m commits
+        g = again S old stamps k mark a m commits
+
+        over : (o : Outcome) → Leaves S id (at l id) small (shown Idle) o → P o
+        over o x = passed q (answer ForMemory true base) o refl (λ managed. refl) x
+
+        go : (o : Outcome)
+            → Seeks S id (at l id) small (shown Idle) (withRecord old k a) (withStamps stamps k) (suc k) mark h (g .id) m (turnDown NoRun (stateOf (suc k) mark Idle)) o → P o
+        go o (none f e) = subst P (sym e) (over _ (rests S id (at l id) small (shown Idle) (withRecord old k a) (suc k) Idle _ _ mark refl h))
+        go o (other j f d x) = over o x
+        go o (this s f e x) =
+            taken q (answer ForMemory true base) o m s
+            (by-memory chunks bytes base commit exclusive commits refl refl (sym (h .ready .same .exclusive) ∙ never (at (withRecord old k a) id .exclusive) (λ y. g .passes-over id id y f refl)))
+            e x
+
 -- ---- one call: arena id is below the count of a sound table
 
 module _ (S id : ℕ) (l : List Arena) (stamps : List ℕ) (k : ℕ) (mark : Bool) (t : SoundTable S l k) (low : id < k) where
   small : at l id .chunks ≤ 1024
   small = t .each id low .range .few
 
-  abbrev shown : Question → Book
-  shown q = bookIn S (viewOf id q) (at l id)
+  abbrev before : Question → Book
+  before q = shown S id l small q
+
+  abbrev Over : Question → Outcome → Type 0
+  Over q = Leaves S id (at l id) small (before q)
 
   -- the table before the call, nothing open about the arena
-  stands : (q : Question) → viewOf id q ≡ calm → Stands S id (at l id) small (shown q) l k
+  stands : (q : Question) → viewOf id q ≡ calm → Stands S id (at l id) small (before q) l k
   stands q e = record {
     low = low;
     few = t .few;
@@ -444,28 +502,17 @@ module _ (S id : ℕ) (l : List Arena) (stamps : List ℕ) (k : ℕ) (mark : Boo
       → Does S id l q call (after (reply r (stateOf k m q)) l stamps)
   same-table q call r m why = record { what = still; does-it = refl; because = why; low = low; same = unchanged (at l id) }
 
-  passed : (q : Question) (call : Call) (o : Outcome) → waitsIn (viewOf id q) ≡ [] → Is S id l q call o aside → Leaves S id (at l id) small (shown q) o → Does S id l q call o
-  passed q call o e is h = record {
-    what = still;
-    does-it = h .book;
-    because = passes is (none-owed S (viewOf id (o .world .state .question)) (at (o .world .records) id) (h .none) ∙ sym (none-owed S (viewOf id q) (at l id) e)) (inl (h .none));
-    low = h .low;
-    same = h .same;
-  }
+  -- it is none of the arena's business
+  over : (q : Question) (call : Call) (o : Outcome) → waitsIn (viewOf id q) ≡ [] → Is S id l q call o aside → Over q o → Does S id l q call o
+  over q call o e is h = passed S id l small q call o e is h
+
+  -- it leaves the table and no question
+  quiet : (r : Answer) → Over Idle (after (reply r (stateOf k mark Idle)) l stamps)
+  quiet r = rests S id (at l id) small (before Idle) l k Idle r stamps mark refl (stands Idle refl)
 
   turned : (call : Call) (f : Fed) (why : Refusal) → Is S id l Idle call (after (turnDown why (stateOf k mark Idle)) l stamps) (feeding (f ∷ []))
-      → enter (shown Idle) f ≡ turn (refused (number why)) (shown Idle) → Does S id l Idle call (after (turnDown why (stateOf k mark Idle)) l stamps)
+      → enter (before Idle) f ≡ turn (refused (number why)) (before Idle) → Does S id l Idle call (after (turnDown why (stateOf k mark Idle)) l stamps)
   turned call f why is e = same-table Idle call (Refused why) mark (turned-down f why is refl e refl refl)
-
-  taken : (q : Question) (call : Call) (o : Outcome) (m s : ℕ) → Claims S id l q call o m → lowestRun (unheld (shown q)) (shown q .chunks) m ≡ At s
-      → Takes S id (at l id) small (shown q) m s o → Does S id l q call o
-  taken q call o m s by e h = record {
-    what = holds s m;
-    does-it = h .book;
-    because = record { by = by; lowest = e; given = h .given; says = h .says };
-    low = h .low;
-    same = h .same;
-  }
 
   -- ---- claims
 
@@ -475,7 +522,7 @@ module _ (S id : ℕ) (l : List Arena) (stamps : List ℕ) (k : ℕ) (mark : Boo
   own-claim m commits settings =
       claim-cases S l stamps k mark P (pos id) m commits settings (λ e. turned call (claims lowest m) Zero names (when (eqb m 0) _ _ e))
       (λ e f. absurd (true≢false (sym (allowed (settings .off)) ∙ f)))
-      (λ e f. go e _ (seeks S id (at l id) small (shown Idle) l stamps k mark (stands Idle refl) (pos id) m commits _))
+      (λ e f. go e _ (seeks S id (at l id) small (before Idle) l stamps k mark (stands Idle refl) (pos id) m commits _))
     where
       call : Call
       call = act (claim (pos id) m commits)
@@ -494,36 +541,36 @@ module _ (S id : ℕ) (l : List Arena) (stamps : List ℕ) (k : ℕ) (mark : Boo
       missed (At s) e = absurd (true≢false e)
       missed Nothing e = refl
 
-      none-found : serves (pos id) m l id ≡ false → lowestRun (unheld (shown Idle)) (shown Idle .chunks) m ≡ Nothing
+      none-found : serves (pos id) m l id ≡ false → lowestRun (unheld (before Idle)) (before Idle .chunks) m ≡ Nothing
       none-found f = unfold serves eligible findRun in missed (findRun (at l id) m) (sym (ap (λ (x : Bool). x && isAt (findRun (at l id) m)) (eq-eqb id id refl)) ∙ f)
 
-      go : eqb m 0 ≡ false → (o : Outcome) → Seeks S id (at l id) small (shown Idle) l stamps k mark (stands Idle refl) (pos id) m (missReply S k mark (pos id) m commits settings) o → P o
+      go : eqb m 0 ≡ false → (o : Outcome) → Seeks S id (at l id) small (before Idle) l stamps k mark (stands Idle refl) (pos id) m (missReply S k mark (pos id) m commits settings) o → P o
       go e o (none f g) =
-          subst P (sym g) (unfold missReply in turned call (claims lowest m) NoRun names (unless (eqb m 0) _ _ e ∙ ap (claimed (shown Idle) m) (none-found f)))
+          subst P (sym g) (unfold missReply in turned call (claims lowest m) NoRun names (unless (eqb m 0) _ _ e ∙ ap (claimed (before Idle) m) (none-found f)))
       go e o (other j f d h) = absurd (d (served-named id m l j f))
-      go e o (this s f g h) = taken Idle call o m s (by-claim (pos id) commits refl refl (eqb-false m 0 e) (served-eligible (pos id) m l id f)) g h
+      go e o (this s f g h) = taken S id l small Idle call o m s (by-claim (pos id) commits refl refl (eqb-false m 0 e) (served-eligible (pos id) m l id f)) g h
 
   -- one that does not
   other-claim : (at-id : ℤ) (m : ℕ) (commits : Bool) (settings : Settings)
       → ((managed : Bool) → role (record { id = id; size = S; base = at l id .base; chunks = at l id .chunks; managed = managed }) Idle (act (claim at-id m commits)) ≡ aside)
       → Does S id l Idle (act (claim at-id m commits)) (claimOf S l stamps k mark at-id m commits settings)
   other-claim at-id m commits settings is =
-      claim-cases S l stamps k mark P at-id m commits settings (λ e. over _ (rests S id _ small _ l k Idle _ stamps mark refl h)) (λ e f. over _ (rests S id _ small _ l k Idle _ stamps mark refl h))
-      (λ e f. go e _ (seeks S id (at l id) small (shown Idle) l stamps k mark h at-id m commits _))
+      claim-cases S l stamps k mark P at-id m commits settings (λ e. past _ (quiet _)) (λ e f. past _ (quiet _))
+      (λ e f. go e _ (seeks S id (at l id) small (before Idle) l stamps k mark h at-id m commits _))
     where
       P : Outcome → Type 0
       P = Does S id l Idle (act (claim at-id m commits))
 
-      h : Stands S id (at l id) small (shown Idle) l k
+      h : Stands S id (at l id) small (before Idle) l k
       h = stands Idle refl
 
-      over : (o : Outcome) → Leaves S id (at l id) small (shown Idle) o → P o
-      over o x = passed Idle (act (claim at-id m commits)) o refl is x
+      past : (o : Outcome) → Over Idle o → P o
+      past o x = over Idle (act (claim at-id m commits)) o refl is x
 
-      go : eqb m 0 ≡ false → (o : Outcome) → Seeks S id (at l id) small (shown Idle) l stamps k mark h at-id m (missReply S k mark at-id m commits settings) o → P o
-      go e o (none f g) = subst P (sym g) (over _ (misses S id (at l id) small (shown Idle) l stamps k mark h at-id m commits settings))
-      go e o (other j f d x) = over o x
-      go e o (this s f g x) = taken Idle (act (claim at-id m commits)) o m s (by-claim at-id commits refl refl (eqb-false m 0 e) (served-eligible at-id m l id f)) g x
+      go : eqb m 0 ≡ false → (o : Outcome) → Seeks S id (at l id) small (before Idle) l stamps k mark h at-id m (missReply S k mark at-id m commits settings) o → P o
+      go e o (none f g) = subst P (sym g) (past _ (misses S id (at l id) small (before Idle) l stamps k mark h at-id m commits settings))
+      go e o (other j f d x) = past o x
+      go e o (this s f g x) = taken S id l small Idle (act (claim at-id m commits)) o m s (by-claim at-id commits refl refl (eqb-false m 0 e) (served-eligible at-id m l id f)) g x
 
   -- ---- releases
 
@@ -605,31 +652,27 @@ module _ (S id : ℕ) (l : List Arena) (stamps : List ℕ) (k : ℕ) (mark : Boo
 
   acts : (ns : ℕ) (settings : Settings) (a : Act) → Does S id l Idle (act a) (actOn S l stamps k mark Idle ns settings a)
   acts ns settings (reserve size commit large exclusive) =
-      passed Idle _ _ refl (λ managed. refl) (reserve-cases S l stamps k mark (Leaves S id (at l id) small (shown Idle)) size commit large exclusive (settings .page)
-      (rests S id _ small _ l k Idle _ stamps mark refl (stands Idle refl)) (asks-memory S id (at l id) small (shown Idle) l stamps k mark (stands Idle refl) size (settings .page) commit large exclusive Reserve))
+      over Idle _ _ refl (λ managed. refl) (reserve-cases S l stamps k mark (Over Idle) size commit large exclusive (settings .page) (quiet _)
+      (asks-memory S id (at l id) small (before Idle) l stamps k mark (stands Idle refl) size (settings .page) commit large exclusive Reserve))
   acts ns settings (manage start size exclusive node mapped reserved) =
-      passed Idle _ _ refl (λ managed. refl) (manage-cases S l stamps k mark (Leaves S id (at l id) small (shown Idle)) start size exclusive node mapped reserved
-      (rests S id _ small _ l k Idle _ stamps mark refl (stands Idle refl)) (rests S id _ small _ l k Idle _ stamps mark refl (stands Idle refl)) (rests S id _ small _ l k Idle _ stamps mark refl (stands Idle refl))
-      (λ g. registers-one S id (at l id) small (shown Idle) l stamps k mark (stands Idle refl) _ _))
+      over Idle _ _ refl (λ managed. refl) (manage-cases S l stamps k mark (Over Idle) start size exclusive node mapped reserved (quiet _) (quiet _) (quiet _)
+      (λ g. registers-one S id (at l id) small (before Idle) l stamps k mark (stands Idle refl) _ _))
   acts ns settings (adopt address size) =
-      adopt-cases S l stamps k mark P address size (over _ (refuses _)) (over _ (refuses _)) (over _ (refuses _)) (λ i w u e. go i (w .2) e (ℕ-discrete i id))
-      (λ w. over _ (registers-one S id (at l id) small (shown Idle) l stamps k mark (stands Idle refl) _ _))
+      adopt-cases S l stamps k mark P address size (past _ (quiet _)) (past _ (quiet _)) (past _ (quiet _)) (λ i w u e. go i (w .2) e (ℕ-discrete i id))
+      (λ w. past _ (registers-one S id (at l id) small (before Idle) l stamps k mark (stands Idle refl) _ _))
     where
       P : Outcome → Type 0
       P = Does S id l Idle (act (adopt address size))
 
-      over : (o : Outcome) → Leaves S id (at l id) small (shown Idle) o → P o
-      over o x = passed Idle (act (adopt address size)) o refl (λ managed. refl) x
-
-      refuses : (r : Answer) → Leaves S id (at l id) small (shown Idle) (after (reply r (stateOf k mark Idle)) l stamps)
-      refuses r = rests S id (at l id) small (shown Idle) l k Idle r stamps mark refl (stands Idle refl)
+      past : (o : Outcome) → Over Idle o → P o
+      past o x = over Idle (act (adopt address size)) o refl (λ managed. refl) x
 
       go : (i : ℕ) → size % S ≡ 0 → growsBy S (at l i) address (size / S) ≡ true → Dec (i ≡ id)
           → P (after (reply (Registered i) (stateOf k mark Idle)) (set l i (grownArena (at l i) (size / S))) stamps)
       go i e g (yes d) =
           subst (λ (x : ℕ). growsBy S (at l x) address (size / S) ≡ true → P (after (reply (Registered x) (stateOf k mark Idle)) (set l x (grownArena (at l x) (size / S))) stamps)) (sym d)
           (grown address size e) g
-      go i e g (no d) = over _ (rests S id (at l id) small (shown Idle) _ k Idle _ stamps mark refl (elsewhere S id (at l id) small (shown Idle) l k i _ d (stands Idle refl)))
+      go i e g (no d) = past _ (rests S id (at l id) small (before Idle) _ k Idle _ stamps mark refl (elsewhere S id (at l id) small (before Idle) l k i _ d (stands Idle refl)))
   acts ns settings (claim (pos i) m commits) = go (ℕ-discrete i id)
     where
       go : Dec (i ≡ id) → Does S id l Idle (act (claim (pos i) m commits)) (claimOf S l stamps k mark (pos i) m commits settings)
@@ -641,9 +684,9 @@ module _ (S id : ℕ) (l : List Arena) (stamps : List ℕ) (k : ℕ) (mark : Boo
       go : (b : Bool) → isInside S (at l id) x ≡ b → Does S id l Idle (act (release x m tell pending)) (releaseOf S l stamps k mark x m tell pending (nowMs ns) (delayMs (settings .delay)))
       go true e = own-release x m tell pending _ _ e
       go false e =
-          passed Idle _ _ refl (release-role x m tell pending false e) (releases-elsewhere S id (at l id) small (shown Idle) l stamps k mark (stands Idle refl) x m tell pending _ _ e)
+          over Idle _ _ refl (release-role x m tell pending false e) (releases-elsewhere S id (at l id) small (before Idle) l stamps k mark (stands Idle refl) x m tell pending _ _ e)
   acts ns settings (sweep force) =
-      passed Idle _ _ refl (λ managed. refl) (sweeps S id (at l id) small (shown Idle) stamps k mark _ low (t .few) k 0 l (t .long) (stands Idle refl .ready))
+      over Idle _ _ refl (λ managed. refl) (sweeps S id (at l id) small (before Idle) stamps k mark _ low (t .few) k 0 l (t .long) (stands Idle refl .ready))
 
   -- ---- answers
 
@@ -676,21 +719,21 @@ module _ (S id : ℕ) (l : List Arena) (stamps : List ℕ) (k : ℕ) (mark : Boo
   -- to another arena's
   other-commit : (i s m : ℕ) (accepted : Bool) (base : ℕ) → (i ≡ id → ⊥) → Does S id l (Committing i s m) (answer ForCommit accepted base) (answerCommit S l stamps k mark i s m accepted)
   other-commit i s m accepted base d =
-      passed (Committing i s m) _ _ (ap waitsIn (view-commit-other id i s m d)) (closes i s m false (ne-eqb i id d) accepted base) (go accepted)
+      over (Committing i s m) _ _ (ap waitsIn (view-commit-other id i s m d)) (closes i s m false (ne-eqb i id d) accepted base) (go accepted)
     where
-      left-alone : (accepted : Bool) → Stands S id (at l id) small (shown (Committing i s m)) (answerCommit S l stamps k mark i s m accepted .world .records) k
+      left-alone : (accepted : Bool) → Stands S id (at l id) small (before (Committing i s m)) (answerCommit S l stamps k mark i s m accepted .world .records) k
       left-alone accepted =
-          unmoved S id (at l id) small (shown (Committing i s m)) l _ k (length-set l i _) (others-left S l stamps k mark i s m accepted id (λ c. d (sym c)))
+          unmoved S id (at l id) small (before (Committing i s m)) l _ k (length-set l i _) (others-left S l stamps k mark i s m accepted id (λ c. d (sym c)))
           (stands (Committing i s m) (view-commit-other id i s m d))
 
-      go : (accepted : Bool) → Leaves S id (at l id) small (shown (Committing i s m)) (answerCommit S l stamps k mark i s m accepted)
+      go : (accepted : Bool) → Over (Committing i s m) (answerCommit S l stamps k mark i s m accepted)
       go true = rests S id (at l id) small _ _ k Idle _ stamps mark refl (left-alone true)
       go false = rests S id (at l id) small _ _ k Idle _ stamps mark refl (left-alone false)
 
   -- the chunk comes back, and the sweep goes on
-  purge-answer : (i j : ℕ) (w : Sweep) (accepted : Bool) → SoundQuestion l k (Purging i j w) → Leaves S id (at l id) small (shown (Purging i j w)) (answerPurge S l stamps k mark i j w accepted)
+  purge-answer : (i j : ℕ) (w : Sweep) (accepted : Bool) → SoundQuestion l k (Purging i j w) → Over (Purging i j w) (answerPurge S l stamps k mark i j w accepted)
   purge-answer i j w accepted h =
-      visits S id (at l id) small (shown (Purging i j w)) stamps k mark (counted w accepted) low (t .few) l i back (j + 1) _ (t .long)
+      visits S id (at l id) small (before (Purging i j w)) stamps k mark (counted w accepted) low (t .few) l i back (j + 1) _ (t .long)
       (λ e. record {
         rows = return-rows (at l i) j accepted (w .decommit) (t .rows i (h .0));
         same = subst (λ (x : ℕ). Same (at l x) (at l x .chunks) back) e (return-same _ _ _ (unchanged (at l i)) j accepted (w .decommit));
@@ -698,41 +741,10 @@ module _ (S id : ℕ) (l : List Arena) (stamps : List ℕ) (k : ℕ) (mark : Boo
             ∙ ap₂ (λ (x : View) (y : ℕ). bookIn S x (at l y)) (sym (ap (λ (x : ℕ). viewOf id (Purging x j w)) e ∙ view-purge id j w)) e;
       })
       (λ d. stands (Purging i j w) (view-purge-other id i j w d) .ready)
-      (λ m u x. sweeps S id (at l id) small (shown (Purging i j w)) stamps k mark (counted w accepted) low (t .few) _ _ m u x)
+      (λ m u x. sweeps S id (at l id) small (before (Purging i j w)) stamps k mark (counted w accepted) low (t .few) _ _ m u x)
     where
       back : Arena
       back = returnChunk (at l i) j accepted (w .decommit)
-
-  -- memory came: the claim that waited searches once more, in the new table
-  resumes : (chunks bytes : ℕ) (commit exclusive : Bool) (waiting : Waiting) (base : ℕ) (a : Arena) → k < 32
-      → Does S id l (Reserving chunks bytes commit exclusive waiting) (answer ForMemory true base) (resume S l stamps k mark a waiting)
-  resumes chunks bytes commit exclusive Reserve base a u =
-      passed _ _ _ refl (λ managed. refl) (rests S id (at l id) small _ (withRecord l k a) (suc k) Idle _ _ mark refl (added S id (at l id) small _ l k a u (stands Idle refl)))
-  resumes chunks bytes commit exclusive (Claim m commits) base a u =
-      subst P (sym (g .is)) (go _ (seeks S id (at l id) small (shown Idle) (withRecord l k a) (withStamps stamps k) (suc k) mark h (g .id) m commits _))
-    where
-      q : Question
-      q = Reserving chunks bytes commit exclusive (Claim m commits)
-
-      P : Outcome → Type 0
-      P = Does S id l q (answer ForMemory true base)
-
-      g : Again S l stamps k mark a m commits
-      g = again S l stamps k mark a m commits
-
-      h : Stands S id (at l id) small (shown Idle) (withRecord l k a) (suc k)
-      h = added S id (at l id) small (shown Idle) l k a u (stands Idle refl)
-
-      over : (o : Outcome) → Leaves S id (at l id) small (shown Idle) o → P o
-      over o x = passed q (answer ForMemory true base) o refl (λ managed. refl) x
-
-      go : (o : Outcome)
-          → Seeks S id (at l id) small (shown Idle) (withRecord l k a) (withStamps stamps k) (suc k) mark h (g .id) m (turnDown NoRun (stateOf (suc k) mark Idle)) o → P o
-      go o (none f e) = subst P (sym e) (over _ (rests S id (at l id) small (shown Idle) (withRecord l k a) (suc k) Idle _ _ mark refl h))
-      go o (other j f d x) = over o x
-      go o (this s f e x) =
-          taken q (answer ForMemory true base) o m s
-          (by-memory chunks bytes base commit exclusive commits refl refl (sym (h .ready .same .exclusive) ∙ never (at (withRecord l k a) id .exclusive) (λ y. g .passes-over id id y f refl))) e x
 
   answers : (q : Question) (kind : Kind) (accepted : Bool) (base : ℕ) → SoundQuestion l k q → Does S id l q (answer kind accepted base) (answerOf S l stamps k mark q kind accepted base)
   unfolding answerOf isFor
@@ -752,25 +764,26 @@ module _ (S id : ℕ) (l : List Arena) (stamps : List ℕ) (k : ℕ) (mark : Boo
   answers (Committing i s m) ForNone accepted base h = same-table (Committing i s m) _ _ mark (passes (λ managed. refl) refl (inr refl))
   answers (Purging i j w) kind accepted base h =
       by-cond (Does S id l (Purging i j w) (answer kind accepted base)) (isFor (Purging i j w) kind) _ _
-      (λ e. passed (Purging i j w) _ _ (quiet (eqb i id)) (λ managed. refl) (purge-answer i j w accepted h))
+      (λ e. over (Purging i j w) _ _ (none-waits (eqb i id)) (λ managed. refl) (purge-answer i j w accepted h))
       (λ e. same-table (Purging i j w) _ _ mark (passes (λ managed. refl) refl (inr refl)))
     where
-      quiet : (b : Bool) → waitsIn (cond b (purging j) calm) ≡ []
-      quiet true = refl
-      quiet false = refl
+      none-waits : (b : Bool) → waitsIn (cond b (purging j) calm) ≡ []
+      none-waits true = refl
+      none-waits false = refl
   answers (Reserving chunks bytes commit exclusive waiting) ForMemory false base h =
-      passed (Reserving chunks bytes commit exclusive waiting) _ _ refl (λ managed. refl) (fails S id (at l id) small (shown Idle) l stamps k mark (stands Idle refl) _ waiting)
+      over (Reserving chunks bytes commit exclusive waiting) _ _ refl (λ managed. refl) (fails S id (at l id) small (before Idle) l stamps k mark (stands Idle refl) _ waiting)
   answers (Reserving chunks bytes commit exclusive waiting) ForMemory true base h =
       let q : Question = Reserving chunks bytes commit exclusive waiting in
       memory-cases S l stamps k mark (Does S id l q (answer ForMemory true base)) chunks bytes commit exclusive waiting base (same-table q _ _ mark (passes (λ managed. refl) refl (inr refl)))
-      (λ cause. passed q _ _ refl (λ managed. refl) (rests S id (at l id) small _ l k _ _ stamps mark refl (stands Idle refl))) (λ d e f u. resumes chunks bytes commit exclusive waiting base _ u)
+      (λ cause. over q _ _ refl (λ managed. refl) (rests S id (at l id) small _ l k _ _ stamps mark refl (stands Idle refl)))
+      (λ d e f u. resumes S id l small l stamps k mark _ (added S id (at l id) small (before Idle) l k _ u (stands Idle refl)) chunks bytes commit exclusive waiting base)
   answers (Reserving chunks bytes commit exclusive waiting) ForCommit accepted base h = same-table (Reserving chunks bytes commit exclusive waiting) _ _ mark (passes (λ managed. refl) refl (inr refl))
   answers (Reserving chunks bytes commit exclusive waiting) ForPurge accepted base h = same-table (Reserving chunks bytes commit exclusive waiting) _ _ mark (passes (λ managed. refl) refl (inr refl))
   answers (Reserving chunks bytes commit exclusive waiting) ForGiveBack accepted base h = same-table (Reserving chunks bytes commit exclusive waiting) _ _ mark (passes (λ managed. refl) refl (inr refl))
   answers (Reserving chunks bytes commit exclusive waiting) ForNone accepted base h = same-table (Reserving chunks bytes commit exclusive waiting) _ _ mark (passes (λ managed. refl) refl (inr refl))
   answers (GivingBack cause waiting) kind accepted base h =
       by-cond (Does S id l (GivingBack cause waiting) (answer kind accepted base)) (isFor (GivingBack cause waiting) kind) _ _
-      (λ e. passed (GivingBack cause waiting) _ _ refl (λ managed. refl) (fails S id (at l id) small (shown Idle) l stamps k mark (stands Idle refl) _ waiting))
+      (λ e. over (GivingBack cause waiting) _ _ refl (λ managed. refl) (fails S id (at l id) small (before Idle) l stamps k mark (stands Idle refl) _ waiting))
       (λ e. same-table (GivingBack cause waiting) _ _ mark (passes (λ managed. refl) refl (inr refl)))
 
   -- ---- any call
@@ -783,3 +796,156 @@ module _ (S id : ℕ) (l : List Arena) (stamps : List ℕ) (k : ℕ) (mark : Boo
   does (GivingBack cause waiting) ns settings (act a) h = same-table (GivingBack cause waiting) _ _ mark (shut refl refl refl refl)
   does q ns settings (query c) h = same-table q _ _ mark (passes (λ managed. refl) refl (inr refl))
   does q ns settings (answer kind accepted base) h = answers q kind accepted base h
+
+-- ---- how many arenas there are after it: as many, or one more with record a, whose book is opened; it then does to that book what it does to any (a claim
+-- that waited may be granted a run in it)
+
+pub data Counts (S : ℕ) (l : List Arena) (k : ℕ) (q : Question) (call : Call) (o : Outcome) : Type 0 where
+  as-many : o .world .state .count ≡ k → Counts S l k q call o
+  one-more : o .world .state .count ≡ suc k → (a : Arena) (dirty : Bool) → bookIn S calm a ≡ opened S (a .base) (a .chunks) dirty → Does S k (withRecord l k a) q call o
+      → Counts S l k q call o
+
+-- a new record
+record Made (S : ℕ) (a : Arena) : Type 0 where
+  rows : Rows a
+  few : a .chunks ≤ 1024
+  dirty : Bool
+  opens : bookIn S calm a ≡ opened S (a .base) (a .chunks) dirty
+
+reserved-made : (S base chunks : ℕ) (commit exclusive : Bool) → badCount chunks ≡ false → Made S (reservedArena base chunks commit exclusive)
+unfolding reservedArena newArena
+reserved-made S base chunks commit exclusive e = record {
+  rows = reserved-rows base chunks commit exclusive;
+  few = count-facts chunks e .1;
+  dirty = false;
+  opens = book-reserved base chunks commit exclusive (count-facts chunks e .1);
+}
+
+managed-made : (S base chunks : ℕ) (exclusive : Bool) (node : ℤ) → badCount chunks ≡ false → Made S (managedArena base chunks exclusive node)
+unfolding managedArena newArena
+managed-made S base chunks exclusive node e = record {
+  rows = managed-rows base chunks exclusive node;
+  few = count-facts chunks e .1;
+  dirty = true;
+  opens = book-managed base chunks exclusive node (count-facts chunks e .1);
+}
+
+adopted-made : (S base chunks : ℕ) → badCount chunks ≡ false → Made S (adoptedArena base chunks)
+unfolding adoptedArena newArena
+adopted-made S base chunks e =
+    record { rows = adopted-rows base chunks; few = count-facts chunks e .1; dirty = true; opens = book-adopted base chunks (count-facts chunks e .1) }
+
+-- what finds, sweeps and releases registers nothing
+module _ (S : ℕ) (k : ℕ) (mark : Bool) where
+  abbrev Many : Outcome → Type 0
+  Many o = o .world .state .count ≡ k
+
+  search-count : (l : List Arena) (stamps : List ℕ) (id : ℤ) (n : ℕ) (commits : Bool) (missed : Reply) → missed .state .count ≡ k → Many (searchOf S l stamps k mark id n commits missed)
+  search-count l stamps id n commits missed e =
+      search-cases S l stamps k mark Many id n commits missed (λ f. e) (λ i u f. grant-cases S l stamps k mark Many i n commits (λ g. refl) (λ s g. refl) (λ s g. refl))
+
+  claim-count : (l : List Arena) (stamps : List ℕ) (id : ℤ) (n : ℕ) (commits : Bool) (settings : Settings) → Many (claimOf S l stamps k mark id n commits settings)
+  unfolding askMemory
+  claim-count l stamps id n commits settings =
+      claim-cases S l stamps k mark Many id n commits settings (λ e. refl) (λ e f. refl)
+      (λ e f. search-count l stamps id n commits _ (miss-cases S l stamps k mark Many id n commits settings refl refl refl))
+
+  release-count : (l : List Arena) (stamps : List ℕ) (x m : ℕ) (tell : Commitment) (pending : Bool) (now delay : ℕ) → Many (releaseOf S l stamps k mark x m tell pending now delay)
+  release-count l stamps x m tell pending now delay =
+      release-cases S l stamps k mark Many m tell pending now delay x (λ e. refl) (λ e f. refl)
+      (λ i e u f. release-in-cases S l stamps k mark Many m tell pending now delay i _ (λ g. refl) (λ g v. refl) (λ g v. refl))
+
+  module _ (stamps : List ℕ) (w : Sweep) where
+    visit-count : (l : List Arena) (i : ℕ) (a : Arena) (from : ℕ) (rest : List Arena → Outcome) → ((m : List Arena) → Many (rest m)) → Many (visit S stamps k mark w l i a from rest)
+    unfolding visit purgeReply
+    visit-count l i a from rest next = go (nextAsked a (stampsOf stamps i) (w .force) (w .now) (w .delay) from)
+      where
+        go : (f : Found) → Many (visitAt S stamps k mark w l i a rest f)
+        go (At j) = refl
+        go Nothing = next _
+
+    sweep-count : (f i : ℕ) (l : List Arena) → Many (sweepFrom S stamps k mark w f i l)
+    unfolding sweepFrom sweptReply
+    sweep-count zero i l = refl
+    sweep-count (suc f) i l =
+        by-cond Many (sweepDue (at l i) (w .force) (w .now)) _ _ (λ e. visit-count l i _ 0 _ (λ m. sweep-count f (i + 1) m)) (λ e. sweep-count f (i + 1) l)
+
+module _ (S : ℕ) (l : List Arena) (stamps : List ℕ) (k : ℕ) (mark : Bool) (t : SoundTable S l k) where
+  -- the table with the new record
+  module _ (a : Arena) (m : Made S a) (room : k < 32) where
+    there : at (withRecord l k a) k ≡ a
+    there = at-same l k a (omega (arith, room, t .long))
+
+    new-small : at (withRecord l k a) k .chunks ≤ 1024
+    new-small = subst (λ (x : Arena). x .chunks ≤ 1024) (sym there) (m .few)
+
+    new-stands : Stands S k (at (withRecord l k a) k) new-small (shown S k (withRecord l k a) new-small Idle) (withRecord l k a) (suc k)
+    new-stands = record {
+      low = omega arith;
+      few = room;
+      long = length-set l k a ∙ t .long;
+      ready = record { rows = subst Rows (sym there) (m .rows); same = unchanged _; shows = refl };
+    }
+
+  registers : (call : Call) (chunks : ℕ) (a : Arena) → ((x : Place) → role x Idle call ≡ aside) → (badCount chunks ≡ false → Made S a) → Counts S l k Idle call (register l stamps k mark chunks a)
+  registers call chunks a is made =
+      register-cases S l stamps k mark (Counts S l k Idle call) chunks a (as-many refl) (as-many refl)
+      (λ e f. let m = made e in
+      one-more refl a (m .dirty) (m .opens) (passed S k (withRecord l k a) (new-small a m f) Idle call _ refl (λ managed. is _)
+      (rests S k _ (new-small a m f) _ (withRecord l k a) (suc k) Idle _ _ mark refl (new-stands a m f))))
+
+  act-counts : (ns : ℕ) (settings : Settings) (a : Act) → Counts S l k Idle (act a) (actOn S l stamps k mark Idle ns settings a)
+  unfolding askMemory
+  act-counts ns settings (reserve size commit large exclusive) =
+      reserve-cases S l stamps k mark (Counts S l k Idle _) size commit large exclusive (settings .page) (as-many refl) (as-many refl)
+  act-counts ns settings (manage start size exclusive node mapped reserved) =
+      manage-cases S l stamps k mark (Counts S l k Idle _) start size exclusive node mapped reserved (as-many refl) (as-many refl) (as-many refl)
+      (λ g. registers _ _ _ (λ x. refl) (managed-made S _ _ exclusive node))
+  act-counts ns settings (adopt address size) =
+      adopt-cases S l stamps k mark (Counts S l k Idle _) address size (as-many refl) (as-many refl) (as-many refl) (λ i w u e. as-many refl)
+      (λ w. registers _ _ _ (λ x. refl) (adopted-made S address (size / S)))
+  act-counts ns settings (claim id n commits) = as-many (claim-count S k mark l stamps id n commits settings)
+  act-counts ns settings (release x n tell pending) = as-many (release-count S k mark l stamps x n tell pending _ _)
+  act-counts ns settings (sweep force) = as-many (sweep-count S k mark stamps _ k 0 l)
+
+  fail-counts : (q : Question) (call : Call) (why : Refusal) (waiting : Waiting) → Counts S l k q call (after (failReply k mark why waiting) l stamps)
+  fail-counts q call why Reserve = as-many refl
+  fail-counts q call why (Claim n commits) = as-many refl
+
+  resume-count : (a : Arena) (waiting : Waiting) → Many S (suc k) mark (resume S l stamps k mark a waiting)
+  resume-count a Reserve = refl
+  resume-count a (Claim n commits) =
+      let g : Again S l stamps k mark a n commits = again S l stamps k mark a n commits in
+      subst (Many S (suc k) mark) (sym (g .is)) (search-count S (suc k) mark (withRecord l k a) (withStamps stamps k) (g .id) n commits _ refl)
+
+  answer-counts : (q : Question) (kind : Kind) (accepted : Bool) (base : ℕ) → Counts S l k q (answer kind accepted base) (answerOf S l stamps k mark q kind accepted base)
+  unfolding answerOf isFor
+  answer-counts Idle kind accepted base = by-cond (Counts S l k Idle _) (isFor Idle kind) _ _ (λ e. as-many refl) (λ e. as-many refl)
+  answer-counts (Committing i s m) kind true base = by-cond (Counts S l k _ _) (isFor (Committing i s m) kind) _ _ (λ e. as-many refl) (λ e. as-many refl)
+  answer-counts (Committing i s m) kind false base = by-cond (Counts S l k _ _) (isFor (Committing i s m) kind) _ _ (λ e. as-many refl) (λ e. as-many refl)
+  answer-counts (Purging i j w) kind accepted base =
+      by-cond (Counts S l k _ _) (isFor (Purging i j w) kind) _ _
+      (λ e. as-many (visit-count S k mark stamps (counted w accepted) l i _ (j + 1) _ (λ m. sweep-count S k mark stamps (counted w accepted) _ _ m))) (λ e. as-many refl)
+  answer-counts (Reserving chunks bytes commit exclusive waiting) ForMemory false base = fail-counts _ _ _ waiting
+  answer-counts (Reserving chunks bytes commit exclusive waiting) ForMemory true base =
+      memory-cases S l stamps k mark (Counts S l k (Reserving chunks bytes commit exclusive waiting) (answer ForMemory true base)) chunks bytes commit exclusive waiting base (as-many refl)
+      (λ cause. as-many refl)
+      (λ d e f u. let a : Arena = reservedArena base chunks commit exclusive in
+      let m : Made S a = reserved-made S base chunks commit exclusive e in
+      one-more (resume-count a waiting) a (m .dirty) (m .opens)
+      (resumes S k (withRecord l k a) (new-small a m u) l stamps k mark a (new-stands a m u) chunks bytes commit exclusive waiting base))
+  answer-counts (Reserving chunks bytes commit exclusive waiting) ForCommit accepted base = as-many refl
+  answer-counts (Reserving chunks bytes commit exclusive waiting) ForPurge accepted base = as-many refl
+  answer-counts (Reserving chunks bytes commit exclusive waiting) ForGiveBack accepted base = as-many refl
+  answer-counts (Reserving chunks bytes commit exclusive waiting) ForNone accepted base = as-many refl
+  answer-counts (GivingBack cause waiting) kind accepted base =
+      by-cond (Counts S l k _ _) (isFor (GivingBack cause waiting) kind) _ _ (λ e. fail-counts _ _ _ waiting) (λ e. as-many refl)
+
+  pub counts : (q : Question) (ns : ℕ) (settings : Settings) (call : Call) → Counts S l k q call (stepOn S l stamps k mark q ns settings call)
+  counts Idle ns settings (act a) = act-counts ns settings a
+  counts (Committing i s m) ns settings (act a) = as-many refl
+  counts (Purging i j w) ns settings (act a) = as-many refl
+  counts (Reserving chunks bytes commit exclusive waiting) ns settings (act a) = as-many refl
+  counts (GivingBack cause waiting) ns settings (act a) = as-many refl
+  counts q ns settings (query c) = as-many refl
+  counts q ns settings (answer kind accepted base) = answer-counts q kind accepted base

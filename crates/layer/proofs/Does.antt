@@ -4,39 +4,34 @@ use mathlib.Core.Path.{_≡_, refl, sym, ap, ap₂, _∙_, subst}
 use mathlib.Core.Bool.{Bool, true, false, cond, not, _&&_, true≢false}
 use mathlib.Core.List.{List, [], _∷_, _++_}
 use mathlib.Core.Logic.{_⊎_, inl, inr, ⊎-elim}
-use Prim.Native.Nat.{ℕ, zero, suc, _+_, _-_, _*_, _/_, _%_, _≤_, _<_}
+use Prim.Native.Nat.{ℕ, suc, _+_, _-_, _*_, _/_, _%_, _≤_, _<_}
 use native.Mathlib.Nat.{div-add-mod'}
 use native.Mathlib.Omega.{arith}
 use native.Mathlib.Decide.{ℕ-discrete}
 use borrow.Author.Tests.{eq-eqb, ne-eqb, eqb-true, eqb-false, leb-true, not-true}
 use lib.IntN.{ℤ, pos, negsuc}
 use lib.Dec.{eqb, leb}
-use lib.ListN.{length, set, length-set}
+use lib.ListN.{set, length-set}
 use Rattle.refusals.specs.declared.Refusal.{Refusal}
-use Rattle.refusals.specs.declared.Refusal.the-variants.{Zero, NotWhole, PastEnd, NoRun, CommitRefused}
+use Rattle.refusals.specs.declared.Refusal.the-variants.{QuestionOpen, Zero, NotWhole, PastEnd, NoRun, CommitRefused}
 use Rattle.refusals.specs.Number.{number}
-use Rattle.words.specs.Bits.{bitAt}
 use Rattle.words.proofs.RowLaws.{lt-or-le}
 use Rattle.words.proofs.Tests.{by-cond, when, unless}
 use Rattle.runs.specs.declared.Found.{Found}
 use Rattle.runs.specs.declared.Found.the-variants.{At, Nothing}
-use Rattle.runs.specs.Lowest.{least, lowestRun}
-use Rattle.runs.proofs.LowestLaws.{First, first-says}
-use Rattle.runs.proofs.SearchLaws.{and-both}
+use Rattle.runs.specs.Lowest.{Lowest, lowestRun}
+use Rattle.runs.proofs.LowestLaws.{lowest-says}
 use Rattle.clock.specs.Clock.{nowMs, delayMs}
 use Rattle.options.specs.Options.{arenaAllowed}
 use Rattle.arena.specs.declared.Arena.{Arena}
 use Rattle.arena.specs.declared.Commitment.{Commitment}
-use Rattle.arena.specs.Registering.{newArena, reservedArena, managedArena, adoptedArena, grownArena}
-use Rattle.arena.specs.Claiming.{findRun, runFresh, runCommitted, takeRun, giveBackRun, dirtyRun}
-use Rattle.arena.specs.Releasing.{releaseRun}
-use Rattle.arena.specs.Sweeping.{sweepDue, disarm, toAsk, young, nextAsked, borrowChunk, returnChunk, rearm}
+use Rattle.arena.specs.Registering.{grownArena}
+use Rattle.arena.specs.Claiming.{findRun, giveBackRun}
+use Rattle.arena.specs.Sweeping.{returnChunk}
 use Rattle.lookup.specs.Place.{bytesOf, endOf, isInside}
 use Rattle.lookup.proofs.PlaceLaws.{Within, inside-facts}
-use Rattle.purge.specs.Stamps.{stampsOf}
-use Rattle.lookup.specs.Rows.{Rows}
 use Rattle.lookup.proofs.SoundLaws.{never}
-use Rattle.lookup.proofs.Changes.{found-inside, disarm-rows, return-rows, rearm-rows}
+use Rattle.lookup.proofs.Changes.{return-rows}
 use Rattle.layer.specs.declared.Settings.{Settings}
 use Rattle.layer.specs.declared.Sweep.{Sweep}
 use Rattle.layer.specs.declared.Question.{Question}
@@ -45,28 +40,26 @@ use Rattle.layer.specs.declared.Waiting.{Waiting}
 use Rattle.layer.specs.declared.Waiting.the-variants.{Reserve, Claim}
 use Rattle.layer.specs.declared.Kind.{Kind}
 use Rattle.layer.specs.declared.Kind.the-variants.{ForCommit, ForPurge, ForMemory, ForGiveBack, ForNone}
-use Rattle.layer.specs.declared.Ask.the-variants.{AskCommit}
 use Rattle.layer.specs.declared.Answer.{Answer}
-use Rattle.layer.specs.declared.Answer.the-variants.{Refused, Asks, Registered, Claimed, Released}
-use Rattle.layer.specs.declared.Reply.{Reply}
+use Rattle.layer.specs.declared.Answer.the-variants.{Refused, Registered, Released}
 use Rattle.layer.specs.World.{Outcome, stateOf, reply, after, turnDown}
 use Rattle.layer.specs.Table.{at, isAt}
-use Rattle.layer.specs.Registering.{askMemory, badCount, withRecord, withStamps, register, grows as growsBy}
-use Rattle.layer.specs.Claiming.{eligible, serves, missReply, grantFound, searchOf, claimOf}
+use Rattle.layer.specs.Registering.{withRecord, withStamps, grows as growsBy}
+use Rattle.layer.specs.Claiming.{eligible, serves, missReply, claimOf}
 use Rattle.layer.specs.Releasing.{releaseIn, releaseOf}
-use Rattle.layer.specs.Sweeping.{purgeReply, sweptReply, visitAt, visit, sweepFrom}
-use Rattle.layer.specs.Answering.{isFor, counted, failReply, resume, answerCommit, answerPurge, answerOf}
+use Rattle.layer.specs.Answering.{isFor, counted, resume, answerCommit, answerPurge, answerOf}
 use Rattle.layer.specs.Step.{Act, reserve, manage, adopt, claim, release, sweep, Call, act, query, answer, actOn, stepOn}
 use Rattle.layer.specs.Ten.{Eligible}
-use Rattle.layer.specs.Book.{Book, lowest, Fed, claims, releases, Say, refused, released, turn, opened, unheld, hold, unhold, claimed, enter}
-use Rattle.layer.specs.History.{isIdle, said, Place, inRange, isAnswer}
-use Rattle.layer.proofs.Tools.{at-same, at-other}
+use Rattle.layer.specs.Book.{Book, lowest, Fed, claims, releases, Say, refused, released, turn, unheld, hold, unhold, claimed, enter}
+use Rattle.layer.specs.History.{isIdle, said, inRange, isAnswer}
+use Rattle.layer.proofs.Tools.{at-same}
 use Rattle.layer.proofs.Facts.{SoundTable, SoundQuestion}
-use Rattle.layer.proofs.Rules.{served-named, served-eligible, served-found, grows-facts, grows-owned, others-left, Again, again, count-facts}
-use Rattle.layer.proofs.Registered.{meets-false, reserved-rows, managed-rows, adopted-rows}
+use Rattle.layer.proofs.Rules.{served-named, served-eligible, grows-facts, grows-owned, others-left, Again, again}
+use Rattle.layer.proofs.Registered.{meets-false}
 use Rattle.layer.proofs.Shown.{View, calm, committing, purging, viewOf, waitsIn, owedIn, Role, feeding, closing, aside, ends, role, bookIn, grow, Same}
-use Rattle.layer.proofs.View.{view-commit, view-purge, view-commit-other, view-purge-other, book-granted, book-taken, book-committed, freed-held, book-freed, book-released, say-fresh, owed-taken, book-disarmed, book-rearmed, book-borrowed, book-returned, book-reserved, book-managed, book-adopted, book-grown, unchanged, take-same, dirty-same, finish-same, give-back-same, release-same, disarm-same, borrow-same, return-same, rearm-same, grown-same}
-use Rattle.layer.proofs.Cases.{granting, asking, grant-cases, search-cases, miss-cases, claim-cases, release-in-cases, release-cases, reserve-cases, register-cases, manage-cases, adopt-cases, memory-cases}
+use Rattle.layer.proofs.View.{view-commit, view-purge, view-commit-other, view-purge-other, book-committed, freed-held, book-freed, book-released, book-returned, book-grown, unchanged, finish-same, give-back-same, release-same, return-same, grown-same}
+use Rattle.layer.proofs.Cases.{claim-cases, release-in-cases, release-cases, reserve-cases, manage-cases, adopt-cases, memory-cases}
+use Rattle.layer.proofs.Along.{Given, none-owed, Stands, Leaves, Takes, Seeks, none, other, this, rests, unmoved, elsewhere, added, seeks, asks-memory, misses, releases-elsewhere, registers-one, fails, visits, sweeps}
 
 -- ---- what a call does to one arena's book
 
@@ -99,11 +92,6 @@ chunksAfter (undoes s n) m = m
 chunksAfter (grows n) m = m + n
 
 -- ---- by which call, and what is answered
-
--- the run of n from s on of arena i, which begins at base, is granted, or its commit is asked for
-pub data Given (S i base s n : ℕ) (o : Outcome) : Type 0 where
-  at-once : (fresh committed : Bool) → o .answer ≡ Claimed (base + s * S) fresh committed → o .world .state .question ≡ Idle → Given S i base s n o
-  asked : o .answer ≡ Asks (AskCommit (base + s * S) (n * S)) → o .world .state .question ≡ Committing i s n → Given S i base s n o
 
 -- arena i of table l, where question q is open
 module _ (S i : ℕ) (l : List Arena) (q : Question) (call : Call) (o : Outcome) where
@@ -153,6 +141,8 @@ module _ (S i : ℕ) (l : List Arena) (q : Question) (call : Call) (o : Outcome)
     pub idle : q ≡ Idle
     pub is : call ≡ act (release address n told pending)
     pub there : address ≡ at l i .base + s * S
+    pub some : n ≡ 0 → ⊥
+    pub room : s + n ≤ at l i .chunks
     pub feeds : Is (feeding (releases address n ∷ []))
     pub by-book : enter bookBefore (releases address n) ≡ turn released (unhold bookBefore s n)
     pub answered : o .answer ≡ Released
@@ -177,12 +167,19 @@ module _ (S i : ℕ) (l : List Arena) (q : Question) (call : Call) (o : Outcome)
     pub answered : o .answer ≡ Registered i
     pub closed : o .world .state .question ≡ Idle
 
+  -- why, for each change
   abbrev pub Because : Change → Type 0
   Because still = Still
   Because (holds s n) = Holds s n
   Because (drops s n) = Drops s n
   Because (undoes s n) = Undoes s n
   Because (grows n) = Grows n
+
+  -- the run that becomes held was unheld
+  pub was-unheld : (s n : ℕ) → Holds s n → (s + n ≤ at l i .chunks) × ((j : ℕ) → s ≤ j → j < s + n → bookBefore .held j ≡ false)
+  was-unheld s n h =
+      let x : Lowest (unheld bookBefore) (bookBefore .chunks) n (At s) = subst (Lowest (unheld bookBefore) (bookBefore .chunks) n) (h .lowest) (lowest-says (unheld bookBefore) (bookBefore .chunks) n) in
+      (x .0 .room, λ j u v. not-true (bookBefore .held j) (x .0 .all-free j u v))
 
   -- what the call does to the arena's book, why, and that base and flags stay
   pub record Does : Type 0 where
@@ -191,210 +188,6 @@ module _ (S i : ℕ) (l : List Arena) (q : Question) (call : Call) (o : Outcome)
     pub because : Because what
     pub low : i < o .world .state .count
     pub same : Same (at l i) (chunksAfter what (at l i .chunks)) (at (o .world .records) i)
-
--- ---- an arena along a call: c is its record before it, and B the book that is shown
-
-none-owed : (S : ℕ) (v : View) (a : Arena) → waitsIn v ≡ [] → owedIn S v a ≡ []
-none-owed S calm a e = refl
-none-owed S (committing s n) a e = let z : _≡_ {A = ℕ} 0 1 = cc in absurd (omega arith)
-none-owed S (purging j) a e = refl
-
-module _ (S id : ℕ) (c : Arena) (small : c .chunks ≤ 1024) (B : Book) where
-  -- a record that shows it, nothing open about it
-  record Ready (a : Arena) : Type 0 where
-    rows : Rows a
-    same : Same c (c .chunks) a
-    shows : bookIn S calm a ≡ B
-
-  record Stands (l : List Arena) (k : ℕ) : Type 0 where
-    low : id < k
-    few : k ≤ 32
-    long : length l ≡ 32
-    ready : Ready (at l id)
-
-  -- the call leaves the book, and no claim waits there
-  record Leaves (o : Outcome) : Type 0 where
-    low : id < o .world .state .count
-    same : Same c (c .chunks) (at (o .world .records) id)
-    book : bookIn S (viewOf id (o .world .state .question)) (at (o .world .records) id) ≡ B
-    none : waitsIn (viewOf id (o .world .state .question)) ≡ []
-
-  -- the call takes the run of m from s on
-  record Takes (m s : ℕ) (o : Outcome) : Type 0 where
-    low : id < o .world .state .count
-    same : Same c (c .chunks) (at (o .world .records) id)
-    book : bookIn S (viewOf id (o .world .state .question)) (at (o .world .records) id) ≡ hold B s m
-    given : Given S id (c .base) s m o
-    says : claimed B m (At s) .say ∷ [] ≡ said (o .answer) ++ owedIn S (viewOf id (o .world .state .question)) (at (o .world .records) id)
-
-  rests : (l : List Arena) (k : ℕ) (q : Question) (r : Answer) (stamps : List ℕ) (mark : Bool) → viewOf id q ≡ calm → Stands l k
-      → Leaves (after (reply r (stateOf k mark q)) l stamps)
-  rests l k q r stamps mark e h =
-      record { low = h .low; same = h .ready .same; book = ap (λ (x : View). bookIn S x (at l id)) e ∙ h .ready .shows; none = ap waitsIn e }
-
-  -- the arena's record is as it was
-  unmoved : (l l′ : List Arena) (k : ℕ) → length l′ ≡ length l → at l′ id ≡ at l id → Stands l k → Stands l′ k
-  unmoved l l′ k u there h = record { low = h .low; few = h .few; long = u ∙ h .long; ready = subst Ready (sym there) (h .ready) }
-
-  -- another record is stored
-  elsewhere : (l : List Arena) (k i : ℕ) (a : Arena) → (i ≡ id → ⊥) → Stands l k → Stands (set l i a) k
-  elsewhere l k i a d h = unmoved l (set l i a) k (length-set l i a) (at-other l i id a (λ e. d (sym e))) h
-
-  -- registering: always past the last arena
-  added : (l : List Arena) (k : ℕ) (a : Arena) → k < 32 → Stands l k → Stands (withRecord l k a) (suc k)
-  added l k a u h =
-      let x : Stands (withRecord l k a) k = elsewhere l k k a (λ d. omega (arith, d, h .low)) h in
-      record { low = omega (arith, h .low); few = u; long = x .long; ready = x .ready }
-
-  -- ---- claims
-  module _ (l : List Arena) (stamps : List ℕ) (k : ℕ) (mark : Bool) (h : Stands l k) where
-    here : (a : Arena) → at (set l id a) id ≡ a
-    here a = at-same l id a (omega (arith, h .low, h .few, h .long))
-
-    fits : (m s : ℕ) → findRun (at l id) m ≡ At s → s + m ≤ 1024
-    fits m s e = omega (arith, found-inside (at l id) m s e, h .ready .same .chunks, small)
-
-    told : (m s : ℕ) → claimed B m (At s) .say ≡ claimed (bookIn S calm (at l id)) m (At s) .say
-    told m s = ap (λ (b : Book). claimed b m (At s) .say) (sym (h .ready .shows))
-
-    granted-run : (m s : ℕ) → findRun (at l id) m ≡ At s → Takes m s (granting S l stamps k mark id m s)
-    granted-run m s e =
-        let there : at (set l id (dirtyRun (takeRun (at l id) s m) s m)) id ≡ dirtyRun (takeRun (at l id) s m) s m = here _ in
-        record {
-          low = h .low;
-          same = subst (Same c (c .chunks)) (sym there) (dirty-same c (c .chunks) _ (take-same c (c .chunks) _ (h .ready .same) s m) s m);
-          book = ap (bookIn S calm) there ∙ book-granted (at l id) s m (h .ready .rows) (fits m s e) ∙ ap (λ (b : Book). hold b s m) (h .ready .shows);
-          given = at-once _ _ (ap (λ (b : ℕ). Claimed (b + s * S) (runFresh (at l id) s m) (runCommitted (at l id) s m)) (h .ready .same .base)) refl;
-          says = ap (λ (x : Say). x ∷ []) (told m s ∙ say-fresh S (at l id) s m);
-        }
-
-    asked-run : (m s : ℕ) → findRun (at l id) m ≡ At s → Takes m s (asking S l stamps k mark id m s)
-    asked-run m s e =
-        let there : at (set l id (takeRun (at l id) s m)) id ≡ takeRun (at l id) s m = here _ in
-        record {
-          low = h .low;
-          same = subst (Same c (c .chunks)) (sym there) (take-same c (c .chunks) _ (h .ready .same) s m);
-          book = ap₂ (bookIn S) (view-commit id s m) there ∙ book-taken (at l id) s m (h .ready .rows) (fits m s e) ∙ ap (λ (b : Book). hold b s m) (h .ready .shows);
-          given = asked (ap (λ (b : ℕ). Asks (AskCommit (b + s * S) (m * S))) (h .ready .same .base)) refl;
-          says = ap (λ (x : Say). x ∷ []) (told m s ∙ say-fresh S (at l id) s m) ∙ sym (ap₂ (owedIn S) (view-commit id s m) there ∙ owed-taken S (at l id) s m);
-        }
-
-    grants : (i m : ℕ) (commits : Bool) → (i ≡ id → ⊥) → Leaves (grantFound S l stamps k mark i m commits (findRun (at l i) m))
-    grants i m commits d =
-        grant-cases S l stamps k mark Leaves i m commits (λ e. rests l k Idle _ stamps mark refl h)
-        (λ s e. rests (set l i (dirtyRun (takeRun (at l i) s m) s m)) k Idle _ stamps mark refl (elsewhere l k i _ d h))
-        (λ s e. rests (set l i (takeRun (at l i) s m)) k (Committing i s m) _ stamps mark (view-commit-other id i s m d) (elsewhere l k i _ d h))
-
-    -- a search finds no arena, another one, or this one
-    data Seeks (at-id : ℤ) (m : ℕ) (missed : Reply) (o : Outcome) : Type 0 where
-      none : serves at-id m l id ≡ false → o ≡ after missed l stamps → Seeks at-id m missed o
-      other : (j : ℕ) → serves at-id m l j ≡ true → (j ≡ id → ⊥) → Leaves o → Seeks at-id m missed o
-      this : (s : ℕ) → serves at-id m l id ≡ true → lowestRun (unheld B) (B .chunks) m ≡ At s → Takes m s o → Seeks at-id m missed o
-
-    seeks : (at-id : ℤ) (m : ℕ) (commits : Bool) (missed : Reply) → Seeks at-id m missed (searchOf S l stamps k mark at-id m commits missed)
-    seeks at-id m commits missed =
-        search-cases S l stamps k mark (Seeks at-id m missed) at-id m commits missed (λ f. none (f id (h .low)) refl) (λ j u f. found j f (ℕ-discrete j id))
-      where
-        by-book : (s : ℕ) → findRun (at l id) m ≡ At s → lowestRun (unheld B) (B .chunks) m ≡ At s
-        by-book s e = ap (λ (b : Book). lowestRun (unheld b) (b .chunks) m) (sym (h .ready .shows)) ∙ (unfold findRun in e)
-
-        run : serves at-id m l id ≡ true → Seeks at-id m missed (grantFound S l stamps k mark id m commits (findRun (at l id) m))
-        run f =
-            grant-cases S l stamps k mark (Seeks at-id m missed) id m commits (λ e. absurd (true≢false (sym (served-found at-id m l id f) ∙ ap isAt e)))
-            (λ s e. this s f (by-book s e) (granted-run m s e)) (λ s e. this s f (by-book s e) (asked-run m s e))
-
-        found : (j : ℕ) → serves at-id m l j ≡ true → Dec (j ≡ id) → Seeks at-id m missed (grantFound S l stamps k mark j m commits (findRun (at l j) m))
-        found j f (no d) = other j f d (grants j m commits d)
-        found j f (yes e) =
-            subst (λ (x : ℕ). Seeks at-id m missed (grantFound S l stamps k mark x m commits (findRun (at l x) m))) (sym e) (run (subst (λ (x : ℕ). serves at-id m l x ≡ true) e f))
-
-    asks-memory : (size page : ℕ) (commit large exclusive : Bool) (waiting : Waiting) → Leaves (after (askMemory S k mark size page commit large exclusive waiting) l stamps)
-    unfolding askMemory
-    asks-memory size page commit large exclusive waiting = rests l k _ _ stamps mark refl h
-
-    misses : (at-id : ℤ) (m : ℕ) (commits : Bool) (settings : Settings) → Leaves (after (missReply S k mark at-id m commits settings) l stamps)
-    misses at-id m commits settings =
-        miss-cases S l stamps k mark Leaves at-id m commits settings (rests l k Idle _ stamps mark refl h) (rests l k Idle _ stamps true refl h)
-        (asks-memory (settings .reserve) (settings .page) false false false (Claim m commits))
-
-    -- ---- releases outside the range
-    releases-elsewhere : (x m : ℕ) (tell : Commitment) (pending : Bool) (now delay : ℕ) → isInside S (at l id) x ≡ false → Leaves (releaseOf S l stamps k mark x m tell pending now delay)
-    releases-elsewhere x m tell pending now delay e =
-        release-cases S l stamps k mark Leaves m tell pending now delay x (λ f. rests l k Idle _ stamps mark refl h) (λ f g. rests l k Idle _ stamps mark refl h)
-        (λ i f u g. release-in-cases S l stamps k mark Leaves m tell pending now delay i (x - at l i .base)
-        (λ v. rests l k Idle _ stamps mark refl h) (λ v w. rests l k Idle _ stamps mark refl h)
-        (λ v w. rests (set l i (releaseRun (at l i) ((x - at l i .base) / S) m tell pending now delay)) k Idle _ _ mark refl
-        (elsewhere l k i _ (λ d. true≢false (sym g ∙ ap (λ (j : ℕ). isInside S (at l j) x) d ∙ e)) h)))
-
-    -- ---- registering
-    registers-one : (chunks : ℕ) (a : Arena) → Leaves (register l stamps k mark chunks a)
-    registers-one chunks a =
-        register-cases S l stamps k mark Leaves chunks a (rests l k Idle _ stamps mark refl h) (rests l k Idle _ stamps mark refl h)
-        (λ e f. rests (withRecord l k a) (suc k) Idle _ _ mark refl (added l k a f h))
-
-    fails : (why : Refusal) (waiting : Waiting) → Leaves (after (failReply k mark why waiting) l stamps)
-    fails why Reserve = rests l k Idle _ stamps mark refl h
-    fails why (Claim m commits) = rests l k Idle _ stamps true refl h
-
-  -- ---- sweeps: many stores, and at most one question
-  module _ (stamps : List ℕ) (k : ℕ) (mark : Bool) (w : Sweep) (low : id < k) (few : k ≤ 32) where
-    by-store : (P : Arena → Type 0) (l : List Arena) (i : ℕ) (a : Arena) → length l ≡ 32 → (i ≡ id → P a) → ((i ≡ id → ⊥) → P (at l id)) → P (at (set l i a) id)
-    by-store P l i a u f g = go (ℕ-discrete i id)
-      where
-        go : Dec (i ≡ id) → P (at (set l i a) id)
-        go (yes e) = subst P (sym (ap (λ (x : ℕ). at (set l x a) id) e ∙ at-same l id a (omega (arith, u, low, few)))) (f e)
-        go (no d) = subst P (sym (at-other l i id a (λ e. d (sym e)))) (g d)
-
-    -- arena i, whose record is a, from a place on
-    visits : (l : List Arena) (i : ℕ) (a : Arena) (from : ℕ) (rest : List Arena → Outcome) → length l ≡ 32 → (i ≡ id → Ready a) → ((i ≡ id → ⊥) → Ready (at l id))
-        → ((m : List Arena) → length m ≡ 32 → Ready (at m id) → Leaves (rest m)) → Leaves (visit S stamps k mark w l i a from rest)
-    unfolding visit nextAsked purgeReply toAsk
-    visits l i a from rest u f g next =
-        go (least (toAsk a (stampsOf stamps i) (w .force) (w .now) (w .delay)) from (a .chunks - from))
-        (first-says (toAsk a (stampsOf stamps i) (w .force) (w .now) (w .delay)) from (a .chunks - from))
-      where
-        go : (x : Found) → First (toAsk a (stampsOf stamps i) (w .force) (w .now) (w .delay)) from (a .chunks - from) x → Leaves (visitAt S stamps k mark w l i a rest x)
-        go Nothing h =
-            next (set l i (rearm a (stampsOf stamps i) (w .force) (w .now) (w .delay))) (length-set l i _ ∙ u)
-            (by-store Ready l i _ u
-            (λ e. let r : Ready a = f e in
-            record {
-              rows = rearm-rows a (stampsOf stamps i) (w .force) (w .now) (w .delay) (r .rows);
-              same = rearm-same c (c .chunks) a (r .same) (stampsOf stamps i) (w .force) (w .now) (w .delay);
-              shows = book-rearmed a (stampsOf stamps i) (w .force) (w .now) (w .delay) ∙ r .shows;
-            })
-            g)
-        go (At j) h = ask (ℕ-discrete i id)
-          where
-            clear : bitAt (a .used) j ≡ false
-            clear = not-true (bitAt (a .used) j) (and-both (not (young (stampsOf stamps i) (w .force) (w .now) (w .delay) j)) _ (and-both (bitAt (a .pending) j) _ (h .2) .1) .1)
-
-            own : Ready a → Leaves (after (purgeReply S k mark w id a j) (set l id (borrowChunk a j)) stamps)
-            own r =
-                let there : at (set l id (borrowChunk a j)) id ≡ borrowChunk a j = at-same l id (borrowChunk a j) (omega (arith, u, low, few)) in
-                record {
-                  low = low;
-                  same = subst (Same c (c .chunks)) (sym there) (borrow-same c (c .chunks) a (r .same) j);
-                  book = ap₂ (bookIn S) (view-purge id j w) there ∙ book-borrowed a j (r .rows) (omega (arith, h .0, h .1, r .same .chunks, small)) clear ∙ r .shows;
-                  none = ap waitsIn (view-purge id j w);
-                }
-
-            ask : Dec (i ≡ id) → Leaves (after (purgeReply S k mark w i a j) (set l i (borrowChunk a j)) stamps)
-            ask (yes e) = subst (λ (x : ℕ). Leaves (after (purgeReply S k mark w x a j) (set l x (borrowChunk a j)) stamps)) (sym e) (own (f e))
-            ask (no d) =
-                rests (set l i (borrowChunk a j)) k (Purging i j w) _ stamps mark (view-purge-other id i j w d)
-                (elsewhere l k i _ d (record { low = low; few = few; long = u; ready = g d }))
-
-    sweeps : (f i : ℕ) (l : List Arena) → length l ≡ 32 → Ready (at l id) → Leaves (sweepFrom S stamps k mark w f i l)
-    unfolding sweepFrom sweptReply
-    sweeps zero i l u r = rests l k Idle _ stamps mark refl (record { low = low; few = few; long = u; ready = r })
-    sweeps (suc f) i l u r =
-        by-cond Leaves (sweepDue (at l i) (w .force) (w .now)) _ _
-        (λ e. visits l i (disarm (at l i)) 0 (sweepFrom S stamps k mark w f (i + 1)) u
-        (λ d. subst (λ (x : ℕ). Ready (disarm (at l x))) (sym d)
-        (record { rows = disarm-rows (at l id) (r .rows); same = disarm-same c (c .chunks) (at l id) (r .same); shows = book-disarmed (at l id) ∙ r .shows }))
-        (λ d. r) (λ m v x. sweeps f (i + 1) m v x))
-        (λ e. sweeps f (i + 1) l u r)
 
 -- an address lies in one arena at most
 pub only-one : (S : ℕ) (l : List Arena) (k i j x : ℕ) → SoundTable S l k → i < k → j < k → isInside S (at l i) x ≡ true → isInside S (at l j) x ≡ true → i ≡ j
@@ -421,10 +214,10 @@ only-one S l k i j x t u v e f = go (ℕ-discrete i j)
 -- ---- what comes of it, where l is the table that the arena is seen in before the call
 
 module _ (S id : ℕ) (l : List Arena) (small : at l id .chunks ≤ 1024) where
-  abbrev shown : Question → Book
+  abbrev pub shown : Question → Book
   shown q = bookIn S (viewOf id q) (at l id)
 
-  passed : (q : Question) (call : Call) (o : Outcome) → waitsIn (viewOf id q) ≡ [] → Is S id l q call o aside → Leaves S id (at l id) small (shown q) o → Does S id l q call o
+  pub passed : (q : Question) (call : Call) (o : Outcome) → waitsIn (viewOf id q) ≡ [] → Is S id l q call o aside → Leaves S id (at l id) small (shown q) o → Does S id l q call o
   passed q call o e is h = record {
     what = still;
     does-it = h .book;
@@ -445,7 +238,7 @@ module _ (S id : ℕ) (l : List Arena) (small : at l id .chunks ≤ 1024) where
 
   -- memory came, and a is its record: who waits goes on in the new table, and a claim "searches once more"
   module _ (old : List Arena) (stamps : List ℕ) (k : ℕ) (mark : Bool) (a : Arena) (h : Stands S id (at l id) small (shown Idle) (withRecord old k a) (suc k)) where
-    resumes : (chunks bytes : ℕ) (commit exclusive : Bool) (waiting : Waiting) (base : ℕ)
+    pub resumes : (chunks bytes : ℕ) (commit exclusive : Bool) (waiting : Waiting) (base : ℕ)
         → Does S id l (Reserving chunks bytes commit exclusive waiting) (answer ForMemory true base) (resume S old stamps k mark a waiting)
     resumes chunks bytes commit exclusive Reserve base =
         passed _ _ _ refl (λ managed. refl) (rests S id (at l id) small (shown Idle) (withRecord old k a) (suc k) Idle _ _ mark refl h)
@@ -501,6 +294,12 @@ module _ (S id : ℕ) (l : List Arena) (stamps : List ℕ) (k : ℕ) (mark : Boo
   same-table : (q : Question) (call : Call) (r : Answer) (m : Bool) → Still S id l q call (after (reply r (stateOf k m q)) l stamps)
       → Does S id l q call (after (reply r (stateOf k m q)) l stamps)
   same-table q call r m why = record { what = still; does-it = refl; because = why; low = low; same = unchanged (at l id) }
+
+  nothing : (q : Question) (call : Call) (r : Answer) → Is S id l q call (after (reply r (stateOf k mark q)) l stamps) aside → Does S id l q call (after (reply r (stateOf k mark q)) l stamps)
+  nothing q call r is = same-table q call r mark (passes is refl (inr refl))
+
+  busy : (q : Question) (call : Call) → isIdle q ≡ false → isAnswer call ≡ false → Does S id l q call (after (turnDown QuestionOpen (stateOf k mark q)) l stamps)
+  busy q call e f = same-table q call _ mark (shut e f refl refl)
 
   -- it is none of the arena's business
   over : (q : Question) (call : Call) (o : Outcome) → waitsIn (viewOf id q) ≡ [] → Is S id l q call o aside → Over q o → Does S id l q call o
@@ -615,6 +414,8 @@ module _ (S id : ℕ) (l : List Arena) (stamps : List ℕ) (k : ℕ) (mark : Boo
               is = refl;
               there = let r : x - at l id .base ≡ s * S + (x - at l id .base) % S = sym (div-add-mod' (x - at l id .base) S) in
                   omega (arith, eqb-true ((x - at l id .base) % S) 0 f, inside-facts S (at l id) x e .from);
+              some = eqb-false m 0 z;
+              room = leb-true (s + m) (at l id .chunks) g;
               feeds = names;
               by-book = unless (eqb m 0) _ _ z ∙ when (eqb ((x - at l id .base) % S) 0) _ _ f ∙ when (leb (s + m) (at l id .chunks)) _ _ g;
               answered = refl;
@@ -749,8 +550,8 @@ module _ (S id : ℕ) (l : List Arena) (stamps : List ℕ) (k : ℕ) (mark : Boo
   answers : (q : Question) (kind : Kind) (accepted : Bool) (base : ℕ) → SoundQuestion l k q → Does S id l q (answer kind accepted base) (answerOf S l stamps k mark q kind accepted base)
   unfolding answerOf isFor
   answers Idle kind accepted base h =
-      by-cond (Does S id l Idle (answer kind accepted base)) (isFor Idle kind) _ _ (λ e. same-table Idle _ _ mark (passes (λ managed. refl) refl (inr refl)))
-      (λ e. same-table Idle _ _ mark (passes (λ managed. refl) refl (inr refl)))
+      by-cond (Does S id l Idle (answer kind accepted base)) (isFor Idle kind) _ _ (λ e. nothing Idle _ _ (λ managed. refl))
+      (λ e. nothing Idle _ _ (λ managed. refl))
   answers (Committing i s m) ForCommit accepted base h = go (ℕ-discrete i id)
     where
       go : Dec (i ≡ id) → Does S id l (Committing i s m) (answer ForCommit accepted base) (answerCommit S l stamps k mark i s m accepted)
@@ -758,14 +559,14 @@ module _ (S id : ℕ) (l : List Arena) (stamps : List ℕ) (k : ℕ) (mark : Boo
       go (yes e) =
           subst (λ (x : ℕ). SoundQuestion l k (Committing x s m) → Does S id l (Committing x s m) (answer ForCommit accepted base) (answerCommit S l stamps k mark x s m accepted)) (sym e)
           (own-commit s m accepted base) h
-  answers (Committing i s m) ForPurge accepted base h = same-table (Committing i s m) _ _ mark (passes (λ managed. refl) refl (inr refl))
-  answers (Committing i s m) ForMemory accepted base h = same-table (Committing i s m) _ _ mark (passes (λ managed. refl) refl (inr refl))
-  answers (Committing i s m) ForGiveBack accepted base h = same-table (Committing i s m) _ _ mark (passes (λ managed. refl) refl (inr refl))
-  answers (Committing i s m) ForNone accepted base h = same-table (Committing i s m) _ _ mark (passes (λ managed. refl) refl (inr refl))
+  answers (Committing i s m) ForPurge accepted base h = nothing (Committing i s m) _ _ (λ managed. refl)
+  answers (Committing i s m) ForMemory accepted base h = nothing (Committing i s m) _ _ (λ managed. refl)
+  answers (Committing i s m) ForGiveBack accepted base h = nothing (Committing i s m) _ _ (λ managed. refl)
+  answers (Committing i s m) ForNone accepted base h = nothing (Committing i s m) _ _ (λ managed. refl)
   answers (Purging i j w) kind accepted base h =
       by-cond (Does S id l (Purging i j w) (answer kind accepted base)) (isFor (Purging i j w) kind) _ _
       (λ e. over (Purging i j w) _ _ (none-waits (eqb i id)) (λ managed. refl) (purge-answer i j w accepted h))
-      (λ e. same-table (Purging i j w) _ _ mark (passes (λ managed. refl) refl (inr refl)))
+      (λ e. nothing (Purging i j w) _ _ (λ managed. refl))
     where
       none-waits : (b : Bool) → waitsIn (cond b (purging j) calm) ≡ []
       none-waits true = refl
@@ -774,178 +575,25 @@ module _ (S id : ℕ) (l : List Arena) (stamps : List ℕ) (k : ℕ) (mark : Boo
       over (Reserving chunks bytes commit exclusive waiting) _ _ refl (λ managed. refl) (fails S id (at l id) small (before Idle) l stamps k mark (stands Idle refl) _ waiting)
   answers (Reserving chunks bytes commit exclusive waiting) ForMemory true base h =
       let q : Question = Reserving chunks bytes commit exclusive waiting in
-      memory-cases S l stamps k mark (Does S id l q (answer ForMemory true base)) chunks bytes commit exclusive waiting base (same-table q _ _ mark (passes (λ managed. refl) refl (inr refl)))
+      memory-cases S l stamps k mark (Does S id l q (answer ForMemory true base)) chunks bytes commit exclusive waiting base (nothing q _ _ (λ managed. refl))
       (λ cause. over q _ _ refl (λ managed. refl) (rests S id (at l id) small _ l k _ _ stamps mark refl (stands Idle refl)))
       (λ d e f u. resumes S id l small l stamps k mark _ (added S id (at l id) small (before Idle) l k _ u (stands Idle refl)) chunks bytes commit exclusive waiting base)
-  answers (Reserving chunks bytes commit exclusive waiting) ForCommit accepted base h = same-table (Reserving chunks bytes commit exclusive waiting) _ _ mark (passes (λ managed. refl) refl (inr refl))
-  answers (Reserving chunks bytes commit exclusive waiting) ForPurge accepted base h = same-table (Reserving chunks bytes commit exclusive waiting) _ _ mark (passes (λ managed. refl) refl (inr refl))
-  answers (Reserving chunks bytes commit exclusive waiting) ForGiveBack accepted base h = same-table (Reserving chunks bytes commit exclusive waiting) _ _ mark (passes (λ managed. refl) refl (inr refl))
-  answers (Reserving chunks bytes commit exclusive waiting) ForNone accepted base h = same-table (Reserving chunks bytes commit exclusive waiting) _ _ mark (passes (λ managed. refl) refl (inr refl))
+  answers (Reserving chunks bytes commit exclusive waiting) ForCommit accepted base h = nothing (Reserving chunks bytes commit exclusive waiting) _ _ (λ managed. refl)
+  answers (Reserving chunks bytes commit exclusive waiting) ForPurge accepted base h = nothing (Reserving chunks bytes commit exclusive waiting) _ _ (λ managed. refl)
+  answers (Reserving chunks bytes commit exclusive waiting) ForGiveBack accepted base h = nothing (Reserving chunks bytes commit exclusive waiting) _ _ (λ managed. refl)
+  answers (Reserving chunks bytes commit exclusive waiting) ForNone accepted base h = nothing (Reserving chunks bytes commit exclusive waiting) _ _ (λ managed. refl)
   answers (GivingBack cause waiting) kind accepted base h =
       by-cond (Does S id l (GivingBack cause waiting) (answer kind accepted base)) (isFor (GivingBack cause waiting) kind) _ _
       (λ e. over (GivingBack cause waiting) _ _ refl (λ managed. refl) (fails S id (at l id) small (before Idle) l stamps k mark (stands Idle refl) _ waiting))
-      (λ e. same-table (GivingBack cause waiting) _ _ mark (passes (λ managed. refl) refl (inr refl)))
+      (λ e. nothing (GivingBack cause waiting) _ _ (λ managed. refl))
 
   -- ---- any call
 
   pub does : (q : Question) (ns : ℕ) (settings : Settings) (call : Call) → SoundQuestion l k q → Does S id l q call (stepOn S l stamps k mark q ns settings call)
   does Idle ns settings (act a) h = acts ns settings a
-  does (Committing i s m) ns settings (act a) h = same-table (Committing i s m) _ _ mark (shut refl refl refl refl)
-  does (Purging i j w) ns settings (act a) h = same-table (Purging i j w) _ _ mark (shut refl refl refl refl)
-  does (Reserving chunks bytes commit exclusive waiting) ns settings (act a) h = same-table (Reserving chunks bytes commit exclusive waiting) _ _ mark (shut refl refl refl refl)
-  does (GivingBack cause waiting) ns settings (act a) h = same-table (GivingBack cause waiting) _ _ mark (shut refl refl refl refl)
-  does q ns settings (query c) h = same-table q _ _ mark (passes (λ managed. refl) refl (inr refl))
+  does (Committing i s m) ns settings (act a) h = busy (Committing i s m) _ refl refl
+  does (Purging i j w) ns settings (act a) h = busy (Purging i j w) _ refl refl
+  does (Reserving chunks bytes commit exclusive waiting) ns settings (act a) h = busy (Reserving chunks bytes commit exclusive waiting) _ refl refl
+  does (GivingBack cause waiting) ns settings (act a) h = busy (GivingBack cause waiting) _ refl refl
+  does q ns settings (query c) h = nothing q _ _ (λ managed. refl)
   does q ns settings (answer kind accepted base) h = answers q kind accepted base h
-
--- ---- how many arenas there are after it: as many, or one more with record a, whose book is opened; it then does to that book what it does to any (a claim
--- that waited may be granted a run in it)
-
-pub data Counts (S : ℕ) (l : List Arena) (k : ℕ) (q : Question) (call : Call) (o : Outcome) : Type 0 where
-  as-many : o .world .state .count ≡ k → Counts S l k q call o
-  one-more : o .world .state .count ≡ suc k → (a : Arena) (dirty : Bool) → bookIn S calm a ≡ opened S (a .base) (a .chunks) dirty → Does S k (withRecord l k a) q call o
-      → Counts S l k q call o
-
--- a new record
-record Made (S : ℕ) (a : Arena) : Type 0 where
-  rows : Rows a
-  few : a .chunks ≤ 1024
-  dirty : Bool
-  opens : bookIn S calm a ≡ opened S (a .base) (a .chunks) dirty
-
-reserved-made : (S base chunks : ℕ) (commit exclusive : Bool) → badCount chunks ≡ false → Made S (reservedArena base chunks commit exclusive)
-unfolding reservedArena newArena
-reserved-made S base chunks commit exclusive e = record {
-  rows = reserved-rows base chunks commit exclusive;
-  few = count-facts chunks e .1;
-  dirty = false;
-  opens = book-reserved base chunks commit exclusive (count-facts chunks e .1);
-}
-
-managed-made : (S base chunks : ℕ) (exclusive : Bool) (node : ℤ) → badCount chunks ≡ false → Made S (managedArena base chunks exclusive node)
-unfolding managedArena newArena
-managed-made S base chunks exclusive node e = record {
-  rows = managed-rows base chunks exclusive node;
-  few = count-facts chunks e .1;
-  dirty = true;
-  opens = book-managed base chunks exclusive node (count-facts chunks e .1);
-}
-
-adopted-made : (S base chunks : ℕ) → badCount chunks ≡ false → Made S (adoptedArena base chunks)
-unfolding adoptedArena newArena
-adopted-made S base chunks e =
-    record { rows = adopted-rows base chunks; few = count-facts chunks e .1; dirty = true; opens = book-adopted base chunks (count-facts chunks e .1) }
-
--- what finds, sweeps and releases registers nothing
-module _ (S : ℕ) (k : ℕ) (mark : Bool) where
-  abbrev Many : Outcome → Type 0
-  Many o = o .world .state .count ≡ k
-
-  search-count : (l : List Arena) (stamps : List ℕ) (id : ℤ) (n : ℕ) (commits : Bool) (missed : Reply) → missed .state .count ≡ k → Many (searchOf S l stamps k mark id n commits missed)
-  search-count l stamps id n commits missed e =
-      search-cases S l stamps k mark Many id n commits missed (λ f. e) (λ i u f. grant-cases S l stamps k mark Many i n commits (λ g. refl) (λ s g. refl) (λ s g. refl))
-
-  claim-count : (l : List Arena) (stamps : List ℕ) (id : ℤ) (n : ℕ) (commits : Bool) (settings : Settings) → Many (claimOf S l stamps k mark id n commits settings)
-  unfolding askMemory
-  claim-count l stamps id n commits settings =
-      claim-cases S l stamps k mark Many id n commits settings (λ e. refl) (λ e f. refl)
-      (λ e f. search-count l stamps id n commits _ (miss-cases S l stamps k mark Many id n commits settings refl refl refl))
-
-  release-count : (l : List Arena) (stamps : List ℕ) (x m : ℕ) (tell : Commitment) (pending : Bool) (now delay : ℕ) → Many (releaseOf S l stamps k mark x m tell pending now delay)
-  release-count l stamps x m tell pending now delay =
-      release-cases S l stamps k mark Many m tell pending now delay x (λ e. refl) (λ e f. refl)
-      (λ i e u f. release-in-cases S l stamps k mark Many m tell pending now delay i _ (λ g. refl) (λ g v. refl) (λ g v. refl))
-
-  module _ (stamps : List ℕ) (w : Sweep) where
-    visit-count : (l : List Arena) (i : ℕ) (a : Arena) (from : ℕ) (rest : List Arena → Outcome) → ((m : List Arena) → Many (rest m)) → Many (visit S stamps k mark w l i a from rest)
-    unfolding visit purgeReply
-    visit-count l i a from rest next = go (nextAsked a (stampsOf stamps i) (w .force) (w .now) (w .delay) from)
-      where
-        go : (f : Found) → Many (visitAt S stamps k mark w l i a rest f)
-        go (At j) = refl
-        go Nothing = next _
-
-    sweep-count : (f i : ℕ) (l : List Arena) → Many (sweepFrom S stamps k mark w f i l)
-    unfolding sweepFrom sweptReply
-    sweep-count zero i l = refl
-    sweep-count (suc f) i l =
-        by-cond Many (sweepDue (at l i) (w .force) (w .now)) _ _ (λ e. visit-count l i _ 0 _ (λ m. sweep-count f (i + 1) m)) (λ e. sweep-count f (i + 1) l)
-
-module _ (S : ℕ) (l : List Arena) (stamps : List ℕ) (k : ℕ) (mark : Bool) (t : SoundTable S l k) where
-  -- the table with the new record
-  module _ (a : Arena) (m : Made S a) (room : k < 32) where
-    there : at (withRecord l k a) k ≡ a
-    there = at-same l k a (omega (arith, room, t .long))
-
-    new-small : at (withRecord l k a) k .chunks ≤ 1024
-    new-small = subst (λ (x : Arena). x .chunks ≤ 1024) (sym there) (m .few)
-
-    new-stands : Stands S k (at (withRecord l k a) k) new-small (shown S k (withRecord l k a) new-small Idle) (withRecord l k a) (suc k)
-    new-stands = record {
-      low = omega arith;
-      few = room;
-      long = length-set l k a ∙ t .long;
-      ready = record { rows = subst Rows (sym there) (m .rows); same = unchanged _; shows = refl };
-    }
-
-  registers : (call : Call) (chunks : ℕ) (a : Arena) → ((x : Place) → role x Idle call ≡ aside) → (badCount chunks ≡ false → Made S a) → Counts S l k Idle call (register l stamps k mark chunks a)
-  registers call chunks a is made =
-      register-cases S l stamps k mark (Counts S l k Idle call) chunks a (as-many refl) (as-many refl)
-      (λ e f. let m = made e in
-      one-more refl a (m .dirty) (m .opens) (passed S k (withRecord l k a) (new-small a m f) Idle call _ refl (λ managed. is _)
-      (rests S k _ (new-small a m f) _ (withRecord l k a) (suc k) Idle _ _ mark refl (new-stands a m f))))
-
-  act-counts : (ns : ℕ) (settings : Settings) (a : Act) → Counts S l k Idle (act a) (actOn S l stamps k mark Idle ns settings a)
-  unfolding askMemory
-  act-counts ns settings (reserve size commit large exclusive) =
-      reserve-cases S l stamps k mark (Counts S l k Idle _) size commit large exclusive (settings .page) (as-many refl) (as-many refl)
-  act-counts ns settings (manage start size exclusive node mapped reserved) =
-      manage-cases S l stamps k mark (Counts S l k Idle _) start size exclusive node mapped reserved (as-many refl) (as-many refl) (as-many refl)
-      (λ g. registers _ _ _ (λ x. refl) (managed-made S _ _ exclusive node))
-  act-counts ns settings (adopt address size) =
-      adopt-cases S l stamps k mark (Counts S l k Idle _) address size (as-many refl) (as-many refl) (as-many refl) (λ i w u e. as-many refl)
-      (λ w. registers _ _ _ (λ x. refl) (adopted-made S address (size / S)))
-  act-counts ns settings (claim id n commits) = as-many (claim-count S k mark l stamps id n commits settings)
-  act-counts ns settings (release x n tell pending) = as-many (release-count S k mark l stamps x n tell pending _ _)
-  act-counts ns settings (sweep force) = as-many (sweep-count S k mark stamps _ k 0 l)
-
-  fail-counts : (q : Question) (call : Call) (why : Refusal) (waiting : Waiting) → Counts S l k q call (after (failReply k mark why waiting) l stamps)
-  fail-counts q call why Reserve = as-many refl
-  fail-counts q call why (Claim n commits) = as-many refl
-
-  resume-count : (a : Arena) (waiting : Waiting) → Many S (suc k) mark (resume S l stamps k mark a waiting)
-  resume-count a Reserve = refl
-  resume-count a (Claim n commits) =
-      let g : Again S l stamps k mark a n commits = again S l stamps k mark a n commits in
-      subst (Many S (suc k) mark) (sym (g .is)) (search-count S (suc k) mark (withRecord l k a) (withStamps stamps k) (g .id) n commits _ refl)
-
-  answer-counts : (q : Question) (kind : Kind) (accepted : Bool) (base : ℕ) → Counts S l k q (answer kind accepted base) (answerOf S l stamps k mark q kind accepted base)
-  unfolding answerOf isFor
-  answer-counts Idle kind accepted base = by-cond (Counts S l k Idle _) (isFor Idle kind) _ _ (λ e. as-many refl) (λ e. as-many refl)
-  answer-counts (Committing i s m) kind true base = by-cond (Counts S l k _ _) (isFor (Committing i s m) kind) _ _ (λ e. as-many refl) (λ e. as-many refl)
-  answer-counts (Committing i s m) kind false base = by-cond (Counts S l k _ _) (isFor (Committing i s m) kind) _ _ (λ e. as-many refl) (λ e. as-many refl)
-  answer-counts (Purging i j w) kind accepted base =
-      by-cond (Counts S l k _ _) (isFor (Purging i j w) kind) _ _
-      (λ e. as-many (visit-count S k mark stamps (counted w accepted) l i _ (j + 1) _ (λ m. sweep-count S k mark stamps (counted w accepted) _ _ m))) (λ e. as-many refl)
-  answer-counts (Reserving chunks bytes commit exclusive waiting) ForMemory false base = fail-counts _ _ _ waiting
-  answer-counts (Reserving chunks bytes commit exclusive waiting) ForMemory true base =
-      memory-cases S l stamps k mark (Counts S l k (Reserving chunks bytes commit exclusive waiting) (answer ForMemory true base)) chunks bytes commit exclusive waiting base (as-many refl)
-      (λ cause. as-many refl)
-      (λ d e f u. let a : Arena = reservedArena base chunks commit exclusive in
-      let m : Made S a = reserved-made S base chunks commit exclusive e in
-      one-more (resume-count a waiting) a (m .dirty) (m .opens)
-      (resumes S k (withRecord l k a) (new-small a m u) l stamps k mark a (new-stands a m u) chunks bytes commit exclusive waiting base))
-  answer-counts (Reserving chunks bytes commit exclusive waiting) ForCommit accepted base = as-many refl
-  answer-counts (Reserving chunks bytes commit exclusive waiting) ForPurge accepted base = as-many refl
-  answer-counts (Reserving chunks bytes commit exclusive waiting) ForGiveBack accepted base = as-many refl
-  answer-counts (Reserving chunks bytes commit exclusive waiting) ForNone accepted base = as-many refl
-  answer-counts (GivingBack cause waiting) kind accepted base =
-      by-cond (Counts S l k _ _) (isFor (GivingBack cause waiting) kind) _ _ (λ e. fail-counts _ _ _ waiting) (λ e. as-many refl)
-
-  pub counts : (q : Question) (ns : ℕ) (settings : Settings) (call : Call) → Counts S l k q call (stepOn S l stamps k mark q ns settings call)
-  counts Idle ns settings (act a) = act-counts ns settings a
-  counts (Committing i s m) ns settings (act a) = as-many refl
-  counts (Purging i j w) ns settings (act a) = as-many refl
-  counts (Reserving chunks bytes commit exclusive waiting) ns settings (act a) = as-many refl
-  counts (GivingBack cause waiting) ns settings (act a) = as-many refl
-  counts q ns settings (query c) = as-many refl
-  counts q ns settings (answer kind accepted base) = answer-counts q kind accepted base

@@ -3,18 +3,17 @@ use mathlib.Core.Path.{_≡_, refl, sym, ap, ap₂, _∙_, subst}
 use mathlib.Core.Bool.{Bool, true, false, not, _&&_, true≢false}
 use mathlib.Core.List.{List}
 use mathlib.Core.Logic.{_↔_}
-use Prim.Native.Nat.{ℕ, suc, _+_, _%_, _*_, _≤_, _<_}
+use Prim.Native.Nat.{ℕ, suc, _%_, _*_}
 use native.Mathlib.Omega.{arith}
-use borrow.Author.Tests.{eq-eqb, ne-eqb, eqb-true, not-true, lt-leb}
+use borrow.Author.Tests.{eq-eqb, ne-eqb, not-true, lt-leb}
 use lib.Dec.{eqb, leb}
 use lib.IntN.{ℤ, pos, negsuc}
 use Rattle.words.specs.Bits.{bitAt}
-use Rattle.words.proofs.Tests.{by-cond, when, unless}
+use Rattle.words.proofs.Tests.{when, unless}
 use Rattle.runs.specs.declared.Found.{Found}
 use Rattle.runs.specs.declared.Found.the-variants.{At, Nothing}
 use Rattle.runs.specs.Lowest.{Starts, Lowest}
 use Rattle.runs.proofs.LowestLaws.{lowest-says}
-use Rattle.runs.proofs.SearchLaws.{and-both}
 use Rattle.options.specs.Options.{arenaAllowed}
 use Rattle.arena.specs.declared.Arena.{Arena}
 use Rattle.arena.specs.Registering.{reservedArena}
@@ -26,14 +25,14 @@ use Rattle.layer.specs.declared.Question.the-variants.{Idle, Reserving}
 use Rattle.layer.specs.declared.Waiting.the-variants.{Claim}
 use Rattle.layer.specs.declared.Kind.the-variants.{ForMemory}
 use Rattle.layer.specs.declared.Reply.{Reply}
-use Rattle.layer.specs.World.{World, Outcome, turnDown, after, calm}
+use Rattle.layer.specs.World.{World, Outcome, turnDown, calm}
 use Rattle.layer.specs.Table.{at, isAt, badRange, sound}
 use Rattle.layer.specs.Registering.{askMemory, badCount, withRecord, withStamps}
 use Rattle.layer.specs.Claiming.{eligible, serves, missReply, searchOf, claimOf}
-use Rattle.layer.specs.Answering.{isFor, resume, answerMemory, answerOf}
+use Rattle.layer.specs.Answering.{isFor, answerMemory, answerOf}
 use Rattle.layer.specs.Step.{claim, Call, act, answer, stepOn, rules, step}
-use Rattle.layer.specs.History.{Registrable}
 use Rattle.layer.specs.Ten.{Eligible, ClearFrom, NoneHas, IsMiss, TenExactly, TenAfterMemory}
+use Rattle.layer.proofs.Rules.{served-eligible, served-found}
 use Rattle.layer.proofs.Cases.{grant-cases, search-cases, miss-cases}
 use Rattle.layer.proofs.Plain.{some-chunk, not-12, not-6}
 use Rattle.layer.proofs.Trails.{S}
@@ -45,11 +44,6 @@ unfolding eligible
 eligible-test (pos x) i a e = eq-eqb i x e
 eligible-test (negsuc x) i a e = ap not e
 
-eligible-fact : (id : ℤ) (i : ℕ) (a : Arena) → eligible id i a ≡ true → Eligible id i a
-unfolding eligible
-eligible-fact (pos x) i a e = eqb-true i x e
-eligible-fact (negsuc x) i a e = not-true (a .exclusive) e
-
 clear-starts : (a : Arena) (n s : ℕ) → ClearFrom a n s → Starts (free a) (a .chunks) n s
 clear-starts a n s h = record { room = h .0; all-free = λ j lo hi. ap not (h .1 j lo hi) }
 
@@ -58,10 +52,8 @@ starts-clear a n s h = (h .room, λ j lo hi. not-true (bitAt (a .used) j) (h .al
 
 module _ (id : ℤ) (n : ℕ) (l : List Arena) (i : ℕ) where
   serves-run : serves id n l i ≡ true → Eligible id i (at l i) × ((s : ℕ) × ClearFrom (at l i) n s)
-  unfolding serves findRun
-  serves-run e =
-      let b = and-both (eligible id i (at l i)) _ e in
-      (eligible-fact id i (at l i) (b .0), go (findRun (at l i) n) (lowest-says (free (at l i)) (at l i .chunks) n) (b .1))
+  unfolding findRun
+  serves-run e = (served-eligible id n l i e, go (findRun (at l i) n) (lowest-says (free (at l i)) (at l i .chunks) n) (served-found id n l i e))
     where
       go : (f : Found) → Lowest (free (at l i)) (at l i .chunks) n f → isAt f ≡ true → (s : ℕ) × ClearFrom (at l i) n s
       go (At s) low e = (s, starts-clear (at l i) n s (low .0))
@@ -87,11 +79,8 @@ module _ (l : List Arena) (stamps : List ℕ) (k : ℕ) (mark : Bool) (id : ℤ)
       (λ none. ((λ _ i h e s c. true≢false (sym (run-serves id n l i e s c) ∙ none i h)), (λ _. is-miss)))
       (λ i h e. let r = serves-run id n l i e in
       let found : NoneHas id n l k → ⊥ = λ none. none i h (r .0) (r .1 .0) (r .1 .1) in
-      grant-cases S l stamps k mark Exactly i n commits (λ f. absurd (true≢false (sym (served i e) ∙ ap isAt f)))
+      grant-cases S l stamps k mark Exactly i n commits (λ f. absurd (true≢false (sym (served-found id n l i e) ∙ ap isAt f)))
       (λ s f. ((λ m. absurd m), (λ none. absurd (found none)))) (λ s f. ((λ m. absurd m), (λ none. absurd (found none)))))
-    where
-      served : (i : ℕ) → serves id n l i ≡ true → isAt (findRun (at l i) n) ≡ true
-      served i e = unfold serves in and-both (eligible id i (at l i)) _ e .1
 
 -- ---- the claim, and the answer that goes on with one
 

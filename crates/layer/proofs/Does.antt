@@ -27,9 +27,9 @@ use Rattle.arena.specs.declared.Arena.{Arena}
 use Rattle.arena.specs.declared.Commitment.{Commitment}
 use Rattle.arena.specs.Registering.{grownArena}
 use Rattle.arena.specs.Claiming.{findRun, giveBackRun}
-use Rattle.arena.specs.Sweeping.{returnChunk}
 use Rattle.lookup.specs.Place.{bytesOf, endOf, isInside}
 use Rattle.lookup.proofs.PlaceLaws.{Within, inside-facts}
+use Rattle.lookup.specs.Rows.{Rows}
 use Rattle.lookup.proofs.SoundLaws.{never}
 use Rattle.lookup.proofs.Changes.{return-rows}
 use Rattle.layer.specs.declared.Settings.{Settings}
@@ -47,6 +47,7 @@ use Rattle.layer.specs.Table.{at, isAt}
 use Rattle.layer.specs.Registering.{withRecord, withStamps, grows as growsBy}
 use Rattle.layer.specs.Claiming.{eligible, serves, missReply, claimOf}
 use Rattle.layer.specs.Releasing.{releaseIn, releaseOf}
+use Rattle.layer.specs.Sweeping.{visit, sweepFrom}
 use Rattle.layer.specs.Answering.{isFor, counted, resume, answerCommit, answerPurge, answerOf}
 use Rattle.layer.specs.Step.{Act, reserve, manage, adopt, claim, release, sweep, Call, act, query, answer, actOn, stepOn}
 use Rattle.layer.specs.Ten.{Eligible}
@@ -210,6 +211,25 @@ only-one S l k i j x t u v e f = go (ℕ-discrete i j)
     go : Dec (i ≡ j) → i ≡ j
     go (yes d) = d
     go (no d) = ⊎-elim (λ (m : i < j). absurd (apart i j m v e f)) (λ (m : j ≤ i). absurd (apart j i (omega (arith, d)) u f e)) (lt-or-le i j)
+
+-- an answer to a purge question: the sweep goes on from a record that shows the book without the borrowed chunk
+record Returned (S : ℕ) (l : List Arena) (stamps : List ℕ) (k : ℕ) (mark : Bool) (i j : ℕ) (w : Sweep) (accepted : Bool) : Type 0 where
+  back : Arena
+  is : answerPurge S l stamps k mark i j w accepted
+      ≡ visit S stamps k mark (counted w accepted) l i back (j + 1) (sweepFrom S stamps k mark (counted w accepted) (k - (i + 1)) (i + 1))
+  shows : bookIn S calm back ≡ bookIn S (purging j) (at l i)
+  rows : Rows back
+  same : Same (at l i) (at l i .chunks) back
+
+returned : (S : ℕ) (l : List Arena) (stamps : List ℕ) (k : ℕ) (mark : Bool) → SoundTable S l k → (i j : ℕ) (w : Sweep) (accepted : Bool) → SoundQuestion l k (Purging i j w)
+    → Returned S l stamps k mark i j w accepted
+returned S l stamps k mark t i j w accepted h = record {
+  back = _;
+  is = refl;
+  shows = book-returned (at l i) j accepted (w .decommit) (t .rows i (h .0)) (omega (arith, h .1, t .each i (h .0) .range .few));
+  rows = return-rows (at l i) j accepted (w .decommit) (t .rows i (h .0));
+  same = return-same (at l i) (at l i .chunks) (at l i) (unchanged (at l i)) j accepted (w .decommit);
+}
 
 -- ---- what comes of it, where l is the table that the arena is seen in before the call
 
@@ -534,18 +554,18 @@ module _ (S id : ℕ) (l : List Arena) (stamps : List ℕ) (k : ℕ) (mark : Boo
   -- the chunk comes back, and the sweep goes on
   purge-answer : (i j : ℕ) (w : Sweep) (accepted : Bool) → SoundQuestion l k (Purging i j w) → Over (Purging i j w) (answerPurge S l stamps k mark i j w accepted)
   purge-answer i j w accepted h =
-      visits S id (at l id) small (before (Purging i j w)) stamps k mark (counted w accepted) low (t .few) l i back (j + 1) _ (t .long)
+      subst (Over (Purging i j w)) (sym (r .is))
+      (visits S id (at l id) small (before (Purging i j w)) stamps k mark (counted w accepted) low (t .few) l i (r .back) (j + 1) _ (t .long)
       (λ e. record {
-        rows = return-rows (at l i) j accepted (w .decommit) (t .rows i (h .0));
-        same = subst (λ (x : ℕ). Same (at l x) (at l x .chunks) back) e (return-same _ _ _ (unchanged (at l i)) j accepted (w .decommit));
-        shows = book-returned (at l i) j accepted (w .decommit) (t .rows i (h .0)) (omega (arith, h .1, t .each i (h .0) .range .few))
-            ∙ ap₂ (λ (x : View) (y : ℕ). bookIn S x (at l y)) (sym (ap (λ (x : ℕ). viewOf id (Purging x j w)) e ∙ view-purge id j w)) e;
+        rows = r .rows;
+        same = subst (λ (x : ℕ). Same (at l x) (at l x .chunks) (r .back)) e (r .same);
+        shows = r .shows ∙ ap₂ (λ (x : View) (y : ℕ). bookIn S x (at l y)) (sym (ap (λ (x : ℕ). viewOf id (Purging x j w)) e ∙ view-purge id j w)) e;
       })
       (λ d. stands (Purging i j w) (view-purge-other id i j w d) .ready)
-      (λ m u x. sweeps S id (at l id) small (before (Purging i j w)) stamps k mark (counted w accepted) low (t .few) _ _ m u x)
+      (λ m u x. sweeps S id (at l id) small (before (Purging i j w)) stamps k mark (counted w accepted) low (t .few) _ _ m u x))
     where
-      back : Arena
-      back = returnChunk (at l i) j accepted (w .decommit)
+      r : Returned S l stamps k mark i j w accepted
+      r = returned S l stamps k mark t i j w accepted h
 
   answers : (q : Question) (kind : Kind) (accepted : Bool) (base : ℕ) → SoundQuestion l k q → Does S id l q (answer kind accepted base) (answerOf S l stamps k mark q kind accepted base)
   unfolding answerOf isFor

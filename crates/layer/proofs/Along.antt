@@ -58,6 +58,7 @@ pub data Given (S i base s n : ℕ) (o : Outcome) : Type 0 where
 
 -- ---- an arena along a call: c is its record before it, and B the book that is shown
 
+-- where no claim waits nothing is owed
 pub none-owed : (S : ℕ) (v : View) (a : Arena) → waitsIn v ≡ [] → owedIn S v a ≡ []
 none-owed S calm a e = refl
 none-owed S (committing s n) a e = let z : _≡_ {A = ℕ} 0 1 = cc in absurd (omega arith)
@@ -70,6 +71,7 @@ module _ (S id : ℕ) (c : Arena) (small : c .chunks ≤ 1024) (B : Book) where
     pub same : Same c (c .chunks) a
     pub shows : bookIn S calm a ≡ B
 
+  -- a table of k arenas in which the arena is such
   pub record Stands (l : List Arena) (k : ℕ) : Type 0 where
     pub low : id < k
     pub few : k ≤ 32
@@ -91,6 +93,7 @@ module _ (S id : ℕ) (c : Arena) (small : c .chunks ≤ 1024) (B : Book) where
     pub given : Given S id (c .base) s m o
     pub says : claimed B m (At s) .say ∷ [] ≡ said (o .answer) ++ owedIn S (viewOf id (o .world .state .question)) (at (o .world .records) id)
 
+  -- that table is left, with no question about the arena
   pub rests : (l : List Arena) (k : ℕ) (q : Question) (r : Answer) (stamps : List ℕ) (mark : Bool) → viewOf id q ≡ calm → Stands l k
       → Leaves (after (reply r (stateOf k mark q)) l stamps)
   rests l k q r stamps mark e h =
@@ -112,15 +115,19 @@ module _ (S id : ℕ) (c : Arena) (small : c .chunks ≤ 1024) (B : Book) where
 
   -- ---- claims
   module _ (l : List Arena) (stamps : List ℕ) (k : ℕ) (mark : Bool) (h : Stands l k) where
+    -- the arena's record after a store
     here : (a : Arena) → at (set l id a) id ≡ a
     here a = at-same l id a (omega (arith, h .low, h .few, h .long))
 
+    -- a run that was found ends inside its maps
     fits : (m s : ℕ) → findRun (at l id) m ≡ At s → s + m ≤ 1024
     fits m s e = omega (arith, found-inside (at l id) m s e, h .ready .same .chunks, small)
 
+    -- what the book says of it is what the record's book says
     told : (m s : ℕ) → claimed B m (At s) .say ≡ claimed (bookIn S calm (at l id)) m (At s) .say
     told m s = ap (λ (b : Book). claimed b m (At s) .say) (sym (h .ready .shows))
 
+    -- the run is granted, or its commit asked for
     granted-run : (m s : ℕ) → findRun (at l id) m ≡ At s → Takes m s (granting S l stamps k mark id m s)
     granted-run m s e =
         let there : at (set l id (dirtyRun (takeRun (at l id) s m) s m)) id ≡ dirtyRun (takeRun (at l id) s m) s m = here _ in
@@ -143,6 +150,7 @@ module _ (S id : ℕ) (c : Arena) (small : c .chunks ≤ 1024) (B : Book) where
           says = ap (λ (x : Say). x ∷ []) (told m s ∙ say-fresh S (at l id) s m) ∙ sym (ap₂ (owedIn S) (view-commit id s m) there ∙ owed-taken S (at l id) s m);
         }
 
+    -- another arena's run
     grants : (i m : ℕ) (commits : Bool) → (i ≡ id → ⊥) → Leaves (grantFound S l stamps k mark i m commits (findRun (at l i) m))
     grants i m commits d =
         grant-cases S l stamps k mark Leaves i m commits (λ e. rests l k Idle _ stamps mark refl h)
@@ -202,6 +210,7 @@ module _ (S id : ℕ) (c : Arena) (small : c .chunks ≤ 1024) (B : Book) where
 
   -- ---- sweeps: many stores, and at most one question
   module _ (stamps : List ℕ) (k : ℕ) (mark : Bool) (w : Sweep) (low : id < k) (few : k ≤ 32) where
+    -- what holds of the record that is stored or of the one that was there
     by-store : (P : Arena → Type 0) (l : List Arena) (i : ℕ) (a : Arena) → length l ≡ 32 → (i ≡ id → P a) → ((i ≡ id → ⊥) → P (at l id)) → P (at (set l i a) id)
     by-store P l i a u f g = go (ℕ-discrete i id)
       where

@@ -77,6 +77,7 @@ pub record Undone (s n : ℕ) (b b′ : Book) : Type 0 where
   pub frees : (j : ℕ) → b′ .held j ≡ unhold b s n .held j
   pub again : hold b′ s n ≡ b
 
+-- the book before and after it
 abbrev pub changed : Change → Book → Book → Type 0
 changed still b b′ = b′ ≡ b
 changed (holds s n) b b′ = b′ ≡ hold b s n
@@ -94,14 +95,16 @@ chunksAfter (grows n) m = m + n
 
 -- ---- by which call, and what is answered
 
--- arena i of table l, where question q is open
+-- arena i of table l, where question q is open, before the call and after it
 module _ (S i : ℕ) (l : List Arena) (q : Question) (call : Call) (o : Outcome) where
+  -- its book
   abbrev pub bookBefore : Book
   bookBefore = bookIn S (viewOf i q) (at l i)
 
   abbrev pub bookAfter : Book
   bookAfter = bookIn S (viewOf i (o .world .state .question)) (at (o .world .records) i)
 
+  -- the grant that waits for its yes
   abbrev pub owedBefore : List Say
   owedBefore = owedIn S (viewOf i q) (at l i)
 
@@ -234,9 +237,11 @@ returned S l stamps k mark t i j w accepted h = record {
 -- ---- what comes of it, where l is the table that the arena is seen in before the call
 
 module _ (S id : ℕ) (l : List Arena) (small : at l id .chunks ≤ 1024) where
+  -- the arena's book
   abbrev pub shown : Question → Book
   shown q = bookIn S (viewOf id q) (at l id)
 
+  -- the call passes the arena over
   pub passed : (q : Question) (call : Call) (o : Outcome) → waitsIn (viewOf id q) ≡ [] → Is S id l q call o aside → Leaves S id (at l id) small (shown q) o → Does S id l q call o
   passed q call o e is h = record {
     what = still;
@@ -246,6 +251,7 @@ module _ (S id : ℕ) (l : List Arena) (small : at l id .chunks ≤ 1024) where
     same = h .same;
   }
 
+  -- it takes a run of it
   taken : (q : Question) (call : Call) (o : Outcome) (m s : ℕ) → Claims S id l q call o m → lowestRun (unheld (shown q)) (shown q .chunks) m ≡ At s
       → Takes S id (at l id) small (shown q) m s o → Does S id l q call o
   taken q call o m s by e h = record {
@@ -289,9 +295,11 @@ module _ (S id : ℕ) (l : List Arena) (small : at l id .chunks ≤ 1024) where
 -- ---- one call: arena id is below the count of a sound table
 
 module _ (S id : ℕ) (l : List Arena) (stamps : List ℕ) (k : ℕ) (mark : Bool) (t : SoundTable S l k) (low : id < k) where
+  -- its maps have a bit for each of its chunks
   small : at l id .chunks ≤ 1024
   small = t .each id low .range .few
 
+  -- its book before the call, and an outcome that leaves it
   abbrev before : Question → Book
   before q = shown S id l small q
 
@@ -307,6 +315,7 @@ module _ (S id : ℕ) (l : List Arena) (stamps : List ℕ) (k : ℕ) (mark : Boo
     ready = record { rows = t .rows id low; same = unchanged (at l id); shows = ap (λ (x : View). bookIn S x (at l id)) (sym e) };
   }
 
+  -- its record after a store
   stored : (a : Arena) → at (set l id a) id ≡ a
   stored a = at-same l id a (omega (arith, low, t .long, t .few))
 
@@ -315,9 +324,11 @@ module _ (S id : ℕ) (l : List Arena) (stamps : List ℕ) (k : ℕ) (mark : Boo
       → Does S id l q call (after (reply r (stateOf k m q)) l stamps)
   same-table q call r m why = record { what = still; does-it = refl; because = why; low = low; same = unchanged (at l id) }
 
+  -- and that is nothing to the arena
   nothing : (q : Question) (call : Call) (r : Answer) → Is S id l q call (after (reply r (stateOf k mark q)) l stamps) aside → Does S id l q call (after (reply r (stateOf k mark q)) l stamps)
   nothing q call r is = same-table q call r mark (passes is refl (inr refl))
 
+  -- row 2: a question is open
   busy : (q : Question) (call : Call) → isIdle q ≡ false → isAnswer call ≡ false → Does S id l q call (after (turnDown QuestionOpen (stateOf k mark q)) l stamps)
   busy q call e f = same-table q call _ mark (shut e f refl refl)
 
@@ -329,6 +340,7 @@ module _ (S id : ℕ) (l : List Arena) (stamps : List ℕ) (k : ℕ) (mark : Boo
   quiet : (r : Answer) → Over Idle (after (reply r (stateOf k mark Idle)) l stamps)
   quiet r = rests S id (at l id) small (before Idle) l k Idle r stamps mark refl (stands Idle refl)
 
+  -- what the book turns down is turned down
   turned : (call : Call) (f : Fed) (why : Refusal) → Is S id l Idle call (after (turnDown why (stateOf k mark Idle)) l stamps) (feeding (f ∷ []))
       → enter (before Idle) f ≡ turn (refused (number why)) (before Idle) → Does S id l Idle call (after (turnDown why (stateOf k mark Idle)) l stamps)
   turned call f why is e = same-table Idle call (Refused why) mark (turned-down f why is refl e refl refl)
@@ -393,6 +405,7 @@ module _ (S id : ℕ) (l : List Arena) (stamps : List ℕ) (k : ℕ) (mark : Boo
 
   -- ---- releases
 
+  -- whether an address is in the range, by the record
   release-role : (x m : ℕ) (tell : Commitment) (pending b : Bool) → isInside S (at l id) x ≡ b → (managed : Bool)
       → role (record { id = id; size = S; base = at l id .base; chunks = at l id .chunks; managed = managed }) Idle (act (release x m tell pending)) ≡ feeding (cond b (releases x m ∷ []) [] ++ [])
   unfolding inRange isInside endOf bytesOf
@@ -445,7 +458,7 @@ module _ (S id : ℕ) (l : List Arena) (stamps : List ℕ) (k : ℕ) (mark : Boo
             same = subst (Same (at l id) (at l id .chunks)) (sym (stored _)) (release-same _ _ _ (unchanged (at l id)) s m tell pending now delay);
           })
 
-  -- ---- adopting
+  -- ---- adopting: the arena that ends at the block
 
   grown : (address size : ℕ) → size % S ≡ 0 → growsBy S (at l id) address (size / S) ≡ true
       → Does S id l Idle (act (adopt address size)) (after (reply (Registered id) (stateOf k mark Idle)) (set l id (grownArena (at l id) (size / S))) stamps)
@@ -567,6 +580,7 @@ module _ (S id : ℕ) (l : List Arena) (stamps : List ℕ) (k : ℕ) (mark : Boo
       r : Returned S l stamps k mark i j w accepted
       r = returned S l stamps k mark t i j w accepted h
 
+  -- row 3, and each question's own
   answers : (q : Question) (kind : Kind) (accepted : Bool) (base : ℕ) → SoundQuestion l k q → Does S id l q (answer kind accepted base) (answerOf S l stamps k mark q kind accepted base)
   unfolding answerOf isFor
   answers Idle kind accepted base h =

@@ -77,12 +77,15 @@ module _ (S p id b n : ℕ) (managed : Bool) where
         is-role : role there q c ≡ role (record { id = id; size = S; base = at l id .base; chunks = at l id .chunks; managed = managed }) q c
         is-role = ap₂ (λ (x y : ℕ). role (record { id = id; size = S; base = x; chunks = y; managed = managed }) q c) (sym (v .stays .base)) (sym (v .stays .chunks))
 
+        -- it is not shared
         shared : at l id .exclusive ≡ false → ⊥
         shared e = true≢false (sym (v .stays .exclusive) ∙ e)
 
+        -- nothing is owed where no question is open
         no-debt : (x : Question) (a : Arena) → x ≡ Idle → owedIn S (viewOf id x) a ≡ []
         no-debt x a e = ap (λ (y : Question). owedIn S (viewOf id y) a) e
 
+        -- the invariant after it
         inv : id < o .world .state .count → Same (at l id) (at l id .chunks) record′ → Mine p (askerAfter q who z) (viewOf id later)
             → Inv S p id b n (o .world .records) (o .world .state .count) later (askerAfter q who z)
         inv low s m = record {
@@ -91,6 +94,7 @@ module _ (S p id b n : ℕ) (managed : Bool) where
           mine = m;
         }
 
+        -- what the call is to the arena, put in its place
         fits : (r : Role) → role there q c ≡ r → Fits S p id b n l q who z r o → Fits S p id b n l q who z (role there q c) o
         fits r is f = subst (λ (x : Role). Fits S p id b n l q who z x o) (sym is) f
 
@@ -103,6 +107,7 @@ module _ (S p id b n : ℕ) (managed : Bool) where
         asker-kept : later ≡ q → Mine p (askerAfter q who z) (viewOf id later)
         asker-kept e = subst (λ (x : Question). Mine p (askerAfter q who z) (viewOf id x)) (sym e) (mine-kept p id q who z (v .mine))
 
+        -- no claim waits there that did not wait before
         whose : (waitsIn (viewOf id later) ≡ []) ⊎ (later ≡ q) → Mine p (askerAfter q who z) (viewOf id later)
         whose (inl e) = mine-none p (askerAfter q who z) (viewOf id later) e
         whose (inr e) = asker-kept e
@@ -112,6 +117,7 @@ module _ (S p id b n : ℕ) (managed : Bool) where
         none-fed [] f g e = refl
         none-fed (x ∷ xs) f g e = absurd (true≢false (sym (ap isIdle (g (f refl))) ∙ e))
 
+        -- so a call that comes while a question is open is nothing to it
         gated : (x : Call) → isAnswer x ≡ false → (isNone (fedOf (role there q x)) ≡ false → who ≡ p) → (who ≡ p → isAnswer x ≡ false → q ≡ Idle) → isIdle q ≡ false
             → role there q x ≡ aside
         gated (act a) e f g u = ap feeding (none-fed (feeds there (entriesOf a)) f (λ w. g w e) u)
@@ -130,6 +136,7 @@ module _ (S p id b n : ℕ) (managed : Bool) where
               says = ap (λ (ws : List Say). ws ++ (enter before f .say ∷ [])) (no-debt q (at l id) i) ∙ ap (λ (y : Turn). y .say ∷ []) e ∙ says;
             })
 
+        -- each change: a claim is not undone, and the arena does not grow
         by : (what : Change) → changed what before (bookIn S (viewOf id later) record′) → Because S id l q c o what → id < o .world .state .count
             → Same (at l id) (chunksAfter what (at l id .chunks)) record′ → Fits S p id b n l q who z (role there q c) o
         by still e (passes is owed none) low s = left (is-role ∙ is managed) e owed (inv low s (whose none))

@@ -7,6 +7,9 @@ pub mod Stepped
 pub mod Shown
 pub mod View
 pub mod Cases
+pub mod Along
+pub mod Does
+pub mod Counts
 pub mod Keeps
 pub mod Outcomes
 pub mod Asked

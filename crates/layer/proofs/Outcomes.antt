@@ -55,7 +55,7 @@ use Rattle.layer.proofs.Registered.{good-range, new-table, reserved-row
 use Rattle.layer.specs.History.{isBroken}
 use Rattle.layer.specs.Demand.{chunksOf}
 use Rattle.layer.proofs.Cases.{grant-cases, search-cases, miss-cases, claim-cases, release-in-cases, release-cases, reserve-cases, register-cases, manage-cases, adopt-cases, memory-cases}
-use Rattle.layer.proofs.Keeps.{only-one}
+use Rattle.layer.proofs.Does.{only-one}
 
 -- ---- no address lies in two arenas
 

@@ -13,12 +13,14 @@ use Rattle.arena.specs.declared.Arena.{Arena}
 use Rattle.arena.specs.Flags.{isOn}
 use Rattle.arena.specs.Claiming.{findRun}
 use Rattle.lookup.specs.Place.{endOf}
+use Rattle.lookup.proofs.SoundLaws.{never}
 use Rattle.layer.specs.declared.Waiting.the-variants.{Claim}
 use Rattle.layer.specs.World.{turnDown, calm}
 use Rattle.layer.specs.Table.{at, isAt}
 use Rattle.layer.specs.Registering.{grows, badCount, withRecord, withStamps}
 use Rattle.layer.specs.Claiming.{eligible, serves, searchOf}
 use Rattle.layer.specs.Answering.{answerCommit, resume}
+use Rattle.layer.specs.Ten.{Eligible}
 use Rattle.layer.proofs.Tools.{or-false, at-other}
 
 -- ---- claims
@@ -46,6 +48,16 @@ not-shared x n l i j e f d =
 pub served-named : (x n : ℕ) (l : List Arena) (i : ℕ) → serves (pos x) n l i ≡ true → i ≡ x
 served-named x n l i f = named-only x i (at l i) (serves-eligible (pos x) n l i f)
 
+-- in the words of refusal 10
+pub served-eligible : (id : ℤ) (n : ℕ) (l : List Arena) (i : ℕ) → serves id n l i ≡ true → Eligible id i (at l i)
+served-eligible (pos x) n l i e = served-named x n l i e
+served-eligible (negsuc x) n l i e = never (isOn (at l i .exclusive)) (λ f. not-shared x n l i i f e refl)
+
+-- what serves a claim has the run
+pub served-found : (id : ℤ) (n : ℕ) (l : List Arena) (i : ℕ) → serves id n l i ≡ true → isAt (findRun (at l i) n) ≡ true
+unfolding serves
+served-found id n l i e = and-both (eligible id i (at l i)) (isAt (findRun (at l i) n)) e .1
+
 -- ---- growth
 
 -- an exclusive arena does not grow
@@ -69,6 +81,10 @@ grows-facts S a address n g =
     go o true p q = λ g. absurd (true≢false (sym g ∙ never-grows S a address n q))
     go true false p q = rw q (rw p (λ g. (refl, g)))
     go false false p q = rw q (rw p (λ g. absurd (true≢false (sym g))))
+
+pub grows-owned : (S : ℕ) (a : Arena) (address n : ℕ) → grows S a address n ≡ true → isOn (a .owned) ≡ true
+unfolding grows
+grows-owned S a address n g = and-both (isOn (a .owned)) _ g .0
 
 -- ---- answers
 

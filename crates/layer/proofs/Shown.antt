@@ -108,6 +108,24 @@ Mine p z calm = Unit {0}
 Mine p z (committing s n) = z ≡ p
 Mine p z (purging c) = Unit {0}
 
+-- n chunks more, not held and touched
+abbrev pub grow : Book → ℕ → Book
+grow b n =
+    record {
+      size = b .size;
+      base = b .base;
+      chunks = b .chunks + n;
+      held = λ j. not (within (b .chunks) n j) && b .held j;
+      touched = λ j. within (b .chunks) n j || b .touched j;
+    }
+
+-- what no call changes of a record c; n chunks it has now
+pub record Same (c : Arena) (n : ℕ) (a : Arena) : Type 0 where
+  pub base : a .base ≡ c .base
+  pub chunks : a .chunks ≡ n
+  pub exclusive : a .exclusive ≡ c .exclusive
+  pub owned : a .owned ≡ c .owned
+
 -- what does not change of the record of an exclusive arena of n chunks from b on
 pub record Stays (b n : ℕ) (a : Arena) : Type 0 where
   pub exclusive : isOn (a .exclusive) ≡ true

@@ -5,7 +5,7 @@ use mathlib.Core.List.{List}
 use mathlib.Core.Logic.{_↔_}
 use Prim.Native.Nat.{ℕ, suc, _%_, _*_}
 use native.Mathlib.Omega.{arith}
-use borrow.Author.Tests.{eq-eqb, ne-eqb, eqb-true, not-true, lt-leb}
+use borrow.Author.Tests.{eq-eqb, ne-eqb, not-true, lt-leb}
 use lib.Dec.{eqb, leb}
 use lib.IntN.{ℤ, pos, negsuc}
 use Rattle.words.specs.Bits.{bitAt}
@@ -14,10 +14,8 @@ use Rattle.runs.specs.declared.Found.{Found}
 use Rattle.runs.specs.declared.Found.the-variants.{At, Nothing}
 use Rattle.runs.specs.Lowest.{Starts, Lowest}
 use Rattle.runs.proofs.LowestLaws.{lowest-says}
-use Rattle.runs.proofs.SearchLaws.{and-both}
 use Rattle.options.specs.Options.{arenaAllowed}
 use Rattle.arena.specs.declared.Arena.{Arena}
-use Rattle.arena.specs.Flags.{isOn}
 use Rattle.arena.specs.Registering.{reservedArena}
 use Rattle.arena.specs.Claiming.{free, findRun}
 use Rattle.refusals.specs.declared.Refusal.the-variants.{NoRun}
@@ -33,6 +31,7 @@ use Rattle.layer.specs.Claiming.{eligible, serves, missReply, searchOf, 
 use Rattle.layer.specs.Answering.{isFor, answerMemory, answerOf}
 use Rattle.layer.specs.Step.{claim, act, answer, step}
 use Rattle.layer.specs.Ten.{Eligible, ClearFrom, NoneHas, IsMiss, TenExactly, TenAfterMemory}
+use Rattle.layer.proofs.Rules.{served-eligible, served-found}
 use Rattle.layer.proofs.Cases.{grant-cases, search-cases, miss-cases}
 use Rattle.layer.proofs.Plain.{some-chunk, not-12, not-6, passes}
 use Rattle.layer.proofs.Trails.{S}
@@ -44,11 +43,6 @@ unfolding eligible
 eligible-test (pos x) i a e = eq-eqb i x e
 eligible-test (negsuc x) i a e = ap not e
 
-eligible-fact : (id : ℤ) (i : ℕ) (a : Arena) → eligible id i a ≡ true → Eligible id i a
-unfolding eligible
-eligible-fact (pos x) i a e = eqb-true i x e
-eligible-fact (negsuc x) i a e = not-true (isOn (a .exclusive)) e
-
 clear-starts : (a : Arena) (n s : ℕ) → ClearFrom a n s → Starts (free a) (a .chunks) n s
 clear-starts a n s h = record { room = h .0; all-free = λ j lo hi. ap not (h .1 j lo hi) }
 
@@ -57,10 +51,8 @@ starts-clear a n s h = (h .room, λ j lo hi. not-true (bitAt (a .used) j) (h .al
 
 module _ (id : ℤ) (n : ℕ) (l : List Arena) (i : ℕ) where
   serves-run : serves id n l i ≡ true → Eligible id i (at l i) × ((s : ℕ) × ClearFrom (at l i) n s)
-  unfolding serves findRun
-  serves-run e =
-      let b = and-both (eligible id i (at l i)) _ e in
-      (eligible-fact id i (at l i) (b .0), go (findRun (at l i) n) (lowest-says (free (at l i)) (at l i .chunks) n) (b .1))
+  unfolding findRun
+  serves-run e = (served-eligible id n l i e, go (findRun (at l i) n) (lowest-says (free (at l i)) (at l i .chunks) n) (served-found id n l i e))
     where
       go : (f : Found) → Lowest (free (at l i)) (at l i .chunks) n f → isAt f ≡ true → (s : ℕ) × ClearFrom (at l i) n s
       go (At s) low e = (s, starts-clear (at l i) n s (low .0))
@@ -86,11 +78,8 @@ module _ (l : List Arena) (stamps : List ℕ) (k : ℕ) (mark : Bool) (id : ℤ)
       (λ none. ((λ _ i h e s c. true≢false (sym (run-serves id n l i e s c) ∙ none i h)), (λ _. is-miss)))
       (λ i h e. let r = serves-run id n l i e in
       let found : NoneHas id n l k → ⊥ = λ none. none i h (r .0) (r .1 .0) (r .1 .1) in
-      grant-cases S l stamps k mark Exactly i n commits (λ f. absurd (true≢false (sym (served i e) ∙ ap isAt f)))
+      grant-cases S l stamps k mark Exactly i n commits (λ f. absurd (true≢false (sym (served-found id n l i e) ∙ ap isAt f)))
       (λ s f. ((λ m. absurd m), (λ none. absurd (found none)))) (λ s f. ((λ m. absurd m), (λ none. absurd (found none)))))
-    where
-      served : (i : ℕ) → serves id n l i ≡ true → isAt (findRun (at l i) n) ≡ true
-      served i e = unfold serves in and-both (eligible id i (at l i)) _ e .1
 
 -- ---- the claim, and the answer that goes on with one
 

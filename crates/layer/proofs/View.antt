@@ -14,19 +14,19 @@ use Rattle.runs.specs.declared.Found.the-variants.{At, Nothing}
 use Rattle.arena.specs.declared.Arena.{Arena}
 use Rattle.arena.specs.declared.Commitment.{Commitment}
 use Rattle.arena.specs.declared.Commitment.the-variants.{Untold, Committed, Uncommitted}
-use Rattle.arena.specs.Flags.{isOn}
-use Rattle.arena.specs.Registering.{noBits, eachBit, newArena, reservedArena, managedArena}
+use Rattle.arena.specs.Registering.{noBits, eachBit, newArena, reservedArena, managedArena, adoptedArena, grownArena}
 use Rattle.arena.specs.Claiming.{runFresh, takeRun, giveBackRun, commitRun, dirtyRun, finishGrant}
 use Rattle.arena.specs.Releasing.{tellRun, pendRun, releaseRun}
 use Rattle.arena.specs.Sweeping.{disarm, borrowChunk, unpendChunk, returnChunk, nextWait, rearmAt, rearm}
 use Rattle.lookup.specs.Rows.{Rows}
 use Rattle.lookup.proofs.RowLaws.{bit-write, no-bits-row, no-bits}
-use Rattle.lookup.proofs.Changes.{take-used, dirty-dirty, finish-dirty, release-used, release-dirty}
+use Rattle.lookup.proofs.SoundLaws.{Past}
+use Rattle.lookup.proofs.Changes.{take-used, give-back-used, dirty-dirty, finish-dirty, release-used, release-dirty}
 use Rattle.layer.specs.declared.Sweep.{Sweep}
 use Rattle.layer.specs.declared.Question.the-variants.{Committing, Purging}
 use Rattle.layer.proofs.Kept.{take-range, release-range}
 use Rattle.layer.specs.Book.{Book, granted, opened, hold, unhold, claimed}
-use Rattle.layer.proofs.Shown.{calm, committing, purging, viewOf, owedIn, bookIn, Stays}
+use Rattle.layer.proofs.Shown.{calm, committing, purging, viewOf, owedIn, bookIn, grow, Same}
 
 -- ---- a written bit, in the book's words
 
@@ -88,6 +88,19 @@ module _ (a : Arena) (s n : ℕ) (r : Rows a) (h : s + n ≤ 1024) where
       book-same _ _ refl (release-range a s n told pending now delay .0) (release-range a s n told pending now delay .1)
       (λ j. release-used a s n r h j told pending now delay ∙ clear-and (within s n j) (bitAt (a .used) j))
       (λ j. ap (λ (ws : List ℕ). bitAt ws j) (release-dirty a s n told pending now delay))
+
+  -- the no: what it frees, and the book before it
+  pub freed-held : (j : ℕ) → bitAt (giveBackRun a s n .used) j ≡ not (within s n j) && bitAt (a .used) j
+  freed-held j = give-back-used a s n r h j ∙ clear-and (within s n j) (bitAt (a .used) j)
+
+  pub book-freed : {S : ℕ} → ((j : ℕ) → s ≤ j → j < s + n → bitAt (a .used) j ≡ true) → hold (bookIn S calm (giveBackRun a s n)) s n ≡ bookIn S (committing s n) a
+  unfolding giveBackRun
+  book-freed e = book-same _ _ refl refl refl (λ j. ap (λ (b : Bool). within s n j || b) (freed-held j) ∙ go j (stands s n j)) (λ j. refl)
+    where
+      go : (j : ℕ) → Stands s n j → within s n j || (not (within s n j) && bitAt (a .used) j) ≡ bitAt (a .used) j
+      go j (before p) = ap (λ (t : Bool). t || (not t && bitAt (a .used) j)) (within-before s n j p)
+      go j (after p) = ap (λ (t : Bool). t || (not t && bitAt (a .used) j)) (within-after s n j p)
+      go j (inside p q) = ap (λ (t : Bool). t || (not t && bitAt (a .used) j)) (within-yes s n j p q) ∙ sym (e j p q)
 
 -- what a claim is told: the book's fresh is the record's
 pub say-fresh : (S : ℕ) (a : Arena) (s n : ℕ) → claimed (bookIn S calm a) n (At s) .say ≡ granted (a .base + s * S) (runFresh a s n)
@@ -168,56 +181,76 @@ pub book-managed : {S : ℕ} → (base chunks : ℕ) (exclusive : Bool) (node : 
 unfolding managedArena
 book-managed base chunks exclusive node h = book-new base chunks exclusive false node true true h
 
--- ---- what a change leaves of an arena's range, and that it is exclusive
+pub book-adopted : {S : ℕ} → (base chunks : ℕ) → chunks ≤ 1024 → bookIn S calm (adoptedArena base chunks) ≡ opened S base chunks true
+unfolding adoptedArena
+book-adopted base chunks h = book-new base chunks false true _ true true h
 
-module _ (b m : ℕ) (a : Arena) (x : Stays b m a) where
-  pub take-stays : (s n : ℕ) → Stays b m (takeRun a s n)
+-- growth: no bit of a map is set past the last chunk
+pub book-grown : {S : ℕ} → (a : Arena) (n : ℕ) → Rows a → a .chunks + n ≤ 1024 → Past (a .chunks) (a .used) → bookIn S calm (grownArena a n) ≡ grow (bookIn S calm a) n
+unfolding grownArena
+book-grown a n r h past =
+    book-same _ _ refl refl refl (λ j. go j (stands (a .chunks) n j)) (λ j. bit-write true (a .dirty) (a .chunks) n (r .dirty) h j ∙ set-or (within (a .chunks) n j) (bitAt (a .dirty) j))
+  where
+    go : (j : ℕ) → Stands (a .chunks) n j → bitAt (a .used) j ≡ not (within (a .chunks) n j) && bitAt (a .used) j
+    go j (before p) = sym (ap (λ (t : Bool). not t && bitAt (a .used) j) (within-before (a .chunks) n j p))
+    go j (after p) = sym (ap (λ (t : Bool). not t && bitAt (a .used) j) (within-after (a .chunks) n j p))
+    go j (inside p q) = past j p (omega arith) ∙ sym (ap (λ (t : Bool). not t && bitAt (a .used) j) (within-yes (a .chunks) n j p q))
+
+-- ---- what a change leaves of an arena's range and flags
+
+pub unchanged : (a : Arena) → Same a (a .chunks) a
+unchanged a = record { base = refl; chunks = refl; exclusive = refl; owned = refl }
+
+module _ (old : Arena) (m : ℕ) (a : Arena) (x : Same old m a) where
+  pub take-same : (s n : ℕ) → Same old m (takeRun a s n)
   unfolding takeRun
-  take-stays s n = record { exclusive = x .exclusive; base = x .base; chunks = x .chunks }
+  take-same s n = record { base = x .base; chunks = x .chunks; exclusive = x .exclusive; owned = x .owned }
 
-  pub dirty-stays : (s n : ℕ) → Stays b m (dirtyRun a s n)
+  pub dirty-same : (s n : ℕ) → Same old m (dirtyRun a s n)
   unfolding dirtyRun
-  dirty-stays s n = record { exclusive = x .exclusive; base = x .base; chunks = x .chunks }
+  dirty-same s n = record { base = x .base; chunks = x .chunks; exclusive = x .exclusive; owned = x .owned }
 
-  pub finish-stays : (s n : ℕ) (commit : Bool) → Stays b m (finishGrant a s n commit)
+  pub finish-same : (s n : ℕ) (commit : Bool) → Same old m (finishGrant a s n commit)
   unfolding finishGrant dirtyRun commitRun
-  finish-stays s n true = record { exclusive = x .exclusive; base = x .base; chunks = x .chunks }
-  finish-stays s n false = record { exclusive = x .exclusive; base = x .base; chunks = x .chunks }
+  finish-same s n true = record { base = x .base; chunks = x .chunks; exclusive = x .exclusive; owned = x .owned }
+  finish-same s n false = record { base = x .base; chunks = x .chunks; exclusive = x .exclusive; owned = x .owned }
 
-  pub release-stays : (s n : ℕ) (told : Commitment) (pending : Bool) (now delay : ℕ) → Stays b m (releaseRun a s n told pending now delay)
-  release-stays s n told pending now delay = record {
-    exclusive = ap isOn (same told pending) ∙ x .exclusive;
-    base = release-range a s n told pending now delay .0 ∙ x .base;
-    chunks = release-range a s n told pending now delay .1 ∙ x .chunks;
-  }
-    where
-      same : (told : Commitment) (pending : Bool) → releaseRun a s n told pending now delay .exclusive ≡ a .exclusive
-      same Untold true = unfold releaseRun pendRun tellRun giveBackRun in refl
-      same Untold false = unfold releaseRun pendRun tellRun giveBackRun in refl
-      same Committed true = unfold releaseRun pendRun tellRun giveBackRun in refl
-      same Committed false = unfold releaseRun pendRun tellRun giveBackRun in refl
-      same Uncommitted true = unfold releaseRun pendRun tellRun giveBackRun in refl
-      same Uncommitted false = unfold releaseRun pendRun tellRun giveBackRun in refl
+  pub give-back-same : (s n : ℕ) → Same old m (giveBackRun a s n)
+  unfolding giveBackRun
+  give-back-same s n = record { base = x .base; chunks = x .chunks; exclusive = x .exclusive; owned = x .owned }
 
-  pub disarm-stays : Stays b m (disarm a)
+  pub release-same : (s n : ℕ) (told : Commitment) (pending : Bool) (now delay : ℕ) → Same old m (releaseRun a s n told pending now delay)
+  unfolding releaseRun pendRun tellRun giveBackRun
+  release-same s n Untold true now delay = record { base = x .base; chunks = x .chunks; exclusive = x .exclusive; owned = x .owned }
+  release-same s n Untold false now delay = record { base = x .base; chunks = x .chunks; exclusive = x .exclusive; owned = x .owned }
+  release-same s n Committed true now delay = record { base = x .base; chunks = x .chunks; exclusive = x .exclusive; owned = x .owned }
+  release-same s n Committed false now delay = record { base = x .base; chunks = x .chunks; exclusive = x .exclusive; owned = x .owned }
+  release-same s n Uncommitted true now delay = record { base = x .base; chunks = x .chunks; exclusive = x .exclusive; owned = x .owned }
+  release-same s n Uncommitted false now delay = record { base = x .base; chunks = x .chunks; exclusive = x .exclusive; owned = x .owned }
+
+  pub disarm-same : Same old m (disarm a)
   unfolding disarm
-  disarm-stays = record { exclusive = x .exclusive; base = x .base; chunks = x .chunks }
+  disarm-same = record { base = x .base; chunks = x .chunks; exclusive = x .exclusive; owned = x .owned }
 
-  pub borrow-stays : (c : ℕ) → Stays b m (borrowChunk a c)
+  pub borrow-same : (c : ℕ) → Same old m (borrowChunk a c)
   unfolding borrowChunk
-  borrow-stays c = take-stays c 1
+  borrow-same c = take-same c 1
 
-  pub return-stays : (c : ℕ) (agreed decommit : Bool) → Stays b m (returnChunk a c agreed decommit)
+  pub return-same : (c : ℕ) (agreed decommit : Bool) → Same old m (returnChunk a c agreed decommit)
   unfolding returnChunk unpendChunk giveBackRun tellRun
-  return-stays c true true = record { exclusive = x .exclusive; base = x .base; chunks = x .chunks }
-  return-stays c true false = record { exclusive = x .exclusive; base = x .base; chunks = x .chunks }
-  return-stays c false decommit = record { exclusive = x .exclusive; base = x .base; chunks = x .chunks }
+  return-same c true true = record { base = x .base; chunks = x .chunks; exclusive = x .exclusive; owned = x .owned }
+  return-same c true false = record { base = x .base; chunks = x .chunks; exclusive = x .exclusive; owned = x .owned }
+  return-same c false decommit = record { base = x .base; chunks = x .chunks; exclusive = x .exclusive; owned = x .owned }
 
-  pub rearm-stays : (stamps : List ℕ) (force : Bool) (now delay : ℕ) → Stays b m (rearm a stamps force now delay)
+  pub rearm-same : (stamps : List ℕ) (force : Bool) (now delay : ℕ) → Same old m (rearm a stamps force now delay)
   unfolding rearm
-  rearm-stays stamps true now delay = x
-  rearm-stays stamps false now delay = go (nextWait a stamps now delay)
+  rearm-same stamps true now delay = x
+  rearm-same stamps false now delay = go (nextWait a stamps now delay)
     where
-      go : (f : Found) → Stays b m (rearmAt a now f)
-      go (At w) = record { exclusive = x .exclusive; base = x .base; chunks = x .chunks }
+      go : (f : Found) → Same old m (rearmAt a now f)
+      go (At w) = record { base = x .base; chunks = x .chunks; exclusive = x .exclusive; owned = x .owned }
       go Nothing = x
+
+  pub grown-same : (n : ℕ) → Same old (m + n) (grownArena a n)
+  unfolding grownArena
+  grown-same n = record { base = x .base; chunks = ap (λ (z : ℕ). z + n) (x .chunks); exclusive = x .exclusive; owned = x .owned }

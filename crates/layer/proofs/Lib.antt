@@ -20,4 +20,5 @@ pub mod Ten
 pub mod Demand
 pub mod Consequences
 pub mod Questions
+pub mod Standing
 pub mod Elsewhere

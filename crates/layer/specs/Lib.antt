@@ -11,3 +11,4 @@ pub mod History
 pub mod Demand
 pub mod Ten
 pub mod Questions
+pub mod Standing

@@ -1,0 +1,188 @@
+-- As many arenas stand after a call, or one more, the one that the call asked for. Assumes nothing.
+use mathlib.Core.Path.{_≡_, refl, sym, ap, _∙_, subst}
+use mathlib.Core.Bool.{Bool, true, false}
+use mathlib.Core.List.{List}
+use mathlib.Core.Logic.{_⊎_, inl, inr}
+use Prim.Native.Nat.{ℕ, zero, suc, _+_, _-_, _*_, _/_, _%_, _<_, _≤_}
+use native.Mathlib.Omega.{arith}
+use native.Mathlib.Decide.{ℕ-discrete}
+use lib.Dec.{eqb}
+use lib.IntN.{ℤ}
+use lib.ListN.{length, set, length-set}
+use borrow.Author.Tests.{eqb-true}
+use Rattle.refusals.specs.declared.Refusal.{Refusal}
+use Rattle.refusals.specs.declared.Refusal.the-variants.{MemoryRefused}
+use Rattle.words.proofs.Tests.{by-cond}
+use Rattle.runs.specs.declared.Found.{Found}
+use Rattle.runs.specs.declared.Found.the-variants.{At, Nothing}
+use Rattle.runs.proofs.SearchLaws.{and-both}
+use Rattle.arena.specs.declared.Arena.{Arena}
+use Rattle.arena.specs.Flags.{isOn}
+use Rattle.arena.specs.Registering.{newArena, reservedArena, managedArena, adoptedArena}
+use Rattle.arena.specs.Claiming.{takeRun, dirtyRun}
+use Rattle.arena.specs.Sweeping.{sweepDue, disarm, nextAsked}
+use Rattle.arena.proofs.FlagLaws.{flag-read}
+use Rattle.purge.specs.Stamps.{stampsOf}
+use Rattle.layer.specs.declared.Settings.{Settings}
+use Rattle.layer.specs.declared.Sweep.{Sweep}
+use Rattle.layer.specs.declared.Question.{Question}
+use Rattle.layer.specs.declared.Question.the-variants.{Idle, Committing, Purging, Reserving, GivingBack}
+use Rattle.layer.specs.declared.Waiting.{Waiting}
+use Rattle.layer.specs.declared.Waiting.the-variants.{Reserve, Claim}
+use Rattle.layer.specs.declared.Kind.{Kind}
+use Rattle.layer.specs.World.{Outcome, after}
+use Rattle.layer.specs.Table.{at, soundLent}
+use Rattle.layer.specs.Registering.{chunksFor, askMemory, register, withRecord, withStamps, firstWhole, pastWhole}
+use Rattle.layer.specs.Sweeping.{purgeReply, sweptReply, visitAt, visit, sweepFrom}
+use Rattle.layer.specs.Answering.{isFor, causeRefusal, counted, failReply, resume, answerTo, answerOf}
+use Rattle.layer.specs.Step.{Act, reserve, manage, adopt, claim, release, sweep, Call, act, query, answer, sweepOf, actOn, stepOn, step}
+use Rattle.layer.specs.Standing.{Brought, AskedFor, NoneUnasked}
+use Rattle.layer.proofs.Tools.{at-same, at-other}
+use Rattle.layer.proofs.Rules.{Again, again, count-facts}
+use Rattle.layer.proofs.Cases.{grant-cases, search-cases, miss-cases, claim-cases, release-in-cases, release-cases, reserve-cases, register-cases, manage-cases, adopt-cases, memory-cases}
+use Rattle.layer.proofs.Plain.{passes}
+use Rattle.layer.proofs.Trails.{S}
+
+-- a change that leaves the range and the flag
+abbrev Kept : Arena → Arena → Type 0
+Kept a c = (c .base ≡ a .base) × (c .chunks ≡ a .chunks) × (c .exclusive ≡ a .exclusive)
+
+taken-kept : (a : Arena) (s n : ℕ) → Kept a (takeRun a s n)
+unfolding takeRun
+taken-kept a s n = (refl, refl, refl)
+
+granted-kept : (a : Arena) (s n : ℕ) → Kept a (dirtyRun (takeRun a s n) s n)
+unfolding takeRun dirtyRun
+granted-kept a s n = (refl, refl, refl)
+
+module _ (l : List Arena) (stamps : List ℕ) (k : ℕ) (mark : Bool) (long : length l ≡ 32) where
+  -- as many, or the one more that A says
+  abbrev Stands : (Arena → Type 0) → Outcome → Type 0
+  Stands A o = (o .world .state .count ≡ k) ⊎ ((o .world .state .count ≡ suc k) × A (at (o .world .records) k))
+
+  register-stands : (A : Arena → Type 0) (chunks : ℕ) (a : Arena) → (1 ≤ chunks → A a) → Stands A (register l stamps k mark chunks a)
+  register-stands A chunks a h =
+      register-cases S l stamps k mark (Stands A) chunks a (inl refl) (inl refl)
+      (λ e f. inr (refl, subst A (sym (at-same l k a (omega (arith, long)))) (h (count-facts chunks e .0))))
+
+  module _ (A : Arena → Type 0) (w : Sweep) where
+    visit-stands : (l : List Arena) (i : ℕ) (a : Arena) (from : ℕ) (rest : List Arena → Outcome) → ((m : List Arena) → Stands A (rest m)) → Stands A (visit S stamps k mark w l i a from rest)
+    unfolding visit purgeReply
+    visit-stands l i a from rest go-on = go (nextAsked a (stampsOf stamps i) (w .force) (w .now) (w .delay) from)
+      where
+        go : (f : Found) → Stands A (visitAt S stamps k mark w l i a rest f)
+        go (At j) = inl refl
+        go Nothing = go-on _
+
+    sweep-stands : (f i : ℕ) (l : List Arena) → Stands A (sweepFrom S stamps k mark w f i l)
+    unfolding sweepFrom sweptReply
+    sweep-stands zero i l = inl refl
+    sweep-stands (suc f) i l =
+        by-cond (Stands A) (sweepDue (at l i) (w .force) (w .now)) _ _ (λ e. visit-stands l i (disarm (at l i)) 0 (sweepFrom S stamps k mark w f (i + 1)) (λ m. sweep-stands f (i + 1) m)) (λ e. sweep-stands f (i + 1) l)
+
+  -- the whole chunks of a managed range lie in it
+  managed-asked : (from size : ℕ) (exclusive : Bool) (node : ℤ) (chunks : ℕ) → (pastWhole S from size - firstWhole S from) / S ≡ chunks → 1 ≤ chunks
+      → let a = managedArena (firstWhole S from) chunks exclusive node in (from ≤ a .base) × (a .base + a .chunks * S ≤ from + size) × (isOn (a .exclusive) ≡ exclusive)
+  unfolding managedArena newArena chunksFor
+  managed-asked from size exclusive node chunks e some =
+      let d : ((from + size) / 33554432 * 33554432 - (from + (33554432 - 1)) / 33554432 * 33554432) / 33554432 ≡ chunks = e in
+      (omega arith, omega arith, flag-read exclusive)
+
+  adopted-asked : (address size : ℕ) → size % S ≡ 0 → let a = adoptedArena address (size / S) in (a .base ≡ address) × (a .chunks * S ≡ size) × (isOn (a .exclusive) ≡ false)
+  unfolding adoptedArena newArena
+  adopted-asked address size e = (refl, let d : size % 33554432 ≡ 0 = e in omega arith, refl)
+
+  act-stands : (q : Question) (ns : ℕ) (settings : Settings) (a : Act) → Stands (AskedFor S q (act a)) (actOn S l stamps k mark q ns settings a)
+  unfolding askMemory
+  act-stands q ns settings (reserve size commit large exclusive) = reserve-cases S l stamps k mark (Stands (λ a. ⊥)) size commit large exclusive (settings .page) (inl refl) (inl refl)
+  act-stands q ns settings (manage start size exclusive node mapped reserved) =
+      manage-cases S l stamps k mark (Stands (AskedFor S q (act (manage start size exclusive node mapped reserved)))) start size exclusive node mapped reserved (inl refl) (inl refl) (inl refl)
+      (λ e. register-stands (AskedFor S q (act (manage start size exclusive node mapped reserved))) _ _ (managed-asked start size exclusive node _ refl))
+  act-stands q ns settings (adopt address size) =
+      adopt-cases S l stamps k mark (Stands (AskedFor S q (act (adopt address size)))) address size (inl refl) (inl refl) (inl refl) (λ i w u e. inl refl)
+      (λ w. register-stands (AskedFor S q (act (adopt address size))) _ _ (λ s. adopted-asked address size (w .2)))
+  act-stands q ns settings (claim id n commits) =
+      claim-cases S l stamps k mark (Stands (λ a. ⊥)) id n commits settings (λ e. inl refl) (λ e f. inl refl)
+      (λ e f. search-cases S l stamps k mark (Stands (λ a. ⊥)) id n commits _ (λ g. miss-cases S l stamps k mark (Stands (λ a. ⊥)) id n commits settings (inl refl) (inl refl) (inl refl))
+      (λ i h g. grant-cases S l stamps k mark (Stands (λ a. ⊥)) i n commits (λ _. inl refl) (λ s _. inl refl) (λ s _. inl refl)))
+  act-stands q ns settings (release x n told pending) =
+      release-cases S l stamps k mark (Stands (λ a. ⊥)) n told pending _ _ x (λ e. inl refl) (λ e f. inl refl)
+      (λ i e u f. release-in-cases S l stamps k mark (Stands (λ a. ⊥)) n told pending _ _ i _ (λ g. inl refl) (λ g v. inl refl) (λ g v. inl refl))
+  act-stands q ns settings (sweep force) = sweep-stands (λ a. ⊥) (sweepOf force ns settings) k 0 l
+
+  -- ---- answers
+
+  fail-stands : (A : Arena → Type 0) (why : Refusal) (waiting : Waiting) → Stands A (after (failReply k mark why waiting) l stamps)
+  fail-stands A why Reserve = inl refl
+  fail-stands A why (Claim n commits) = inl refl
+
+  module _ (base chunks : ℕ) (commit exclusive : Bool) (room : k < 32) where
+    abbrev new : Arena
+    new = reservedArena base chunks commit exclusive
+
+    abbrev Is : Arena → Type 0
+    Is a = (a .base ≡ base) × (a .chunks ≡ chunks) × (isOn (a .exclusive) ≡ exclusive)
+
+    is-new : Is new
+    unfolding reservedArena newArena
+    is-new = (refl, refl, flag-read exclusive)
+
+    here : Is (at (withRecord l k new) k)
+    here = subst Is (sym (at-same l k new (omega (arith, long)))) is-new
+
+    -- a run taken in any of the arenas leaves what the new one is
+    taken : (i : ℕ) (c : Arena) → i < suc k → Kept (at (withRecord l k new) i) c → Is (at (set (withRecord l k new) i c) k)
+    taken i c h kept = go (ℕ-discrete k i)
+      where
+        go : Dec (k ≡ i) → Is (at (set (withRecord l k new) i c) k)
+        go (no d) = subst Is (sym (at-other (withRecord l k new) i k c d)) here
+        go (yes d) =
+            subst Is (sym (ap (at (set (withRecord l k new) i c)) d ∙ at-same (withRecord l k new) i c (omega (arith, length-set l k new, long))))
+            (let at-i : Is (at (withRecord l k new) i) = subst (λ (j : ℕ). Is (at (withRecord l k new) j)) d here in
+            (kept .0 ∙ at-i .0, kept .1 ∙ at-i .1, ap isOn (kept .2) ∙ at-i .2))
+
+    resume-stands : (waiting : Waiting) → Stands Is (resume S l stamps k mark new waiting)
+    resume-stands Reserve = inr (refl, here)
+    resume-stands (Claim n commits) =
+        let g : Again S l stamps k mark new n commits = again S l stamps k mark new n commits in
+        subst (Stands Is) (sym (g .is))
+        (search-cases S (withRecord l k new) (withStamps stamps k) (suc k) mark (Stands Is) (g .id) n commits _ (λ _. inr (refl, here))
+        (λ i h f. grant-cases S (withRecord l k new) (withStamps stamps k) (suc k) mark (Stands Is) i n commits (λ _. inr (refl, here))
+        (λ s _. inr (refl, taken i (dirtyRun (takeRun (at (withRecord l k new) i) s n) s n) h (granted-kept (at (withRecord l k new) i) s n)))
+        (λ s _. inr (refl, taken i (takeRun (at (withRecord l k new) i) s n) h (taken-kept (at (withRecord l k new) i) s n)))))
+
+  answer-stands : (q : Question) (kind : Kind) (accepted : Bool) (base : ℕ) → Stands (Brought base q) (answerOf S l stamps k mark q kind accepted base)
+  unfolding answerOf
+  answer-stands q kind accepted base = by-cond (Stands (Brought base q)) (isFor q kind) _ _ (λ e. go q accepted) (λ e. inl refl)
+    where
+      go : (p : Question) (accepted : Bool) → Stands (Brought base p) (answerTo S l stamps k mark p accepted base)
+      go Idle accepted = inl refl
+      go (Committing i s n) true = inl refl
+      go (Committing i s n) false = inl refl
+      go (Purging i j w) accepted = visit-stands (λ a. ⊥) (counted w accepted) l i _ _ _ (λ m. sweep-stands (λ a. ⊥) (counted w accepted) (k - (i + 1)) (i + 1) m)
+      go (Reserving chunks bytes commit exclusive waiting) false = fail-stands (Brought base (Reserving chunks bytes commit exclusive waiting)) MemoryRefused waiting
+      go (Reserving chunks bytes commit exclusive waiting) true =
+          memory-cases S l stamps k mark (Stands (Brought base (Reserving chunks bytes commit exclusive waiting))) chunks bytes commit exclusive waiting base (inl refl) (λ cause. inl refl)
+          (λ d e f u. resume-stands base chunks commit exclusive u waiting)
+      go (GivingBack cause waiting) accepted = fail-stands (λ a. ⊥) (causeRefusal cause) waiting
+
+  call-stands : (q : Question) (ns : ℕ) (settings : Settings) (c : Call) → Stands (AskedFor S q c) (stepOn S l stamps k mark q ns settings c)
+  call-stands q ns settings (act a) = go q
+    where
+      go : (p : Question) → Stands (AskedFor S p (act a)) (stepOn S l stamps k mark p ns settings (act a))
+      go Idle = act-stands Idle ns settings a
+      go (Committing i s n) = inl refl
+      go (Purging i j w) = inl refl
+      go (Reserving chunks bytes commit exclusive waiting) = inl refl
+      go (GivingBack cause waiting) = inl refl
+  call-stands q ns settings (query c) = inl refl
+  call-stands q ns settings (answer kind accepted base) = answer-stands q kind accepted base
+
+pub none-unasked : NoneUnasked step
+unfolding soundLent
+none-unasked w ns settings c e =
+    subst (λ (o : Outcome). Stands (w .records) (w .stamps) (w .state .count) (w .state .mark) long (AskedFor S (w .state .question) c) o) (sym (passes w ns settings c (w .state .question) e refl))
+    (call-stands (w .records) (w .stamps) (w .state .count) (w .state .mark) long (w .state .question) ns settings c)
+  where
+    long : length (w .records) ≡ 32
+    long = eqb-true (length (w .records)) 32 (and-both (eqb (length (w .records)) 32) _ e .0)

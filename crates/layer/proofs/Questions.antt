@@ -3,8 +3,9 @@ use mathlib.Core.Path.{_≡_, refl, sym, ap, _∙_, subst}
 use mathlib.Core.Bool.{Bool, true, false, true≢false}
 use mathlib.Core.List.{List}
 use mathlib.Core.Logic.{_⊎_, inl, inr}
-use Prim.Native.Nat.{ℕ, zero, suc, _+_, _-_, _*_, _%_, _≤_}
+use Prim.Native.Nat.{ℕ, zero, suc, _+_, _-_, _*_, _%_, _≤_, _^_, _<_}
 use native.Mathlib.Omega.{arith}
+use borrow.Author.Tests.{ne-eqb, lt-leb}
 use lib.Dec.{eqb, leb}
 use Rattle.refusals.specs.declared.Refusal.{Refusal}
 use Rattle.refusals.specs.declared.Refusal.the-variants.{NoSuchQuestion}
@@ -26,14 +27,16 @@ use Rattle.layer.specs.declared.Waiting.the-variants.{Reserve, Claim}
 use Rattle.layer.specs.declared.Unusable.the-variants.{Count, Misaligned, Full}
 use Rattle.layer.specs.declared.Kind.{Kind}
 use Rattle.layer.specs.declared.Ask.{Ask}
+use Rattle.layer.specs.declared.Ask.the-variants.{AskMemory}
+use Rattle.layer.specs.declared.Reply.{Reply}
 use Rattle.layer.specs.declared.Answer.the-variants.{Asks}
 use Rattle.layer.specs.World.{World, Outcome, stateOf, worldOf, after}
 use Rattle.layer.specs.Table.{at, badRange, sound}
-use Rattle.layer.specs.Registering.{askMemory, badCount, register, withRecord, withStamps}
+use Rattle.layer.specs.Registering.{chunksFor, tooLarge, bytesAsked, reserveReply, reserveOf, askMemory, badCount, register, withRecord, withStamps}
 use Rattle.layer.specs.Sweeping.{purgeReply, sweptReply, visitAt, visit, sweepFrom}
 use Rattle.layer.specs.Answering.{isFor, counted, failReply, resume, answerPurge, answerMemory, answerTo, answerOf}
 use Rattle.layer.specs.Step.{Act, reserve, manage, adopt, claim, release, sweep, Call, act, query, answer, sweepOf, actOn, stepOn, step}
-use Rattle.layer.specs.Questions.{TurnedDown, CommitOf, AfterAnswer, AfterAct, AfterCall, QuestionsByRules}
+use Rattle.layer.specs.Questions.{TurnedDown, CommitOf, AfterAnswer, AfterAct, AfterCall, QuestionsByRules, ReservesAsk}
 use Rattle.layer.proofs.Facts.{SoundQuestion}
 use Rattle.layer.proofs.Rules.{Again, again}
 use Rattle.layer.proofs.Cases.{grant-cases, search-cases, miss-cases, claim-cases, release-in-cases, release-cases, reserve-cases, register-cases, manage-cases, adopt-cases}
@@ -161,6 +164,15 @@ module _ (w : World) (page : ℕ) (e : sound S w page ≡ true) (base : ℕ) whe
   answer-after (Reserving chunks bytes commit exclusive waiting) h kind accepted f = memory-after chunks bytes commit exclusive waiting accepted
   answer-after (GivingBack cause waiting) h kind accepted f = fail-after _ waiting
 
+-- ---- a reserve of so many chunks
+
+asks-for : (l : List Arena) (stamps : List ℕ) (k : ℕ) (mark : Bool) (size n : ℕ) (commit large exclusive : Bool) (page : ℕ) → chunksFor S size ≡ n → (size ≡ 0 → ⊥) → n * S + S < 2 ^ 64
+    → reserveOf S l stamps k mark size commit large exclusive page .answer ≡ Asks (AskMemory (n * S) S commit large)
+unfolding reserveOf reserveReply askMemory tooLarge bytesAsked
+asks-for l stamps k mark size n commit large exclusive page c some fits =
+    ap (λ (r : Reply). r .answer) (unless (leb (2 ^ 64) (chunksFor S size * S + S)) _ _ (ap (λ (x : ℕ). leb (2 ^ 64) (x * S + S)) c ∙ lt-leb (2 ^ 64) (n * S + S) fits))
+    ∙ ap (λ (x : ℕ). Asks (AskMemory x S commit large)) (unless (eqb size 0) _ _ (ne-eqb size 0 some) ∙ ap (λ (x : ℕ). x * S) c)
+
 -- ---- every call
 
 pub questions-by-rules : QuestionsByRules step
@@ -185,3 +197,15 @@ questions-by-rules w ns settings c e = subst (AfterCall w c) (sym (passes w ns s
     go (act a) = shut (w .state .question) refl a
     go (query c) = refl
     go (answer kind accepted base) = answered kind accepted base
+
+-- ---- a reserve asks
+
+pub reserves-ask : ReservesAsk step
+reserves-ask w ns settings size n commit large exclusive e idle some lo hi fits =
+    ap (λ (o : Outcome). o .answer) (passes w ns settings (act (reserve size commit large exclusive)) Idle e idle) ∙ asks
+  where
+    chunks : chunksFor S size ≡ n
+    chunks = unfold chunksFor in let a : size ≤ n * 33554432 = lo in let b : n * 33554432 < size + 33554432 = hi in omega arith
+
+    asks : reserveOf S (w .records) (w .stamps) (w .state .count) (w .state .mark) size commit large exclusive (settings .page) .answer ≡ Asks (AskMemory (n * S) S commit large)
+    asks = asks-for (w .records) (w .stamps) (w .state .count) (w .state .mark) size n commit large exclusive (settings .page) chunks (λ z. omega (arith, some, z)) fits

@@ -1,9 +1,9 @@
 -- What each call leaves of the open question, of any layer. Document 01: "a question is open from where the rules above put it until they close it"; "answering closes
 -- the question (1, 3 and 6 keep it open)". Demand 3 reads what is open off the rules' own run; this says what that run does, call by call. Assumes nothing.
 use mathlib.Core.Path.{_≡_}
-use mathlib.Core.Bool.{true, false}
+use mathlib.Core.Bool.{Bool, true, false}
 use mathlib.Core.Logic.{_⊎_}
-use Prim.Native.Nat.{ℕ, _+_, _*_, _<_}
+use Prim.Native.Nat.{ℕ, _+_, _*_, _^_, _<_, _≤_}
 use Rattle.refusals.specs.declared.Refusal.{Refusal}
 use Rattle.refusals.specs.declared.Refusal.the-variants.{QuestionOpen, NoSuchQuestion, Range}
 use Rattle.layer.specs.declared.Settings.{Settings}
@@ -14,12 +14,13 @@ use Rattle.layer.specs.declared.Waiting.{Waiting}
 use Rattle.layer.specs.declared.Waiting.the-variants.{Reserve, Claim}
 use Rattle.layer.specs.declared.Unusable.{Unusable}
 use Rattle.layer.specs.declared.Ask.{Ask}
+use Rattle.layer.specs.declared.Ask.the-variants.{AskMemory}
 use Rattle.layer.specs.declared.Answer.{Answer}
 use Rattle.layer.specs.declared.Answer.the-variants.{Refused, Asks}
 use Rattle.layer.specs.World.{World, Outcome, sizeOf}
 use Rattle.layer.specs.Table.{sound}
 use Rattle.layer.specs.Answering.{isFor}
-use Rattle.layer.specs.Step.{Call, act, query, answer}
+use Rattle.layer.specs.Step.{reserve, Call, act, query, answer}
 use Rattle.layer.specs.History.{Layer, Registrable}
 
 -- "Each refusal leaves all state and lent memory untouched"
@@ -62,3 +63,10 @@ AfterCall w (answer kind accepted base) o =
 abbrev pub QuestionsByRules : Layer → Type 0
 QuestionsByRules L =
     (w : World) (ns : ℕ) (settings : Settings) (c : Call) → sound (sizeOf (w .state)) w (settings .page) ≡ true → AfterCall w c (L w ns settings c)
+
+-- a reserve of 1 byte or more, rounded up to n whole chunks, asks for their bytes unless "that product, or it plus S, passes 2^64 − 1"
+abbrev pub ReservesAsk : Layer → Type 0
+ReservesAsk L =
+    (w : World) (ns : ℕ) (settings : Settings) (size n : ℕ) (commit large exclusive : Bool) → sound (sizeOf (w .state)) w (settings .page) ≡ true → w .state .question ≡ Idle
+    → 0 < size → size ≤ n * sizeOf (w .state) → n * sizeOf (w .state) < size + sizeOf (w .state) → n * sizeOf (w .state) + sizeOf (w .state) < 2 ^ 64
+    → L w ns settings (act (reserve size commit large exclusive)) .answer ≡ Asks (AskMemory (n * sizeOf (w .state)) (sizeOf (w .state)) commit large)

@@ -21,22 +21,23 @@ use Rattle.arena.specs.Sweeping.{sweepDue, disarm, young, toAsk, nextAsked, bor
 use Rattle.lookup.specs.Place.{bytesOf, endOf, isInside}
 use Rattle.lookup.specs.Soundness.{soundRange, clearPast, clearPastAll, soundArena}
 use Rattle.layer.specs.declared.Question.the-variants.{Idle}
-use Rattle.layer.specs.declared.Answer.the-variants.{Refused, Registered, Claimed}
-use Rattle.layer.specs.World.{World, blank, stateOf, worldOf, outcome, empty}
+use Rattle.layer.specs.declared.Answer.{Answer}
+use Rattle.layer.specs.declared.Answer.the-variants.{Refused, Registered, Claimed, Owns}
+use Rattle.layer.specs.World.{World, Outcome, blank, stateOf, worldOf, outcome, empty}
 use Rattle.layer.specs.Table.{at, meets, overlaps, badRange, findArena, apart, soundQuestion, soundTable, soundLent}
 use Rattle.layer.specs.Registering.{chunksFor, tooLarge, bytesAsked, askMemory, reserveReply, badCount, registerReply, registers, noWholeChunk, grows, reserveOf, manageOf, adoptOf}
 use Rattle.layer.specs.Claiming.{eligible, serves, asksCommit, grantArena, grantReply, missReply, searchOf, claimOf}
 use Rattle.layer.specs.Releasing.{releases, releaseReply, releaseOf}
 use Rattle.layer.specs.Sweeping.{purgeReply, sweptReply, visit, sweepFrom}
 use Rattle.layer.specs.Answering.{isFor, answerOf}
-use Rattle.layer.specs.Step.{manage, claim, act, rules, step}
+use Rattle.layer.specs.Step.{manage, claim, owns, act, query, rules, step}
 use Rattle.layer.specs.Book.{lowest, claims, refused, granted, enter, sayAll}
 use Rattle.layer.specs.History.{Marked, begin, isSound, start, Place, inRange, OpensAt}
 use Rattle.layer.specs.Demand.{bookOf, Demand3}
 use Rattle.share_book_cases.specs.Example.{S, plain, row, by}
 use Rattle.share_book_cases.proofs.Runs.{at-start, before-made, open-made, after-made, by-book, own-call}
 use Rattle.wrong_layers.proofs.Ground.{stand, clash, ground}
-use Rattle.wrong_layers.specs.Wrong.{smallOnly, lowOnly, fullAtOne, RegisteringFails}
+use Rattle.wrong_layers.specs.Wrong.{smallOnly, lowOnly, fullAtOne, dummies, fillsTheTable, RegisteringFails}
 
 -- ---- 513 chunks at S; one chunk at 2^42; one chunk at 3 S beside a shared arena at S
 
@@ -190,5 +191,54 @@ full-at-one d =
     let b = by-book L 7 at-next _ (stand (both 1) 7 (claimsAt 1 alone)) alone _ _ u d in
     clash 10 (3 * S) false (b .0) [] (b .1 ∙ facts .next-says)
 
+-- ---- a table that a query filled
+
+abbrev filled : World
+filled = worldOf (dummies 32 1) (replicate 32768 0) (stateOf 32 false Idle)
+
+abbrev looks : Marked
+looks = by 9 empty 0 (query (owns 0))
+
+abbrev managesThen : Marked
+managesThen = by 9 filled 0 (act (manage 4398046511104 S true (negsuc 0) false true))
+
+record Filled : Type 0 where
+  looked : step empty 0 plain (looks .call) ≡ outcome (Owns false) empty
+  sound-filled : isSound managesThen ≡ true
+  thirteen : step filled 0 plain (managesThen .call) ≡ outcome (Refused TableFull) filled
+  elsewhere : step filled 0 plain (claimsAt 0 filled .call) .answer ≡ Claimed S true false
+
+filled-facts : Filled
+unfolding enter inRange bit bitAt within number pack writeRun all least lowestRun orOne nowMs delayMs keeps armed isDue arenaAllowed pageSizeSound newArena reservedArena managedArena adoptedArena grownArena findRun runCommitted runFresh takeRun giveBackRun commitRun dirtyRun finishGrant tellRun pendRun releaseRun stampRun sweepDue disarm young toAsk nextAsked borrowChunk unpendChunk returnChunk rearm bytesOf endOf isInside soundRange clearPast clearPastAll soundArena empty meets overlaps badRange findArena apart soundQuestion soundTable soundLent chunksFor tooLarge bytesAsked askMemory reserveReply badCount registerReply registers noWholeChunk grows reserveOf manageOf adoptOf eligible serves asksCommit grantArena grantReply missReply searchOf claimOf releases releaseReply releaseOf purgeReply sweptReply visit sweepFrom isFor answerOf rules
+filled-facts = record { looked = refl; sound-filled = refl; thirteen = refl; elsewhere = refl }
+
+then-opens : OpensAt (stand empty 9 looks) managesThen
+unfolding empty
+then-opens = record {
+  base = 4398046511104;
+  chunks = 1;
+  managed = true;
+  is-sound = filled-facts .sound-filled;
+  registrable = record { some = omega arith; few = omega arith; whole = refl; somewhere = omega arith; ends = lit< tt; apart = λ i h. absurd (omega arith); room = omega arith };
+  registers = record { from = 4398046511104; bytes = S; node = negsuc 0; is-call = refl; none-open = refl; some-start = omega arith; first = (omega arith, omega arith); last = (omega arith, omega arith); sum-fits = lit< tt };
+}
+
+-- the id that the rules gave is a dummy's: another address is told
+fills-the-table : Demand3 fillsTheTable → ⊥
+unfolding inRange empty then-opens
+fills-the-table d =
+    let L = fillsTheTable in
+    let o : Outcome = step filled 0 plain (claimsAt 0 filled .call) in
+    let b₁ = before-made L begin start empty (at-start L) looks (outcome (Owns false) empty) (outcome (Owns false) filled)
+    (record { sound = ground .sound-empty; by-rules = filled-facts .looked; by-layer = ap (λ (z : Outcome). outcome (z .answer) filled) (filled-facts .looked); passed = refl }) refl in
+    let r = open-made L 7 _ (stand empty 9 looks) filled b₁ managesThen (outcome (Registered 0) (far 0)) (outcome (Refused TableFull) filled) then-opens
+    (record { sound = filled-facts .sound-filled; by-rules = facts .far-registered; by-layer = filled-facts .thirteen; passed = refl }) refl in
+    let u = after-made L 7 at-far _ (stand (far 0) 9 managesThen) filled _ _ r (claimsAt 0 filled) (outcome (Claimed 4398046511104 false true) (far 1)) (outcome (Claimed S true false) (o .world)) (claims lowest 1 ∷ []) (granted S true ∷ [])
+    (record { sound = filled-facts .sound-filled; by-rules = facts .far-claimed; by-layer = ap (λ (x : Answer). outcome x (o .world)) (filled-facts .elsewhere); passed = refl }) refl (own-call 7 at-far (stand (far 0) 9 managesThen) (claimsAt 0 filled) refl refl refl) refl refl in
+    let b = by-book L 7 at-far _ (stand (far 1) 7 (claimsAt 0 filled)) (o .world) _ _ u d in
+    let e : granted S true ∷ b .0 ≡ granted 4398046511104 false ∷ [] = b .1 ∙ facts .far-says in
+    let z : _≡_ {A = ℕ} S 4398046511104 = cc in
+    omega (arith, z)
+
 pub registering-fails : RegisteringFails
-registering-fails = record { small-only = small-only; low-only = low-only; full-at-one = full-at-one }
+registering-fails = record { small-only = small-only; low-only = low-only; full-at-one = full-at-one; fills-the-table = fills-the-table }

@@ -2,8 +2,8 @@
 -- and leave what the rules say. Most do as the rules do but for one kind of call. Assumes nothing.
 use mathlib.Core.Path.{_≡_}
 use mathlib.Core.Bool.{Bool, true, false, cond, not, _&&_}
-use mathlib.Core.List.{List}
-use Prim.Native.Nat.{ℕ, suc, _+_, _-_, _*_, _^_}
+use mathlib.Core.List.{List, [], _∷_}
+use Prim.Native.Nat.{ℕ, zero, suc, _+_, _-_, _*_, _^_}
 use lib.Dec.{eqb, ltb}
 use lib.IntN.{pos, negsuc}
 use lib.ListN.{set}
@@ -174,6 +174,17 @@ lowOnly = butWhere (λ w c. ltb (2 ^ 42) (managedEnd c)) (refuses Range)
 abbrev pub fullAtOne : Layer
 fullAtOne = butWhere (λ w c. ltb 0 (w .state .count) && ltb 0 (managedSize c)) (refuses TableFull)
 
+-- a query fills the table with arenas that nobody registered, so that 13 comes
+abbrev pub dummy : ℕ → Arena
+dummy i = record { base = i * 33554432; chunks = 1; exclusive = 0; owned = 0; node = negsuc 0; deadline = 0; used = noBits; dirty = noBits; committed = noBits; pending = noBits }
+
+abbrev pub dummies : ℕ → ℕ → List Arena
+dummies zero i = []
+dummies (suc n) i = dummy i ∷ dummies n (suc i)
+
+abbrev pub fillsTheTable : Layer
+fillsTheTable = butWhere (λ w c. isQuery c) (λ w o. outcome (o .answer) (worldOf (dummies 32 1) (w .stamps) (stateOf 32 (w .state .mark) Idle)))
+
 -- ---- sweeps and bits: what demand 2 alone rules out
 
 -- "Marking chunks dirty before a commit is answered no"
@@ -230,6 +241,7 @@ pub record RegisteringFails : Type 0 where
   pub small-only : Demand3 smallOnly → ⊥
   pub low-only : Demand3 lowOnly → ⊥
   pub full-at-one : Demand3 fullAtOne → ⊥
+  pub fills-the-table : Demand3 fillsTheTable → ⊥
 
 pub record SweepsFail : Type 0 where
   pub dirty-before-yes : IsRules dirtyBeforeYes → ⊥

@@ -45,7 +45,7 @@ CITED = re.compile(r"`([^`]+)` was not admitted ")
 # What is to be proved does not follow from what is known, or is another thing than what is shown.
 FACT = re.compile(
     r"`\w+`: (?:no proof of|the goal does not follow|the part `[^`]+` of the goal does not follow)|give a proof of that as the last"
-    r"|the two (?:types|values) (?:first differ|differ|are)|expected type `[^`]*`,? *\n? *but this has type"
+    r"|does not hold \(this comparison|the two (?:types|values) (?:first differ|differ|are)|expected type `[^`]*`,? *\n? *but this has type"
 )
 
 # What is to be proved, where that is no fact but a piece of the code that the proof goes through: a need or a place of it, or a

@@ -1,23 +1,27 @@
 #!/usr/bin/env python3
-"""Tries wrong answers: the edits in crates/NAME/wrong, which the prover must refuse.
+"""Tries wrong answers: edits in crates/NAME/wrong and crates/NAME/must-fail, which the prover must refuse for a fact.
 
 An edit is written as a must-fail edit of `rt` is, with one line more, as `fails: look; lowest_run`: the functions that it
 makes wrong, and after the semicolon those that are not proved then because they call one of these. `rt` gives each must-fail
 edit a check of its crate from nothing, and is content if anything of the crate is refused. Here edits that keep clear of
 each other share a check, and the prover must refuse the functions that they name and no other, those that they make wrong for
-facts of their own (FACT). What a new edit fails by is still to be read in its log: of the wrong reasons, as a proof that does not
-fit the code, those that UNFIT lists are seen, and a walk whose operands differ is not.
+facts of their own, and say nothing else: `shown` tells what is said of a fact from what shows nothing. A must-fail edit that
+has no such line is left to `rt`, and counts for no function.
+
+A walk names what each call is passed. Where the code passes something else it is refused there, by the two values, and its
+contract is not looked at. That shows less: an edit by which a function fails so has a line `by: operand`, and may change nothing
+but operands.
 
 Two edits keep clear of each other if no function is made wrong by both, and none is made wrong by one and fails with the other
-as a caller; but such a caller may be, where its proof is in parts that are checked each by itself (they name its module Tie) and
-the other edit changes no contract: then what is said of its parts is of its own answer.
+as a caller; but such a caller may be, where its proof is in parts that are checked each by itself (they name its module Tie, or
+the walk takes what it calls as given) and the other edit changes no contract: then what is said of its parts is of its own answer.
 
 A check starts from the crate as it was proved, where target/ has that, and takes the modules that the edits leave alone from
-there. Every public function of a crate with such edits must be made wrong by two or more; those in crates/NAME/must-fail that
-have a line `fails:` count, and are left to `rt`.
+there. Every public function of a crate with such edits must be made wrong by two or more.
 
-Usage: wrong_answers.py [NAME...]. With no name, all crates that have a folder `wrong`. What they stand on and library.sh
-has not proved is proved first. target/wrong/NAME/K/log has what the prover said in a check.
+Usage: wrong_answers.py [NAME...]. With no name, all crates that have such edits. What they stand on and library.sh
+has not proved is proved first. target/wrong/NAME/K/log has what the prover said in a check. wrong_answers_test.py tests the
+judging on recorded answers of the prover's.
 """
 import os
 import re
@@ -32,17 +36,22 @@ ROOT = Path(__file__).resolve().parent.parent
 RLIB = ROOT / "target" / "rlib"
 WORK = ROOT / "target" / "wrong"
 
-# What a check says where a proof no longer fits the code, or a contract cannot be read: that shows nothing.
-UNFIT = re.compile("that can be named from here|has no field|error: .* is not in scope")
+# What the prover has against a declaration: the file, the declaration, and what it says, with the lines below that belong to it.
+ERROR = re.compile(r"^(\S+?):\d+:\d+: error: (?:`([^`]+)`: )?(.*(?:\n .*)*)", re.M)
 
-# What it says where a fact fails: what is to be proved is another thing than what the proof shows, or does not follow, or rests
-# on a law that fails.
+# It looks no further where something that is cited has failed.
+CITED = re.compile(r"`([^`]+)` was not admitted ")
+
+# What is to be proved does not follow from what is known, or is another thing than what is shown.
 FACT = re.compile(
-    "the two (types|values)|does not follow|no proof of|expected type|give a proof of that|does not close|was not admitted"
+    r"`\w+`: (?:no proof of|the goal does not follow|the part `[^`]+` of the goal does not follow)|give a proof of that as the last"
+    r"|does not hold \(this comparison|the two (?:types|values) (?:first differ|differ|are)|expected type `[^`]*`,? *\n? *but this has type"
 )
 
-# What it says of a function whose proof cites one that is not proved: that says nothing of its own answer.
-CITED = re.compile("`(close|met)` was not admitted|which is not proved$")
+# What is to be proved, where that is no fact but a piece of the code that the proof goes through: a need or a place of it, or a
+# step of a walk. An operand of a call is such a step too, or what stands in the walk's context where it is read.
+PIECE = re.compile(r"expected type `(?:tie\.|\S+\.(?:Tie|Lts)\.|types\.)")
+OPERAND = re.compile(r"expected type `(?:types\.Run\.(?:Opd|Reads) |\S*_≡_ \{2\} \{A = (?:types\.Kit\.)?Item )")
 
 
 class Edit:
@@ -52,7 +61,7 @@ class Edit:
         self.label = path.stem
         self.crate = path.parent.parent
         self.changes = []
-        self.wrong, self.callers = set(), set()
+        self.wrong, self.callers, self.by_operand = set(), set(), False
         file = old = None
         for line in path.read_text().split("\n"):
             key, _, rest = line.partition(":")
@@ -66,11 +75,22 @@ class Edit:
             elif key == "fails":
                 wrong, _, callers = rest.partition(";")
                 self.wrong, self.callers = set(wrong.split()), set(callers.split())
+            elif key == "by":
+                self.by_operand = rest == "operand"
         if not self.changes or not self.wrong:
             sys.exit(f"{path}: it needs a pair 'old:' and 'new:', and a line 'fails:'")
+        if self.by_operand and not self.changes_operands():
+            sys.exit(f"{path}: it has a line 'by: operand', and changes more than operands of a call")
 
     def fails(self):
         return self.wrong | self.callers
+
+    def changes_operands(self):
+        """Whether it changes operands of calls alone."""
+        return all(
+            file.startswith("src/") and re.sub(r"\w+(?=[,)])", "", old) == re.sub(r"\w+(?=[,)])", "", new)
+            for file, old, new in self.changes
+        )
 
     def keeps_contracts(self):
         """Whether it changes the bodies of functions alone."""
@@ -98,7 +118,7 @@ def proof(crate, function):
 def in_parts(crate, function):
     """Whether the function's proof is in parts that are checked each by itself."""
     file = proof(crate, function)
-    return file.is_file() and ".Tie as " in file.read_text()
+    return file.is_file() and re.search(r"\.Tie as | : Triple 𝓤 \(𝓣 \.C #", file.read_text()) is not None
 
 
 def make(crate, group):
@@ -149,19 +169,15 @@ def promises(name):
 
 
 def own(name):
-    """The edits that are tried here."""
-    return [Edit(path) for path in sorted((ROOT / "crates" / name / "wrong").glob("*.edit"))]
-
-
-def left_to_rt(name):
-    """The must-fail edits that name the functions they make wrong."""
-    paths = sorted((ROOT / "crates" / name / "must-fail").glob("*.edit"))
-    return [Edit(path) for path in paths if "\nfails:" in path.read_text()]
+    """The edits of a crate that are tried here."""
+    crate = ROOT / "crates" / name
+    named = [path for path in (crate / "must-fail").glob("*.edit") if "\nfails:" in path.read_text()]
+    return [Edit(path) for path in sorted([*(crate / "wrong").glob("*.edit"), *named])]
 
 
 def too_few(name):
     """The public functions that fewer than two edits make wrong."""
-    edits = own(name) + left_to_rt(name)
+    edits = own(name)
     if not edits:
         bare = promises(name) and not any((ROOT / "crates" / name / "must-fail").glob("*.edit"))
         return [f"{name} has public functions with a contract, and no edit"] if bare else []
@@ -211,29 +227,54 @@ def refused_in(name, said):
     return {function for function, proved in found if not proved}
 
 
-def fails_itself(name, crate, function, said):
-    """Whether the function is refused because a fact of its own fails, and not only for what it calls."""
+def shown(reason):
+    """What the prover's reason shows: a fact that fails, a walk's operand, that something cited fails, or nothing."""
+    if CITED.match(reason):
+        return "cited"
+    if OPERAND.search(reason):
+        return "operand"
+    return "fact" if FACT.search(reason) and not PIECE.search(reason) else "nothing"
+
+
+def shown_of(name, crate, function, said):
+    """What the reasons show for which the function itself is refused; of a law that it cites, what is said of the law."""
+    errors = ERROR.findall(said)
     file = proof(crate, function)
-    if file.is_file():
-        reasons = re.findall(rf"^{re.escape(str(file.with_suffix('')))}\S*: error: (.*)$", said, re.M)
-    else:
-        reasons = re.findall(rf"^fn {name}::{function}: (.*)$", said, re.M)
-    return any(FACT.search(reason) and not CITED.search(reason) for reason in reasons)
+    if not file.is_file():
+        return {"fact"} if re.search(rf"^fn {name}::{function}: .*`search` does not close ", said, re.M) else set()
+    found, reasons, seen = set(), [reason for at, _, reason in errors if at == str(file)], set()
+    while reasons:
+        reason = reasons.pop()
+        found.add(shown(reason))
+        law = CITED.match(reason)
+        if law and law[1] not in seen:
+            seen.add(law[1])
+            reasons += [more for at, title, more in errors if title == law[1] and is_law(crate, at)]
+    return found
+
+
+def is_law(crate, file):
+    """Whether a file has laws that proofs cite, and is no function's own proof."""
+    return Path(file).is_relative_to(crate / "proofs") and Path(file).name != "Proof.antt"
 
 
 def faults(name, crate, group, status, said):
     """What is wrong with a check of these edits."""
     if status != 1 or not re.search("^logic=not-proved", said, re.M):
         return [f"the crate is not refused by the prover (status {status})"]
-    if UNFIT.search(said):
-        return ["a proof does not fit the code, or a contract cannot be read: that shows nothing"]
+    unfit = [reason.split("\n")[0][:200] for _, _, reason in ERROR.findall(said) if shown(reason) == "nothing"]
+    if unfit:
+        return [f"that shows nothing: {unfit[0]}"]
     refused = refused_in(name, said)
     named = set().union(*(edit.fails() for edit in group))
     found = [f"{function} is proved, and an edit names it" for function in sorted(named - refused)]
     found += [f"{function} is not proved, and no edit names it" for function in sorted(refused - named)]
-    wrong = set().union(*(edit.wrong for edit in group)) & refused
-    cited = [function for function in sorted(wrong) if not fails_itself(name, crate, function, said)]
-    return found + [f"{function} is not refused for a fact of its own" for function in cited]
+    for edit in group:
+        wanted = "operand" if edit.by_operand else "fact"
+        for function in sorted(edit.wrong & refused):
+            if wanted not in shown_of(name, crate, function, said):
+                found.append(f"{function} is not refused for its own {wanted}")
+    return found
 
 
 def try_group(prover, folder, name, number, group):
@@ -283,4 +324,5 @@ def main():
     print(f"{count} wrong answers of {len(names)} crates refused, each by the functions that it names, {took}")
 
 
-main()
+if __name__ == "__main__":
+    main()

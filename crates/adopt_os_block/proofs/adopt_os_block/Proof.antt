@@ -43,7 +43,7 @@ use Rattle.layer.proofs.Settings.Laws as G′
 use Rattle.entry.proofs.writing.Writing as X
 use Rattle.entry.proofs.writing.Writing.Laws as X′
 use Rattle.records.proofs.Walk.{Loan, Known, lent, sliceOf}
-use Rattle.records.proofs.Locals.{enters, used}
+use Rattle.records.proofs.Locals.{enters, used, in-local}
 use Rattle.records.proofs.Calls.{in-seq}
 use Rattle.entry.proofs.EntrySteps.{Page, page-step}
 use Rattle.records.proofs.Frame.{Done2, finish2, mut2-meets}
@@ -87,18 +87,18 @@ module _ {M : Type 1} (𝓤 : URA M) (H : Heap 𝓤) (A : Atoms 𝓤) (W : Given
     walk mstate msettings kn kn′ gstate fns gsettings faddress fsize =
         enters ! code.function (λ bs. params1 ! $
         pass1 ! (init ! 3 refl (tt, (tt, (record { fits = kn .1 .0 }, tt)))) $ pass1 ! (init ! 5 refl (tt, (tt, (record { fits = kn′ .1 .0 }, tt)))) $ pass1 ! (init ! 7 refl (LL.lawful Z.the-type Z′.the-laws 𝓤 H A W .typed state (mstate ∷ []) gstate .0)) $ pass1 ! (init ! 9 refl (tt, record { fits = fns })) $ pass1 ! (init ! 11 refl (LL.lawful G.the-type G′.the-laws 𝓤 H A W .typed settings (msettings ∷ []) gsettings .0)) $ pass1 ! (init ! 13 refl (tt, record { fits = faddress })) $ pass1 ! (init ! 15 refl (tt, record { fits = fsize })) $ pass0 ! $
-        page-step ! (in-seq ! (fmOf 𝓤 H (W .laws) 𝓣)) mem run known-page settings msettings gsettings (λ _. and-then ! (load ! (from ! (stop !)) (look ! 11 refl)) (no-more !)) (λ fp.
+        page-step ! (in-seq ! (fmOf 𝓤 H (W .laws) 𝓣)) mem run known-page settings msettings gsettings (λ _. and-then ! (in-local ! refl) (no-more !)) (λ fp.
         land ! (from ! (stop !)) (init ! 17 refl (tt, record { fits = fp })) $
         assigns ! (addr ! (from ! (fld ! refl (hop ! (look-in ! 3 (sub ! 0 refl (whole !))) (stop !))))) (from ! (stop !)) (init ! 21 refl (tt, tt)) $
-        assigns ! (agg ! (and-then ! (load ! (from ! (stop !)) (look ! 21 refl)) (and-then ! (load ! (from ! (fld ! refl (stop !))) (look-in ! 3 (sub ! 1 refl (whole !)))) (no-more !)))) (from ! (stop !)) (init ! 23 refl (tt, (tt, (record { fits = kn .1 .0 }, tt)))) $
+        assigns ! (agg ! (and-then ! (in-local ! refl) (and-then ! (load ! (from ! (fld ! refl (stop !))) (look-in ! 3 (sub ! 1 refl (whole !)))) (no-more !)))) (from ! (stop !)) (init ! 23 refl (tt, (tt, (record { fits = kn .1 .0 }, tt)))) $
         assigns ! (of-opd ! (load ! (from ! (fld ! refl (stop !))) (look-in ! 5 (sub ! 1 refl (whole !))))) (from ! (stop !)) (init ! 25 refl (tt, record { fits = kn′ .1 .0 })) $
-        adopt-writing-step ! (in-seq ! (fmOf 𝓤 H (W .laws) 𝓣)) mem run known-adopt-writing L ys (length us) (kn′ .1 .0) state mstate gstate (settings .page) fp address faddress size fsize (λ _. and-then ! (load ! (from ! (stop !)) (look ! 23 refl)) (and-then ! (load ! (from ! (stop !)) (look ! 25 refl)) (and-then ! (load ! (from ! (stop !)) (look ! 7 refl)) (and-then ! (load ! (from ! (stop !)) (look ! 17 refl)) (and-then ! (load ! (from ! (stop !)) (look ! 13 refl)) (and-then ! (load ! (from ! (stop !)) (look ! 15 refl)) (no-more !))))))) (λ vw w gw e.
+        adopt-writing-step ! (in-seq ! (fmOf 𝓤 H (W .laws) 𝓣)) mem run known-adopt-writing L ys (length us) (kn′ .1 .0) state mstate gstate (settings .page) fp address faddress size fsize (λ _. and-then ! (in-local ! refl) (and-then ! (in-local ! refl) (and-then ! (in-local ! refl) (and-then ! (in-local ! refl) (and-then ! (in-local ! refl) (and-then ! (in-local ! refl) (no-more !))))))) (λ vw w gw e.
         land ! (from ! (stop !)) (init ! 19 refl (LL.lawful X.the-type X′.the-laws 𝓤 H A W .typed w (vw ∷ []) gw .0)) $
         assigns ! (addr ! (from ! (fld ! refl (hop ! (look-in ! 3 (sub ! 0 refl (whole !))) (stop !))))) (from ! (stop !)) (init ! 27 refl (tt, tt)) $
-        assigns ! (agg ! (and-then ! (load ! (from ! (stop !)) (look ! 27 refl)) (and-then ! (load ! (from ! (fld ! refl (stop !))) (look-in ! 3 (sub ! 1 refl (whole !)))) (no-more !)))) (from ! (stop !)) (init ! 29 refl (tt, (tt, (record { fits = kn .1 .0 }, tt)))) $
+        assigns ! (agg ! (and-then ! (in-local ! refl) (and-then ! (load ! (from ! (fld ! refl (stop !))) (look-in ! 3 (sub ! 1 refl (whole !)))) (no-more !)))) (from ! (stop !)) (init ! 29 refl (tt, (tt, (record { fits = kn .1 .0 }, tt)))) $
         assigns ! (addr ! (from ! (fld ! refl (hop ! (look-in ! 5 (sub ! 0 refl (whole !))) (stop !))))) (from ! (stop !)) (init ! 31 refl (tt, tt)) $
-        assigns ! (agg ! (and-then ! (load ! (from ! (stop !)) (look ! 31 refl)) (and-then ! (load ! (from ! (fld ! refl (stop !))) (look-in ! 5 (sub ! 1 refl (whole !)))) (no-more !)))) (from ! (stop !)) (init ! 33 refl (tt, (tt, (record { fits = kn′ .1 .0 }, tt)))) $
-        write-step ! (in-seq ! (fmOf 𝓤 H (W .laws) 𝓣)) mem run known-write L L′ ys us w vw gw (adopt-stamps 33554432 ys us state ns settings address size w e) (λ _. and-then ! (load ! (from ! (stop !)) (look ! 29 refl)) (and-then ! (load ! (from ! (stop !)) (look ! 33 refl)) (and-then ! (load ! (from ! (stop !)) (look ! 19 refl)) (no-more !)))) (λ vr gr len.
+        assigns ! (agg ! (and-then ! (in-local ! refl) (and-then ! (load ! (from ! (fld ! refl (stop !))) (look-in ! 5 (sub ! 1 refl (whole !)))) (no-more !)))) (from ! (stop !)) (init ! 33 refl (tt, (tt, (record { fits = kn′ .1 .0 }, tt)))) $
+        write-step ! (in-seq ! (fmOf 𝓤 H (W .laws) 𝓣)) mem run known-write L L′ ys us w vw gw (adopt-stamps 33554432 ys us state ns settings address size w e) (λ _. and-then ! (in-local ! refl) (and-then ! (in-local ! refl) (and-then ! (in-local ! refl) (no-more !)))) (λ vr gr len.
         land ! (from ! (stop !)) (init ! 1 refl (LL.lawful Y.the-type Y′.the-laws 𝓤 H A W .typed (w .reply) (vr ∷ []) gr .0)) $
         returns ! (look ! 1 refl) $ used ! $ used ! $ used ! $ used ! $ used ! $ used ! $ used ! $ used ! $ used ! $ used ! $ used ! $ used ! $ used ! $ used ! $ used ! $ used ! $ used ! $ free0 ! $
         finish2 𝓤 H A T.the-row u32 L L′ Y.the-row ys us χ W (‵ ftrue) vr (w .reply) (set ys (recordPlace (w .id)) (w .arena)) (stampsWith us (w .stamped)) gr (length-set ys (recordPlace (w .id)) (w .arena)) len (adopt-done 33554432 ys us state ns settings address size w (kn .1 .0) e)))))

@@ -51,7 +51,7 @@ use Rattle.layer.proofs.Kind as J
 use Rattle.layer.proofs.Kind.Laws as J′
 use Rattle.answer.specs.Call.{answerOn}
 use Rattle.records.proofs.Walk.{Loan, Known, lent, sliceOf}
-use Rattle.records.proofs.Locals.{enters, used}
+use Rattle.records.proofs.Locals.{enters, used, in-local}
 use Rattle.records.proofs.Calls.{in-seq}
 use Rattle.records.proofs.Frame.{Done2, finish2, mut2-meets}
 use Rattle.table.proofs.Steps.{Row, row-step}
@@ -109,17 +109,17 @@ module _ {M : Type 1} (𝓤 : URA M) (H : Heap 𝓤) (A : Atoms 𝓤) (W : Given
         enters ! code.function (λ bs. params1 ! $
         pass1 ! (init ! 3 refl (tt, (tt, (record { fits = kn .1 .0 }, tt)))) $ pass1 ! (init ! 5 refl (tt, (tt, (record { fits = kn′ .1 .0 }, tt)))) $ pass1 ! (init ! 7 refl (LL.lawful Z.the-type Z′.the-laws 𝓤 H A W .typed s (ms ∷ []) gs .0)) $ pass1 ! (init ! 9 refl (tt, record { fits = fns })) $ pass1 ! (init ! 11 refl (LL.lawful G.the-type G′.the-laws 𝓤 H A W .typed settings (msettings ∷ []) gsettings .0)) $ pass1 ! (init ! 13 refl (EL.lawful J.the-type J′.the-laws 𝓤 H A W tt .typed kind (mkind ∷ []) gkind .0)) $ pass1 ! (init ! 15 refl (tt, tt)) $ pass1 ! (init ! 17 refl (tt, record { fits = fbase })) $ pass0 ! $
         assigns ! (addr ! (from ! (fld ! refl (hop ! (look-in ! 3 (sub ! 0 refl (whole !))) (stop !))))) (from ! (stop !)) (init ! 21 refl (tt, tt)) $
-        assigns ! (agg ! (and-then ! (load ! (from ! (stop !)) (look ! 21 refl)) (and-then ! (load ! (from ! (fld ! refl (stop !))) (look-in ! 3 (sub ! 1 refl (whole !)))) (no-more !)))) (from ! (stop !)) (init ! 23 refl (tt, (tt, (record { fits = kn .1 .0 }, tt)))) $
+        assigns ! (agg ! (and-then ! (in-local ! refl) (and-then ! (load ! (from ! (fld ! refl (stop !))) (look-in ! 3 (sub ! 1 refl (whole !)))) (no-more !)))) (from ! (stop !)) (init ! 23 refl (tt, (tt, (record { fits = kn .1 .0 }, tt)))) $
         assigns ! (of-opd ! (load ! (from ! (fld ! refl (stop !))) (look-in ! 5 (sub ! 1 refl (whole !))))) (from ! (stop !)) (init ! 25 refl (tt, record { fits = kn′ .1 .0 })) $
         row-step ! (in-seq ! (fmOf 𝓤 H (W .laws) 𝓣)) mem run known-row L ys (length us) (kn′ .1 .0) s ms gs (settings .page) fp 33554432 fS lo hi
-        (λ _. and-then ! (load ! (from ! (stop !)) (look ! 23 refl)) (and-then ! (load ! (from ! (stop !)) (look ! 25 refl)) (and-then ! (load ! (from ! (stop !)) (look ! 7 refl)) (and-then ! (load ! (from ! (fld ! {τ = tyInt w64} {d = 24} refl (stop !))) (look-in ! 11 {τ = tyInt w64} (sub ! 4 {τ = tyInt w64} {d = 24} refl (whole !)))) (and-then ! (big-lit ! (record { fits = lit< tt })) (no-more !)))))) (
+        (λ _. and-then ! (in-local ! refl) (and-then ! (in-local ! refl) (and-then ! (in-local ! refl) (and-then ! (load ! (from ! (fld ! {τ = tyInt w64} {d = 24} refl (stop !))) (look-in ! 11 {τ = tyInt w64} (sub ! 4 {τ = tyInt w64} {d = 24} refl (whole !)))) (and-then ! (big-lit ! (record { fits = lit< tt })) (no-more !)))))) (
         land ! (from ! (stop !)) (init ! 19 refl (tt, tt)) $
         assigns ! (addr ! (from ! (fld ! refl (hop ! (look-in ! 3 (sub ! 0 refl (whole !))) (stop !))))) (from ! (stop !)) (init ! 27 refl (tt, tt)) $
-        assigns ! (agg ! (and-then ! (load ! (from ! (stop !)) (look ! 27 refl)) (and-then ! (load ! (from ! (fld ! refl (stop !))) (look-in ! 3 (sub ! 1 refl (whole !)))) (no-more !)))) (from ! (stop !)) (init ! 29 refl (tt, (tt, (record { fits = kn .1 .0 }, tt)))) $
+        assigns ! (agg ! (and-then ! (in-local ! refl) (and-then ! (load ! (from ! (fld ! refl (stop !))) (look-in ! 3 (sub ! 1 refl (whole !)))) (no-more !)))) (from ! (stop !)) (init ! 29 refl (tt, (tt, (record { fits = kn .1 .0 }, tt)))) $
         assigns ! (addr ! (from ! (fld ! refl (hop ! (look-in ! 5 (sub ! 0 refl (whole !))) (stop !))))) (from ! (stop !)) (init ! 31 refl (tt, tt)) $
-        assigns ! (agg ! (and-then ! (load ! (from ! (stop !)) (look ! 31 refl)) (and-then ! (load ! (from ! (fld ! refl (stop !))) (look-in ! 5 (sub ! 1 refl (whole !)))) (no-more !)))) (from ! (stop !)) (init ! 33 refl (tt, (tt, (record { fits = kn′ .1 .0 }, tt)))) $
-        answer-on-step ! (in-seq ! (fmOf 𝓤 H (W .laws) 𝓣)) mem run known-answer-on L L′ ys us ok s ms gs kind mkind gkind granted base fbase 33554432 fS lo hi (sound-answerable 33554432 ys us s (settings .page))
-        (λ _. and-then ! (load ! (from ! (stop !)) (look ! 29 refl)) (and-then ! (load ! (from ! (stop !)) (look ! 33 refl)) (and-then ! (load ! (from ! (stop !)) (look ! 19 refl)) (and-then ! (load ! (from ! (stop !)) (look ! 7 refl)) (and-then ! (load ! (from ! (stop !)) (look ! 13 refl)) (and-then ! (load ! (from ! (stop !)) (look ! 15 refl)) (and-then ! (load ! (from ! (stop !)) (look ! 17 refl)) (and-then ! (big-lit ! (record { fits = lit< tt })) (no-more !))))))))) (λ vr r gr e l l′.
+        assigns ! (agg ! (and-then ! (in-local ! refl) (and-then ! (load ! (from ! (fld ! refl (stop !))) (look-in ! 5 (sub ! 1 refl (whole !)))) (no-more !)))) (from ! (stop !)) (init ! 33 refl (tt, (tt, (record { fits = kn′ .1 .0 }, tt)))) $
+        answer-on-step ! (in-seq ! (fmOf 𝓤 H (W .laws) 𝓣)) mem run known-answer-on L L′ ys us ok s ms gs kind mkind gkind _ base fbase 33554432 fS lo hi (sound-answerable 33554432 ys us s (settings .page))
+        (λ _. and-then ! (in-local ! refl) (and-then ! (in-local ! refl) (and-then ! (in-local ! refl) (and-then ! (in-local ! refl) (and-then ! (in-local ! refl) (and-then ! (in-local ! refl) (and-then ! (in-local ! refl) (and-then ! (big-lit ! (record { fits = lit< tt })) (no-more !))))))))) (λ vr r gr e l l′.
         land ! (from ! (stop !)) (init ! 1 refl (LL.lawful P.the-type P′.the-laws 𝓤 H A W .typed r (vr ∷ []) gr .0)) $
         returns ! (look ! 1 refl) $ used ! $ used ! $ used ! $ used ! $ used ! $ used ! $ used ! $ used ! $ used ! $ used ! $ used ! $ used ! $ used ! $ used ! $ used ! $ used ! $ used ! $ free0 ! $
         finish2 𝓤 H A T.the-row u32 L L′ P.the-row ys us χ W (‵ ftrue) vr r (left .world .records) (left .world .stamps) gr l l′

@@ -50,7 +50,7 @@ use Rattle.runs.proofs.Found.Laws as F′
 use Rattle.judge.proofs.Query as Q
 use Rattle.judge.proofs.Query.Laws as Q′
 use Rattle.records.proofs.Walk.{Loan, Known, shared, sliceOf}
-use Rattle.records.proofs.Locals.{enters, used}
+use Rattle.records.proofs.Locals.{enters, used, in-local}
 use Rattle.records.proofs.Calls.{in-seq}
 use Rattle.entry.proofs.EntrySteps.{Page, HoldsQuery, page-step, holds-step}
 use Rattle.table.proofs.Steps.{Row, Scan, row-pass, scan-pass}
@@ -124,18 +124,18 @@ module _ {M : Type 1} (𝓤 : URA M) (H : Heap 𝓤) (A : Atoms 𝓤) (W : Given
         let fS : 33554432 < 2 ^ 64 = lit< tt in
         enters ! code.function (λ bs. params1 ! $
         pass1 ! (init ! 3 refl (tt, (tt, (record { fits = kn .1 .0 }, tt)))) $ pass1 ! (init ! 5 refl (tt, (tt, (record { fits = kn′ .1 .0 }, tt)))) $ pass1 ! (init ! 7 refl (LL.lawful Z.the-type Z′.the-laws 𝓤 H A W .typed state (mstate ∷ []) gstate .0)) $ pass1 ! (init ! 9 refl (tt, record { fits = fns })) $ pass1 ! (init ! 11 refl (LL.lawful G.the-type G′.the-laws 𝓤 H A W .typed settings (msettings ∷ []) gsettings .0)) $ pass1 ! (init ! 13 refl (tt, record { fits = faddress })) $ pass0 ! $
-        page-step ! (in-seq ! (fmOf 𝓤 H (W .laws) 𝓣)) mem run known-page settings msettings gsettings (λ _. and-then ! (load ! (from ! (stop !)) (look ! 11 refl)) (no-more !)) (λ fp.
+        page-step ! (in-seq ! (fmOf 𝓤 H (W .laws) 𝓣)) mem run known-page settings msettings gsettings (λ _. and-then ! (in-local ! refl) (no-more !)) (λ fp.
         land ! (from ! (stop !)) (init ! 15 refl (tt, record { fits = fp })) $
         assigns ! (of-opd ! (load ! (from ! (fld ! refl (stop !))) (look-in ! 5 (sub ! 1 refl (whole !))))) (from ! (stop !)) (init ! 25 refl (tt, record { fits = kn′ .1 .0 })) $
-        row-pass ! (in-seq ! (fmOf 𝓤 H (W .laws) 𝓣)) mem run known-row L ys (length us) (kn′ .1 .0) state mstate gstate (settings .page) fp 33554432 fS lo hi (λ _. and-then ! (load ! (from ! (stop !)) (look ! 3 refl)) (and-then ! (load ! (from ! (stop !)) (look ! 25 refl)) (and-then ! (load ! (from ! (stop !)) (look ! 7 refl)) (and-then ! (load ! (from ! (stop !)) (look ! 15 refl)) (and-then ! (big-lit ! (record { fits = lit< tt })) (no-more !)))))) (
+        row-pass ! (in-seq ! (fmOf 𝓤 H (W .laws) 𝓣)) mem run known-row L ys (length us) (kn′ .1 .0) state mstate gstate (settings .page) fp 33554432 fS lo hi (λ _. and-then ! (in-local ! refl) (and-then ! (in-local ! refl) (and-then ! (in-local ! refl) (and-then ! (in-local ! refl) (and-then ! (big-lit ! (record { fits = lit< tt })) (no-more !)))))) (
         land ! (from ! (stop !)) (init ! 17 refl (tt, tt)) $
-        looked-at-step ! (in-seq ! (fmOf 𝓤 H (W .laws) 𝓣)) mem run known-looked ok state mstate gstate (λ _. and-then ! (load ! (from ! (stop !)) (look ! 17 refl)) (and-then ! (load ! (from ! (stop !)) (look ! 7 refl)) (no-more !))) (λ fk.
+        looked-at-step ! (in-seq ! (fmOf 𝓤 H (W .laws) 𝓣)) mem run known-looked ok state mstate gstate (λ _. and-then ! (in-local ! refl) (and-then ! (in-local ! refl) (no-more !))) (λ fk.
         land ! (from ! (stop !)) (init ! 19 refl (tt, record { fits = fk })) $
-        holds-step ! (in-seq ! (fmOf 𝓤 H (W .laws) 𝓣)) mem run known-holds address faddress (λ _. and-then ! (load ! (from ! (stop !)) (look ! 13 refl)) (no-more !)) (λ vq gq.
+        holds-step ! (in-seq ! (fmOf 𝓤 H (W .laws) 𝓣)) mem run known-holds address faddress (λ _. and-then ! (in-local ! refl) (no-more !)) (λ vq gq.
         land ! (from ! (stop !)) (init ! 21 refl (EL.lawful Q.the-type Q′.the-laws 𝓤 H A W tt .typed (Holds address) (vq ∷ []) gq .0)) $
-        scan-pass ! (in-seq ! (fmOf 𝓤 H (W .laws) 𝓣)) mem run known-scan L ys k fk 33554432 fS (Holds address) vq gq lo hi (λ _. and-then ! (load ! (from ! (stop !)) (look ! 3 refl)) (and-then ! (load ! (from ! (stop !)) (look ! 19 refl)) (and-then ! (big-lit ! (record { fits = lit< tt })) (and-then ! (load ! (from ! (stop !)) (look ! 21 refl)) (no-more !))))) (λ vf gf.
+        scan-pass ! (in-seq ! (fmOf 𝓤 H (W .laws) 𝓣)) mem run known-scan L ys k fk 33554432 fS (Holds address) vq gq lo hi (λ _. and-then ! (in-local ! refl) (and-then ! (in-local ! refl) (and-then ! (big-lit ! (record { fits = lit< tt })) (and-then ! (in-local ! refl) (no-more !))))) (λ vf gf.
         land ! (from ! (stop !)) (init ! 23 refl (EL.lawful F.the-type F′.the-laws 𝓤 H A W tt .typed fo (vf ∷ []) gf .0)) $
-        owns-reply-step ! (in-seq ! (fmOf 𝓤 H (W .laws) 𝓣)) mem run known-reply ok state mstate gstate fo vf gf (λ _. and-then ! (load ! (from ! (stop !)) (look ! 17 refl)) (and-then ! (load ! (from ! (stop !)) (look ! 7 refl)) (and-then ! (load ! (from ! (stop !)) (look ! 23 refl)) (no-more !)))) (λ vr gr.
+        owns-reply-step ! (in-seq ! (fmOf 𝓤 H (W .laws) 𝓣)) mem run known-reply ok state mstate gstate fo vf gf (λ _. and-then ! (in-local ! refl) (and-then ! (in-local ! refl) (and-then ! (in-local ! refl) (no-more !)))) (λ vr gr.
         land ! (from ! (stop !)) (init ! 1 refl (LL.lawful Y.the-type Y′.the-laws 𝓤 H A W .typed re (vr ∷ []) gr .0)) $
         returns ! (look ! 1 refl) $ used ! $ used ! $ used ! $ used ! $ used ! $ used ! $ used ! $ used ! $ used ! $ used ! $ used ! $ used ! $ used ! $ free0 ! $
         finish 𝓤 H A T.the-row u32 L L′ Y.the-row ys us χ W (‵ ftrue) vr re gr (owns-step 33554432 ys us state ns settings address))))))))

@@ -47,7 +47,7 @@ use Rattle.layer.proofs.Settings.Laws as Y′
 use Rattle.layer.proofs.Reply as P
 use Rattle.layer.proofs.Reply.Laws as P′
 use Rattle.records.proofs.Walk.{Loan, Known, lent, sliceOf}
-use Rattle.records.proofs.Locals.{enters, used}
+use Rattle.records.proofs.Locals.{enters, used, in-local}
 use Rattle.records.proofs.Frame.{Done2, finish2, mut2-meets}
 use Rattle.records.proofs.Calls.{in-seq}
 use Rattle.layer.specs.World.{Leaves}
@@ -87,10 +87,10 @@ module _ {M : Type 1} (𝓤 : URA M) (H : Heap 𝓤) (A : Atoms 𝓤) (W : Given
         pass1 ! (init ! 3 refl (tt, (tt, (record { fits = kn .1 .0 }, tt)))) $ pass1 ! (init ! 5 refl (tt, (tt, (record { fits = kn′ .1 .0 }, tt)))) $ pass1 ! (init ! 7 refl (LL.lawful Z.the-type Z′.the-laws 𝓤 H A W .typed s (vs ∷ []) gs .0)) $ pass1 ! (init ! 9 refl (tt, record { fits = ft })) $
         pass1 ! (init ! 11 refl (LL.lawful Y.the-type Y′.the-laws 𝓤 H A W .typed c (vc ∷ []) gc .0)) $ pass1 ! (init ! 13 refl (sint-lawful 𝓤 H A W w32 .typed id (vid ∷ []) gid .0)) $ pass0 ! $
         assigns ! (addr ! (from ! (fld ! refl (hop ! (look-in ! 3 (sub ! 0 refl (whole !))) (stop !))))) (from ! (stop !)) (init ! 15 refl (tt, tt)) $
-        assigns ! (agg ! (and-then ! (load ! (from ! (stop !)) (look ! 15 refl)) (and-then ! (load ! (from ! (fld ! refl (stop !))) (look-in ! 3 (sub ! 1 refl (whole !)))) (no-more !)))) (from ! (stop !)) (init ! 17 refl (tt, (tt, (record { fits = kn .1 .0 }, tt)))) $
+        assigns ! (agg ! (and-then ! (in-local ! refl) (and-then ! (load ! (from ! (fld ! refl (stop !))) (look-in ! 3 (sub ! 1 refl (whole !)))) (no-more !)))) (from ! (stop !)) (init ! 17 refl (tt, (tt, (record { fits = kn .1 .0 }, tt)))) $
         assigns ! (addr ! (from ! (fld ! refl (hop ! (look-in ! 5 (sub ! 0 refl (whole !))) (stop !))))) (from ! (stop !)) (init ! 19 refl (tt, tt)) $
-        assigns ! (agg ! (and-then ! (load ! (from ! (stop !)) (look ! 19 refl)) (and-then ! (load ! (from ! (fld ! refl (stop !))) (look-in ! 5 (sub ! 1 refl (whole !)))) (no-more !)))) (from ! (stop !)) (init ! 21 refl (tt, (tt, (record { fits = kn′ .1 .0 }, tt)))) $
-        claim-step ! (in-seq ! (fmOf 𝓤 H (W .laws) 𝓣)) mem run known L L′ ys us s vs gs c vc gc id vid gid 1 (lit< tt) false (λ _. and-then ! (load ! (from ! (stop !)) (look ! 17 refl)) (and-then ! (load ! (from ! (stop !)) (look ! 21 refl)) (and-then ! (load ! (from ! (stop !)) (look ! 7 refl)) (and-then ! (load ! (from ! (stop !)) (look ! 11 refl)) (and-then ! (load ! (from ! (stop !)) (look ! 13 refl)) (and-then ! (lit ! tt) (and-then ! (false-lit !) (no-more !)))))))) (λ v r zs ts gr e l l′.
+        assigns ! (agg ! (and-then ! (in-local ! refl) (and-then ! (load ! (from ! (fld ! refl (stop !))) (look-in ! 5 (sub ! 1 refl (whole !)))) (no-more !)))) (from ! (stop !)) (init ! 21 refl (tt, (tt, (record { fits = kn′ .1 .0 }, tt)))) $
+        claim-step ! (in-seq ! (fmOf 𝓤 H (W .laws) 𝓣)) mem run known L L′ ys us s vs gs c vc gc id vid gid _ (lit< tt) false (λ _. and-then ! (in-local ! refl) (and-then ! (in-local ! refl) (and-then ! (in-local ! refl) (and-then ! (in-local ! refl) (and-then ! (in-local ! refl) (and-then ! (lit ! tt) (and-then ! (false-lit !) (no-more !)))))))) (λ v r zs ts gr e l l′.
         land ! (from ! (stop !)) (init ! 1 refl (LL.lawful P.the-type P′.the-laws 𝓤 H A W .typed r (v ∷ []) gr .0)) $
         returns ! (look ! 1 refl) $ used ! $ used ! $ used ! $ used ! $ used ! $ used ! $ used ! $ used ! $ used ! $ used ! $ used ! $ free0 ! $
         finish2 𝓤 H A T.the-row u32 L L′ P.the-row ys us χ W (‵ ftrue) v r zs ts gr l l′ (e ns)))

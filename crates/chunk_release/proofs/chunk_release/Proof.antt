@@ -58,7 +58,7 @@ use Rattle.judge.specs.declared.Query.the-variants.{Holds}
 use Rattle.judge.proofs.Query as Q
 use Rattle.judge.proofs.Query.Laws as Q′
 use Rattle.records.proofs.Walk.{Loan, Known, lent, sliceOf}
-use Rattle.records.proofs.Locals.{enters, used}
+use Rattle.records.proofs.Locals.{enters, used, in-local}
 use Rattle.records.proofs.Frame.{Done2, finish2, mut2-meets}
 use Rattle.records.proofs.Calls.{in-seq, swaps}
 use Rattle.table.proofs.Steps.{Row, Scan, HeadOr, row-step, scan-step, head-or-step}
@@ -190,46 +190,46 @@ module _ {M : Type 1} (𝓤 : URA M) (H : Heap 𝓤) (A : Atoms 𝓤) (W : Given
         pass1 ! (init ! 11 refl (LL.lawful B.the-type B′.the-laws 𝓤 H A W .typed settings (vs ∷ []) gs .0)) $ pass1 ! (init ! 13 refl (tt, record { fits = fp })) $ pass1 ! (init ! 15 refl (tt, record { fits = fn })) $ pass1 ! (init ! 17 refl (EL.lawful D.the-type D′.the-laws 𝓤 H A W tt .typed told (vd ∷ []) gd .0)) $ pass1 ! (init ! 19 refl (tt, tt)) $ pass0 ! $
         -- row 1
         assigns ! (addr ! (from ! (fld ! refl (hop ! (look-in ! 3 (sub ! 0 refl (whole !))) (stop !))))) (from ! (stop !)) (init ! 39 refl (tt, tt)) $
-        assigns ! (agg ! (and-then ! (load ! (from ! (stop !)) (look ! 39 refl)) (and-then ! (load ! (from ! (fld ! refl (stop !))) (look-in ! 3 (sub ! 1 refl (whole !)))) (no-more !)))) (from ! (stop !)) (init ! 41 refl (tt, (tt, (record { fits = kn .1 .0 }, tt)))) $
+        assigns ! (agg ! (and-then ! (in-local ! refl) (and-then ! (load ! (from ! (fld ! refl (stop !))) (look-in ! 3 (sub ! 1 refl (whole !)))) (no-more !)))) (from ! (stop !)) (init ! 41 refl (tt, (tt, (record { fits = kn .1 .0 }, tt)))) $
         assigns ! (of-opd ! (load ! (from ! (fld ! refl (stop !))) (look-in ! 5 (sub ! 1 refl (whole !))))) (from ! (stop !)) (init ! 43 refl (tt, record { fits = kn′ .1 .0 })) $
-        page-step ! (in-seq ! (fmOf 𝓤 H (W .laws) 𝓣)) mem run known-page settings vs gs (λ _. and-then ! (load ! (from ! (stop !)) (look ! 11 refl)) (no-more !)) (λ fpage.
+        page-step ! (in-seq ! (fmOf 𝓤 H (W .laws) 𝓣)) mem run known-page settings vs gs (λ _. and-then ! (in-local ! refl) (no-more !)) (λ fpage.
         land ! (from ! (stop !)) (init ! 45 refl (tt, record { fits = fpage })) $
-        row-step ! (in-seq ! (fmOf 𝓤 H (W .laws) 𝓣)) mem run known-row L ys (length us) (kn′ .1 .0) state vz gz (settings .page) fpage S (lit< tt) (lit< tt) (lit≤ tt) (λ _. and-then ! (load ! (from ! (stop !)) (look ! 41 refl)) (and-then ! (load ! (from ! (stop !)) (look ! 43 refl)) (and-then ! (load ! (from ! (stop !)) (look ! 7 refl)) (and-then ! (load ! (from ! (stop !)) (look ! 45 refl)) (and-then ! (big-lit ! (record { fits = lit< tt })) (no-more !)))))) (
+        row-step ! (in-seq ! (fmOf 𝓤 H (W .laws) 𝓣)) mem run known-row L ys (length us) (kn′ .1 .0) state vz gz (settings .page) fpage S (lit< tt) (lit< tt) (lit≤ tt) (λ _. and-then ! (in-local ! refl) (and-then ! (in-local ! refl) (and-then ! (in-local ! refl) (and-then ! (in-local ! refl) (and-then ! (big-lit ! (record { fits = lit< tt })) (no-more !)))))) (
         land ! (from ! (stop !)) (init ! 21 refl (tt, tt)) $
         -- the scan
-        count-step ! (in-seq ! (fmOf 𝓤 H (W .laws) 𝓣)) mem run known-count ok state vz gz n fn (λ _. and-then ! (load ! (from ! (stop !)) (look ! 21 refl)) (and-then ! (load ! (from ! (stop !)) (look ! 7 refl)) (and-then ! (load ! (from ! (stop !)) (look ! 15 refl)) (no-more !)))) (λ fk.
+        count-step ! (in-seq ! (fmOf 𝓤 H (W .laws) 𝓣)) mem run known-count ok state vz gz n fn (λ _. and-then ! (in-local ! refl) (and-then ! (in-local ! refl) (and-then ! (in-local ! refl) (no-more !)))) (λ fk.
         land ! (from ! (stop !)) (init ! 23 refl (tt, record { fits = fk })) $
         assigns ! (addr ! (from ! (fld ! refl (hop ! (look-in ! 3 (sub ! 0 refl (whole !))) (stop !))))) (from ! (stop !)) (init ! 47 refl (tt, tt)) $
-        assigns ! (agg ! (and-then ! (load ! (from ! (stop !)) (look ! 47 refl)) (and-then ! (load ! (from ! (fld ! refl (stop !))) (look-in ! 3 (sub ! 1 refl (whole !)))) (no-more !)))) (from ! (stop !)) (init ! 49 refl (tt, (tt, (record { fits = kn .1 .0 }, tt)))) $
-        holds-step ! (in-seq ! (fmOf 𝓤 H (W .laws) 𝓣)) mem run known-holds address fp (λ _. and-then ! (load ! (from ! (stop !)) (look ! 13 refl)) (no-more !)) (λ vq gq.
+        assigns ! (agg ! (and-then ! (in-local ! refl) (and-then ! (load ! (from ! (fld ! refl (stop !))) (look-in ! 3 (sub ! 1 refl (whole !)))) (no-more !)))) (from ! (stop !)) (init ! 49 refl (tt, (tt, (record { fits = kn .1 .0 }, tt)))) $
+        holds-step ! (in-seq ! (fmOf 𝓤 H (W .laws) 𝓣)) mem run known-holds address fp (λ _. and-then ! (in-local ! refl) (no-more !)) (λ vq gq.
         land ! (from ! (stop !)) (init ! 51 refl (EL.lawful Q.the-type Q′.the-laws 𝓤 H A W tt .typed (Holds address) (vq ∷ []) gq .0)) $
-        scan-step ! (in-seq ! (fmOf 𝓤 H (W .laws) 𝓣)) mem run known-scan L ys k fk S (lit< tt) (Holds address) vq gq (lit< tt) (lit≤ tt) (λ _. and-then ! (load ! (from ! (stop !)) (look ! 49 refl)) (and-then ! (load ! (from ! (stop !)) (look ! 23 refl)) (and-then ! (big-lit ! (record { fits = lit< tt })) (and-then ! (load ! (from ! (stop !)) (look ! 51 refl)) (no-more !))))) (λ vf gf.
+        scan-step ! (in-seq ! (fmOf 𝓤 H (W .laws) 𝓣)) mem run known-scan L ys k fk S (lit< tt) (Holds address) vq gq (lit< tt) (lit≤ tt) (λ _. and-then ! (in-local ! refl) (and-then ! (in-local ! refl) (and-then ! (big-lit ! (record { fits = lit< tt })) (and-then ! (in-local ! refl) (no-more !))))) (λ vf gf.
         land ! (from ! (stop !)) (init ! 25 refl (EL.lawful F.the-type F′.the-laws 𝓤 H A W tt .typed f (vf ∷ []) gf .0)) $
         -- the record's head, and the run
-        stored-step ! (in-seq ! (fmOf 𝓤 H (W .laws) 𝓣)) mem run known-stored f vf gf (λ _. and-then ! (load ! (from ! (stop !)) (look ! 25 refl)) (no-more !)) (λ fi.
+        stored-step ! (in-seq ! (fmOf 𝓤 H (W .laws) 𝓣)) mem run known-stored f vf gf (λ _. and-then ! (in-local ! refl) (no-more !)) (λ fi.
         land ! (from ! (stop !)) (init ! 27 refl (tt, record { fits = fi })) $
         assigns ! (addr ! (from ! (fld ! refl (hop ! (look-in ! 3 (sub ! 0 refl (whole !))) (stop !))))) (from ! (stop !)) (init ! 53 refl (tt, tt)) $
-        assigns ! (agg ! (and-then ! (load ! (from ! (stop !)) (look ! 53 refl)) (and-then ! (load ! (from ! (fld ! refl (stop !))) (look-in ! 3 (sub ! 1 refl (whole !)))) (no-more !)))) (from ! (stop !)) (init ! 55 refl (tt, (tt, (record { fits = kn .1 .0 }, tt)))) $
-        head-or-step ! (in-seq ! (fmOf 𝓤 H (W .laws) 𝓣)) mem run known-head L ys (storedAt f) fi (λ _. and-then ! (load ! (from ! (stop !)) (look ! 55 refl)) (and-then ! (load ! (from ! (stop !)) (look ! 27 refl)) (no-more !))) (λ va ga.
+        assigns ! (agg ! (and-then ! (in-local ! refl) (and-then ! (load ! (from ! (fld ! refl (stop !))) (look-in ! 3 (sub ! 1 refl (whole !)))) (no-more !)))) (from ! (stop !)) (init ! 55 refl (tt, (tt, (record { fits = kn .1 .0 }, tt)))) $
+        head-or-step ! (in-seq ! (fmOf 𝓤 H (W .laws) 𝓣)) mem run known-head L ys (storedAt f) fi (λ _. and-then ! (in-local ! refl) (and-then ! (in-local ! refl) (no-more !))) (λ va ga.
         land ! (from ! (stop !)) (init ! 29 refl (LL.lawful J.the-type J′.the-laws 𝓤 H A W .typed a (va ∷ []) ga .0)) $
-        granted-step ! (in-seq ! (fmOf 𝓤 H (W .laws) 𝓣)) mem run known-granted a va ga address fp n fn f vf gf S (lit< tt) (lit< tt) (λ _. and-then ! (load ! (from ! (stop !)) (look ! 29 refl)) (and-then ! (load ! (from ! (stop !)) (look ! 13 refl)) (and-then ! (load ! (from ! (stop !)) (look ! 15 refl)) (and-then ! (load ! (from ! (stop !)) (look ! 25 refl)) (and-then ! (big-lit ! (record { fits = lit< tt })) (no-more !)))))) (
+        granted-step ! (in-seq ! (fmOf 𝓤 H (W .laws) 𝓣)) mem run known-granted a va ga address fp n fn f vf gf S (lit< tt) (lit< tt) (λ _. and-then ! (in-local ! refl) (and-then ! (in-local ! refl) (and-then ! (in-local ! refl) (and-then ! (in-local ! refl) (and-then ! (big-lit ! (record { fits = lit< tt })) (no-more !)))))) (
         land ! (from ! (stop !)) (init ! 31 refl (tt, tt)) $
-        start-step ! (in-seq ! (fmOf 𝓤 H (W .laws) 𝓣)) mem run known-start a va ga address fp S (lit< tt) (lit< tt) (λ _. and-then ! (load ! (from ! (stop !)) (look ! 29 refl)) (and-then ! (load ! (from ! (stop !)) (look ! 13 refl)) (and-then ! (big-lit ! (record { fits = lit< tt })) (no-more !)))) (λ fs.
+        start-step ! (in-seq ! (fmOf 𝓤 H (W .laws) 𝓣)) mem run known-start a va ga address fp S (lit< tt) (lit< tt) (λ _. and-then ! (in-local ! refl) (and-then ! (in-local ! refl) (and-then ! (big-lit ! (record { fits = lit< tt })) (no-more !)))) (λ fs.
         land ! (from ! (stop !)) (init ! 33 refl (tt, record { fits = fs })) $
-        ms-step ! (in-seq ! (fmOf 𝓤 H (W .laws) 𝓣)) mem run known-ms ns fns (λ _. and-then ! (load ! (from ! (stop !)) (look ! 9 refl)) (no-more !)) (λ fms.
+        ms-step ! (in-seq ! (fmOf 𝓤 H (W .laws) 𝓣)) mem run known-ms ns fns (λ _. and-then ! (in-local ! refl) (no-more !)) (λ fms.
         land ! (from ! (stop !)) (init ! 35 refl (tt, record { fits = fms })) $
-        delay-step ! (in-seq ! (fmOf 𝓤 H (W .laws) 𝓣)) mem run known-delay settings vs gs (λ _. and-then ! (load ! (from ! (stop !)) (look ! 11 refl)) (no-more !)) (λ fdelay.
+        delay-step ! (in-seq ! (fmOf 𝓤 H (W .laws) 𝓣)) mem run known-delay settings vs gs (λ _. and-then ! (in-local ! refl) (no-more !)) (λ fdelay.
         land ! (from ! (stop !)) (init ! 37 refl (tt, record { fits = fdelay })) $
         -- the release, the stamps, the answer
         assigns ! (addr ! (from ! (fld ! refl (hop ! (look-in ! 3 (sub ! 0 refl (whole !))) (stop !))))) (from ! (stop !)) (init ! 59 refl (tt, tt)) $
-        assigns ! (agg ! (and-then ! (load ! (from ! (stop !)) (look ! 59 refl)) (and-then ! (load ! (from ! (fld ! refl (stop !))) (look-in ! 3 (sub ! 1 refl (whole !)))) (no-more !)))) (from ! (stop !)) (init ! 61 refl (tt, (tt, (record { fits = kn .1 .0 }, tt)))) $
-        release-if-step ! (in-seq ! (fmOf 𝓤 H (W .laws) 𝓣)) mem run known-if L ys on (storedAt f) fi s fs n fn told vd gd pending (nowMs ns) fms (delayMs (settings .delay)) fdelay (on-in S ys us state settings address n) (λ _. and-then ! (load ! (from ! (stop !)) (look ! 61 refl)) (and-then ! (load ! (from ! (stop !)) (look ! 31 refl)) (and-then ! (load ! (from ! (stop !)) (look ! 27 refl)) (and-then ! (load ! (from ! (stop !)) (look ! 33 refl)) (and-then ! (load ! (from ! (stop !)) (look ! 15 refl)) (and-then ! (load ! (from ! (stop !)) (look ! 17 refl)) (and-then ! (load ! (from ! (stop !)) (look ! 19 refl)) (and-then ! (load ! (from ! (stop !)) (look ! 35 refl)) (and-then ! (load ! (from ! (stop !)) (look ! 37 refl)) (no-more !)))))))))) (λ vu gu.
+        assigns ! (agg ! (and-then ! (in-local ! refl) (and-then ! (load ! (from ! (fld ! refl (stop !))) (look-in ! 3 (sub ! 1 refl (whole !)))) (no-more !)))) (from ! (stop !)) (init ! 61 refl (tt, (tt, (record { fits = kn .1 .0 }, tt)))) $
+        release-if-step ! (in-seq ! (fmOf 𝓤 H (W .laws) 𝓣)) mem run known-if L ys on (storedAt f) fi s fs n fn told vd gd pending (nowMs ns) fms (delayMs (settings .delay)) fdelay (on-in S ys us state settings address n) (λ _. and-then ! (in-local ! refl) (and-then ! (in-local ! refl) (and-then ! (in-local ! refl) (and-then ! (in-local ! refl) (and-then ! (in-local ! refl) (and-then ! (in-local ! refl) (and-then ! (in-local ! refl) (and-then ! (in-local ! refl) (and-then ! (in-local ! refl) (no-more !)))))))))) (λ vu gu.
         land ! (from ! (stop !)) (init ! 57 refl (nothing-lawful 𝓤 H A W .typed tt (vu ∷ []) gu .0)) $
         assigns ! (addr ! (from ! (fld ! refl (hop ! (look-in ! 5 (sub ! 0 refl (whole !))) (stop !))))) (from ! (stop !)) (init ! 63 refl (tt, tt)) $
-        assigns ! (agg ! (and-then ! (load ! (from ! (stop !)) (look ! 63 refl)) (and-then ! (load ! (from ! (fld ! refl (stop !))) (look-in ! 5 (sub ! 1 refl (whole !)))) (no-more !)))) (from ! (stop !)) (init ! 65 refl (tt, (tt, (record { fits = kn′ .1 .0 }, tt)))) $
-        swaps ! $ stamps-step ! (in-seq ! (fmOf 𝓤 H (W .laws) 𝓣)) mem run known-stamps L′ us address fp n fn pending (nowMs ns) fms f vf gf a va ga S (lit< tt) (lit< tt) (found-in S ys us state settings address n) (λ _. and-then ! (load ! (from ! (stop !)) (look ! 65 refl)) (and-then ! (load ! (from ! (stop !)) (look ! 13 refl)) (and-then ! (load ! (from ! (stop !)) (look ! 15 refl)) (and-then ! (load ! (from ! (stop !)) (look ! 19 refl)) (and-then ! (load ! (from ! (stop !)) (look ! 35 refl)) (and-then ! (load ! (from ! (stop !)) (look ! 25 refl)) (and-then ! (load ! (from ! (stop !)) (look ! 29 refl)) (and-then ! (big-lit ! (record { fits = lit< tt })) (no-more !))))))))) (λ vw gw same. swaps ! $
+        assigns ! (agg ! (and-then ! (in-local ! refl) (and-then ! (load ! (from ! (fld ! refl (stop !))) (look-in ! 5 (sub ! 1 refl (whole !)))) (no-more !)))) (from ! (stop !)) (init ! 65 refl (tt, (tt, (record { fits = kn′ .1 .0 }, tt)))) $
+        swaps ! $ stamps-step ! (in-seq ! (fmOf 𝓤 H (W .laws) 𝓣)) mem run known-stamps L′ us address fp n fn pending (nowMs ns) fms f vf gf a va ga S (lit< tt) (lit< tt) (found-in S ys us state settings address n) (λ _. and-then ! (in-local ! refl) (and-then ! (in-local ! refl) (and-then ! (in-local ! refl) (and-then ! (in-local ! refl) (and-then ! (in-local ! refl) (and-then ! (in-local ! refl) (and-then ! (in-local ! refl) (and-then ! (big-lit ! (record { fits = lit< tt })) (no-more !))))))))) (λ vw gw same. swaps ! $
         land ! (from ! (stop !)) (store ! 57 refl (nothing-lawful 𝓤 H A W .typed tt (vw ∷ []) gw .0)) $
-        answer-step ! (in-seq ! (fmOf 𝓤 H (W .laws) 𝓣)) mem run known-answer ok state vz gz address fp n fn f vf gf a va ga S (lit< tt) (lit< tt) (λ _. and-then ! (load ! (from ! (stop !)) (look ! 21 refl)) (and-then ! (load ! (from ! (stop !)) (look ! 7 refl)) (and-then ! (load ! (from ! (stop !)) (look ! 13 refl)) (and-then ! (load ! (from ! (stop !)) (look ! 15 refl)) (and-then ! (load ! (from ! (stop !)) (look ! 25 refl)) (and-then ! (load ! (from ! (stop !)) (look ! 29 refl)) (and-then ! (big-lit ! (record { fits = lit< tt })) (no-more !)))))))) (λ vr gr.
+        answer-step ! (in-seq ! (fmOf 𝓤 H (W .laws) 𝓣)) mem run known-answer ok state vz gz address fp n fn f vf gf a va ga S (lit< tt) (lit< tt) (λ _. and-then ! (in-local ! refl) (and-then ! (in-local ! refl) (and-then ! (in-local ! refl) (and-then ! (in-local ! refl) (and-then ! (in-local ! refl) (and-then ! (in-local ! refl) (and-then ! (big-lit ! (record { fits = lit< tt })) (no-more !)))))))) (λ vr gr.
         land ! (from ! (stop !)) (init ! 1 refl (LL.lawful P.the-type P′.the-laws 𝓤 H A W .typed r (vr ∷ []) gr .0)) $
         returns ! (look ! 1 refl) $ used ! $ used ! $ used ! $ used ! $ used ! $ used ! $ used ! $ used ! $ used ! $ used ! $ used ! $ used ! $ used ! $ used ! $ used ! $ used ! $ used ! $ used ! $ used ! $ used ! $ used ! $ used ! $ used ! $ used ! $ used ! $ used ! $ used ! $ used ! $ used ! $ used ! $ used ! $ used ! $ used ! $ free0 ! $
         finish2 𝓤 H A T.the-row u32 L L′ P.the-row ys us χ W (‵ ftrue) vr r zs ts gr (as-many S ys us state settings address n ns told pending) same (ends S ys us state settings address n ns told pending))))))))))))))))

@@ -46,7 +46,7 @@ use Rattle.layer.proofs.Settings.Laws as G′
 use Rattle.entry.proofs.writing.Writing as X
 use Rattle.entry.proofs.writing.Writing.Laws as X′
 use Rattle.records.proofs.Walk.{Loan, Known, lent, sliceOf}
-use Rattle.records.proofs.Locals.{enters, used}
+use Rattle.records.proofs.Locals.{enters, used, in-local}
 use Rattle.records.proofs.Calls.{in-seq}
 use Rattle.entry.proofs.EntrySteps.{Page, page-step}
 use Rattle.records.proofs.Frame.{Done2, finish2, mut2-meets}
@@ -90,18 +90,18 @@ module _ {M : Type 1} (𝓤 : URA M) (H : Heap 𝓤) (A : Atoms 𝓤) (W : Given
     walk mstate msettings kn kn′ gstate fns gsettings fstart fsize gnode =
         enters ! code.function (λ bs. params1 ! $
         pass1 ! (init ! 3 refl (tt, (tt, (record { fits = kn .1 .0 }, tt)))) $ pass1 ! (init ! 5 refl (tt, (tt, (record { fits = kn′ .1 .0 }, tt)))) $ pass1 ! (init ! 7 refl (LL.lawful Z.the-type Z′.the-laws 𝓤 H A W .typed state (mstate ∷ []) gstate .0)) $ pass1 ! (init ! 9 refl (tt, record { fits = fns })) $ pass1 ! (init ! 11 refl (LL.lawful G.the-type G′.the-laws 𝓤 H A W .typed settings (msettings ∷ []) gsettings .0)) $ pass1 ! (init ! 13 refl (tt, record { fits = fstart })) $ pass1 ! (init ! 15 refl (tt, record { fits = fsize })) $ pass1 ! (init ! 17 refl (tt, tt)) $ pass1 ! (init ! 19 refl (tt, tt)) $ pass1 ! (init ! 21 refl (tt, tt)) $ pass1 ! (init ! 23 refl (sint-lawful 𝓤 H A W w32 .typed node (vint w32 (ofZ w32 node) ∷ []) gnode .0)) $ pass1 ! (init ! 25 refl (tt, tt)) $ pass1 ! (init ! 27 refl (tt, tt)) $ pass1 ! (init ! 29 refl (tt, tt)) $ pass0 ! $
-        page-step ! (in-seq ! (fmOf 𝓤 H (W .laws) 𝓣)) mem run known-page settings msettings gsettings (λ _. and-then ! (load ! (from ! (stop !)) (look ! 11 refl)) (no-more !)) (λ fp.
+        page-step ! (in-seq ! (fmOf 𝓤 H (W .laws) 𝓣)) mem run known-page settings msettings gsettings (λ _. and-then ! (in-local ! refl) (no-more !)) (λ fp.
         land ! (from ! (stop !)) (init ! 31 refl (tt, record { fits = fp })) $
         assigns ! (addr ! (from ! (fld ! refl (hop ! (look-in ! 3 (sub ! 0 refl (whole !))) (stop !))))) (from ! (stop !)) (init ! 35 refl (tt, tt)) $
-        assigns ! (agg ! (and-then ! (load ! (from ! (stop !)) (look ! 35 refl)) (and-then ! (load ! (from ! (fld ! refl (stop !))) (look-in ! 3 (sub ! 1 refl (whole !)))) (no-more !)))) (from ! (stop !)) (init ! 37 refl (tt, (tt, (record { fits = kn .1 .0 }, tt)))) $
+        assigns ! (agg ! (and-then ! (in-local ! refl) (and-then ! (load ! (from ! (fld ! refl (stop !))) (look-in ! 3 (sub ! 1 refl (whole !)))) (no-more !)))) (from ! (stop !)) (init ! 37 refl (tt, (tt, (record { fits = kn .1 .0 }, tt)))) $
         assigns ! (of-opd ! (load ! (from ! (fld ! refl (stop !))) (look-in ! 5 (sub ! 1 refl (whole !))))) (from ! (stop !)) (init ! 39 refl (tt, record { fits = kn′ .1 .0 })) $
-        manage-writing-step ! (in-seq ! (fmOf 𝓤 H (W .laws) 𝓣)) mem run known-manage-writing L ys (length us) (kn′ .1 .0) state mstate gstate (settings .page) fp start fstart size fsize exclusive node gnode mapped reserved (λ _. and-then ! (load ! (from ! (stop !)) (look ! 37 refl)) (and-then ! (load ! (from ! (stop !)) (look ! 39 refl)) (and-then ! (load ! (from ! (stop !)) (look ! 7 refl)) (and-then ! (load ! (from ! (stop !)) (look ! 31 refl)) (and-then ! (load ! (from ! (stop !)) (look ! 13 refl)) (and-then ! (load ! (from ! (stop !)) (look ! 15 refl)) (and-then ! (load ! (from ! (stop !)) (look ! 25 refl)) (and-then ! (load ! (from ! (stop !)) (look ! 23 refl)) (and-then ! (load ! (from ! (stop !)) (look ! 27 refl)) (and-then ! (load ! (from ! (stop !)) (look ! 29 refl)) (no-more !))))))))))) (λ vw w gw e.
+        manage-writing-step ! (in-seq ! (fmOf 𝓤 H (W .laws) 𝓣)) mem run known-manage-writing L ys (length us) (kn′ .1 .0) state mstate gstate (settings .page) fp start fstart size fsize exclusive node gnode mapped reserved (λ _. and-then ! (in-local ! refl) (and-then ! (in-local ! refl) (and-then ! (in-local ! refl) (and-then ! (in-local ! refl) (and-then ! (in-local ! refl) (and-then ! (in-local ! refl) (and-then ! (in-local ! refl) (and-then ! (in-local ! refl) (and-then ! (in-local ! refl) (and-then ! (in-local ! refl) (no-more !))))))))))) (λ vw w gw e.
         land ! (from ! (stop !)) (init ! 33 refl (LL.lawful X.the-type X′.the-laws 𝓤 H A W .typed w (vw ∷ []) gw .0)) $
         assigns ! (addr ! (from ! (fld ! refl (hop ! (look-in ! 3 (sub ! 0 refl (whole !))) (stop !))))) (from ! (stop !)) (init ! 41 refl (tt, tt)) $
-        assigns ! (agg ! (and-then ! (load ! (from ! (stop !)) (look ! 41 refl)) (and-then ! (load ! (from ! (fld ! refl (stop !))) (look-in ! 3 (sub ! 1 refl (whole !)))) (no-more !)))) (from ! (stop !)) (init ! 43 refl (tt, (tt, (record { fits = kn .1 .0 }, tt)))) $
+        assigns ! (agg ! (and-then ! (in-local ! refl) (and-then ! (load ! (from ! (fld ! refl (stop !))) (look-in ! 3 (sub ! 1 refl (whole !)))) (no-more !)))) (from ! (stop !)) (init ! 43 refl (tt, (tt, (record { fits = kn .1 .0 }, tt)))) $
         assigns ! (addr ! (from ! (fld ! refl (hop ! (look-in ! 5 (sub ! 0 refl (whole !))) (stop !))))) (from ! (stop !)) (init ! 45 refl (tt, tt)) $
-        assigns ! (agg ! (and-then ! (load ! (from ! (stop !)) (look ! 45 refl)) (and-then ! (load ! (from ! (fld ! refl (stop !))) (look-in ! 5 (sub ! 1 refl (whole !)))) (no-more !)))) (from ! (stop !)) (init ! 47 refl (tt, (tt, (record { fits = kn′ .1 .0 }, tt)))) $
-        write-step ! (in-seq ! (fmOf 𝓤 H (W .laws) 𝓣)) mem run known-write L L′ ys us w vw gw (manage-stamps 33554432 ys us state ns settings start size exclusive node mapped reserved w e) (λ _. and-then ! (load ! (from ! (stop !)) (look ! 43 refl)) (and-then ! (load ! (from ! (stop !)) (look ! 47 refl)) (and-then ! (load ! (from ! (stop !)) (look ! 33 refl)) (no-more !)))) (λ vr gr len.
+        assigns ! (agg ! (and-then ! (in-local ! refl) (and-then ! (load ! (from ! (fld ! refl (stop !))) (look-in ! 5 (sub ! 1 refl (whole !)))) (no-more !)))) (from ! (stop !)) (init ! 47 refl (tt, (tt, (record { fits = kn′ .1 .0 }, tt)))) $
+        write-step ! (in-seq ! (fmOf 𝓤 H (W .laws) 𝓣)) mem run known-write L L′ ys us w vw gw (manage-stamps 33554432 ys us state ns settings start size exclusive node mapped reserved w e) (λ _. and-then ! (in-local ! refl) (and-then ! (in-local ! refl) (and-then ! (in-local ! refl) (no-more !)))) (λ vr gr len.
         land ! (from ! (stop !)) (init ! 1 refl (LL.lawful Y.the-type Y′.the-laws 𝓤 H A W .typed (w .reply) (vr ∷ []) gr .0)) $
         returns ! (look ! 1 refl) $ used ! $ used ! $ used ! $ used ! $ used ! $ used ! $ used ! $ used ! $ used ! $ used ! $ used ! $ used ! $ used ! $ used ! $ used ! $ used ! $ used ! $ used ! $ used ! $ used ! $ used ! $ used ! $ used ! $ used ! $ free0 ! $
         finish2 𝓤 H A T.the-row u32 L L′ Y.the-row ys us χ W (‵ ftrue) vr (w .reply) (set ys (recordPlace (w .id)) (w .arena)) (stampsWith us (w .stamped)) gr (length-set ys (recordPlace (w .id)) (w .arena)) len (manage-done 33554432 ys us state ns settings start size exclusive node mapped reserved w (kn .1 .0) e)))))

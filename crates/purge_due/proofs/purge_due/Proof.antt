@@ -53,7 +53,7 @@ use Rattle.registers.proofs.gate.Symbol as gate-def
 use Rattle.registers.proofs.gate.Symbol.{name as #registers·gate}
 use Rattle.registers.proofs.gate.Met as gate-thm
 use Rattle.records.proofs.Walk.{Loan, lent, sliceOf}
-use Rattle.records.proofs.Locals.{enters, used}
+use Rattle.records.proofs.Locals.{enters, used, in-local}
 use Rattle.records.proofs.Calls.{in-seq}
 use Rattle.records.proofs.Frame.{Done2, finish2, mut2-meets}
 use Rattle.table.proofs.Steps.{Row, row-step}
@@ -121,27 +121,27 @@ module _ {M : Type 1} (𝓤 : URA M) (H : Heap 𝓤) (A : Atoms 𝓤) (W : Given
         enters ! code.function (λ bs. params1 ! $
         pass1 ! (init ! 3 refl (tt, (tt, (record { fits = fl }, tt)))) $ pass1 ! (init ! 5 refl (tt, (tt, (record { fits = fl′ }, tt)))) $ pass1 ! (init ! 7 refl (LL.lawful Z.the-type Z′.the-laws 𝓤 H A W .typed s (mach ∷ []) gs .0)) $ pass1 ! (init ! 9 refl (tt, record { fits = fns })) $
         pass1 ! (init ! 11 refl (LL.lawful D.the-type D′.the-laws 𝓤 H A W .typed settings (mach′ ∷ []) gd .0)) $ pass1 ! (init ! 13 refl (tt, tt)) $ pass0 ! $
-        page-step ! (in-seq ! (fmOf 𝓤 H (W .laws) 𝓣)) mem run known-page settings mach′ gd (λ _. and-then ! (load ! (from ! (stop !)) (look ! 11 refl)) (no-more !)) (λ fp.
+        page-step ! (in-seq ! (fmOf 𝓤 H (W .laws) 𝓣)) mem run known-page settings mach′ gd (λ _. and-then ! (in-local ! refl) (no-more !)) (λ fp.
         land ! (from ! (stop !)) (init ! 15 refl (tt, record { fits = fp })) $
         assigns ! (addr ! (from ! (fld ! refl (hop ! (look-in ! 3 (sub ! 0 refl (whole !))) (stop !))))) (from ! (stop !)) (init ! 27 refl (tt, tt)) $
-        assigns ! (agg ! (and-then ! (load ! (from ! (stop !)) (look ! 27 refl)) (and-then ! (load ! (from ! (fld ! refl (stop !))) (look-in ! 3 (sub ! 1 refl (whole !)))) (no-more !)))) (from ! (stop !)) (init ! 29 refl (tt, (tt, (record { fits = fl }, tt)))) $
+        assigns ! (agg ! (and-then ! (in-local ! refl) (and-then ! (load ! (from ! (fld ! refl (stop !))) (look-in ! 3 (sub ! 1 refl (whole !)))) (no-more !)))) (from ! (stop !)) (init ! 29 refl (tt, (tt, (record { fits = fl }, tt)))) $
         assigns ! (of-opd ! (load ! (from ! (fld ! refl (stop !))) (look-in ! 5 (sub ! 1 refl (whole !))))) (from ! (stop !)) (init ! 31 refl (tt, record { fits = fl′ })) $
-        row-step ! (in-seq ! (fmOf 𝓤 H (W .laws) 𝓣)) mem run known-row L ys (length us) fl′ s mach gs (settings .page) fp 33554432 (lit< tt) (omega arith) (omega arith) (λ _. and-then ! (load ! (from ! (stop !)) (look ! 29 refl)) (and-then ! (load ! (from ! (stop !)) (look ! 31 refl)) (and-then ! (load ! (from ! (stop !)) (look ! 7 refl)) (and-then ! (load ! (from ! (stop !)) (look ! 15 refl)) (and-then ! (big-lit ! (record { fits = lit< tt })) (no-more !)))))) (
+        row-step ! (in-seq ! (fmOf 𝓤 H (W .laws) 𝓣)) mem run known-row L ys (length us) fl′ s mach gs (settings .page) fp 33554432 (lit< tt) (omega arith) (omega arith) (λ _. and-then ! (in-local ! refl) (and-then ! (in-local ! refl) (and-then ! (in-local ! refl) (and-then ! (in-local ! refl) (and-then ! (big-lit ! (record { fits = lit< tt })) (no-more !)))))) (
         land ! (from ! (stop !)) (init ! 17 refl (tt, tt)) $
-        sweep-count-step ! (in-seq ! (fmOf 𝓤 H (W .laws) 𝓣)) mem run known-count ok s mach gs (λ _. and-then ! (load ! (from ! (stop !)) (look ! 17 refl)) (and-then ! (load ! (from ! (stop !)) (look ! 7 refl)) (no-more !))) (λ fk.
+        sweep-count-step ! (in-seq ! (fmOf 𝓤 H (W .laws) 𝓣)) mem run known-count ok s mach gs (λ _. and-then ! (in-local ! refl) (and-then ! (in-local ! refl) (no-more !))) (λ fk.
         land ! (from ! (stop !)) (init ! 19 refl (tt, record { fits = fk })) $
-        sweep-of-step ! (in-seq ! (fmOf 𝓤 H (W .laws) 𝓣)) mem run known-of force ns fns settings mach′ gd (λ _. and-then ! (load ! (from ! (stop !)) (look ! 13 refl)) (and-then ! (load ! (from ! (stop !)) (look ! 9 refl)) (and-then ! (load ! (from ! (stop !)) (look ! 11 refl)) (no-more !)))) (λ vw gw.
+        sweep-of-step ! (in-seq ! (fmOf 𝓤 H (W .laws) 𝓣)) mem run known-of _ ns fns settings mach′ gd (λ _. and-then ! (in-local ! refl) (and-then ! (in-local ! refl) (and-then ! (in-local ! refl) (no-more !)))) (λ vw gw.
         land ! (from ! (stop !)) (init ! 21 refl (LL.lawful X.the-type X′.the-laws 𝓤 H A W .typed (sweepOf force ns settings) (vw ∷ []) gw .0)) $
-        mark-step ! (in-seq ! (fmOf 𝓤 H (W .laws) 𝓣)) mem run known-mark s mach gs (λ _. and-then ! (load ! (from ! (stop !)) (look ! 7 refl)) (no-more !)) (
+        mark-step ! (in-seq ! (fmOf 𝓤 H (W .laws) 𝓣)) mem run known-mark s mach gs (λ _. and-then ! (in-local ! refl) (no-more !)) (
         land ! (from ! (stop !)) (init ! 23 refl (tt, tt)) $
         assigns ! (addr ! (from ! (fld ! refl (hop ! (look-in ! 3 (sub ! 0 refl (whole !))) (stop !))))) (from ! (stop !)) (init ! 33 refl (tt, tt)) $
-        assigns ! (agg ! (and-then ! (load ! (from ! (stop !)) (look ! 33 refl)) (and-then ! (load ! (from ! (fld ! refl (stop !))) (look-in ! 3 (sub ! 1 refl (whole !)))) (no-more !)))) (from ! (stop !)) (init ! 35 refl (tt, (tt, (record { fits = fl }, tt)))) $
+        assigns ! (agg ! (and-then ! (in-local ! refl) (and-then ! (load ! (from ! (fld ! refl (stop !))) (look-in ! 3 (sub ! 1 refl (whole !)))) (no-more !)))) (from ! (stop !)) (init ! 35 refl (tt, (tt, (record { fits = fl }, tt)))) $
         assigns ! (addr ! (from ! (fld ! refl (hop ! (look-in ! 5 (sub ! 0 refl (whole !))) (stop !))))) (from ! (stop !)) (init ! 37 refl (tt, tt)) $
-        assigns ! (agg ! (and-then ! (load ! (from ! (stop !)) (look ! 37 refl)) (and-then ! (load ! (from ! (fld ! refl (stop !))) (look-in ! 5 (sub ! 1 refl (whole !)))) (no-more !)))) (from ! (stop !)) (init ! 39 refl (tt, (tt, (record { fits = fl′ }, tt)))) $
-        sweep-on-step ! (in-seq ! (fmOf 𝓤 H (W .laws) 𝓣)) mem run known-on L L′ ys us 0 (lit< tt) k fk (s .mark) (sweepOf force ns settings) vw gw 33554432 (lit< tt) (omega arith) (facts .0) (facts .1) (facts .2)
-        (λ _. and-then ! (load ! (from ! (stop !)) (look ! 35 refl)) (and-then ! (load ! (from ! (stop !)) (look ! 39 refl)) (and-then ! (lit ! tt) (and-then ! (load ! (from ! (stop !)) (look ! 19 refl)) (and-then ! (load ! (from ! (stop !)) (look ! 23 refl)) (and-then ! (load ! (from ! (stop !)) (look ! 21 refl)) (and-then ! (big-lit ! (record { fits = lit< tt })) (no-more !)))))))) (λ vr gr long.
+        assigns ! (agg ! (and-then ! (in-local ! refl) (and-then ! (load ! (from ! (fld ! refl (stop !))) (look-in ! 5 (sub ! 1 refl (whole !)))) (no-more !)))) (from ! (stop !)) (init ! 39 refl (tt, (tt, (record { fits = fl′ }, tt)))) $
+        sweep-on-step ! (in-seq ! (fmOf 𝓤 H (W .laws) 𝓣)) mem run known-on L L′ ys us _ (lit< tt) k fk (s .mark) (sweepOf force ns settings) vw gw 33554432 (lit< tt) (omega arith) (facts .0) (facts .1) (facts .2)
+        (λ _. and-then ! (in-local ! refl) (and-then ! (in-local ! refl) (and-then ! (lit ! tt) (and-then ! (in-local ! refl) (and-then ! (in-local ! refl) (and-then ! (in-local ! refl) (and-then ! (big-lit ! (record { fits = lit< tt })) (no-more !)))))))) (λ vr gr long.
         land ! (from ! (stop !)) (init ! 25 refl (LL.lawful P.the-type P′.the-laws 𝓤 H A W .typed (replyOf own) (vr ∷ []) gr .0)) $
-        gate-step ! (in-seq ! (fmOf 𝓤 H (W .laws) 𝓣)) mem run known-gate ok s mach gs (replyOf own) vr gr (λ _. and-then ! (load ! (from ! (stop !)) (look ! 17 refl)) (and-then ! (load ! (from ! (stop !)) (look ! 7 refl)) (and-then ! (load ! (from ! (stop !)) (look ! 25 refl)) (no-more !)))) (λ v g.
+        gate-step ! (in-seq ! (fmOf 𝓤 H (W .laws) 𝓣)) mem run known-gate ok s mach gs (replyOf own) vr gr (λ _. and-then ! (in-local ! refl) (and-then ! (in-local ! refl) (and-then ! (in-local ! refl) (no-more !)))) (λ v g.
         land ! (from ! (stop !)) (init ! 1 refl (LL.lawful P.the-type P′.the-laws 𝓤 H A W .typed (gated ok s (replyOf own)) (v ∷ []) g .0)) $
         returns ! (look ! 1 refl) $ used ! $ used ! $ used ! $ used ! $ used ! $ used ! $ used ! $ used ! $ used ! $ used ! $ used ! $ used ! $ used ! $ used ! $ used ! $ used ! $ used ! $ used ! $ used ! $ used ! $ free0 ! $
         finish2 𝓤 H A T.the-row u32 L L′ P.the-row ys us χ W (‵ ftrue) v (gated ok s (replyOf own)) (own .world .records) us g long refl (comes 33554432 ys us ns settings force s)))))))))

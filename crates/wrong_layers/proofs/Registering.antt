@@ -20,9 +20,12 @@ use Rattle.arena.specs.Releasing.{tellRun, pendRun, releaseRun, stampRun}
 use Rattle.arena.specs.Sweeping.{sweepDue, disarm, young, toAsk, nextAsked, borrowChunk, unpendChunk, returnChunk, rearm}
 use Rattle.lookup.specs.Place.{bytesOf, endOf, isInside}
 use Rattle.lookup.specs.Soundness.{soundRange, clearPast, clearPastAll, soundArena}
-use Rattle.layer.specs.declared.Question.the-variants.{Idle}
+use Rattle.layer.specs.declared.Question.the-variants.{Idle, Reserving}
+use Rattle.layer.specs.declared.Ask.the-variants.{AskMemory}
+use Rattle.layer.specs.declared.Waiting.the-variants.{Reserve}
+use Rattle.layer.specs.declared.Kind.the-variants.{ForMemory}
 use Rattle.layer.specs.declared.Answer.{Answer}
-use Rattle.layer.specs.declared.Answer.the-variants.{Refused, Registered, Claimed, Owns}
+use Rattle.layer.specs.declared.Answer.the-variants.{Refused, Asks, Registered, Claimed, Owns}
 use Rattle.layer.specs.World.{World, Outcome, blank, stateOf, worldOf, outcome, empty}
 use Rattle.layer.specs.Table.{at, meets, overlaps, badRange, findArena, apart, soundQuestion, soundTable, soundLent}
 use Rattle.layer.specs.Registering.{chunksFor, tooLarge, bytesAsked, askMemory, reserveReply, badCount, registerReply, registers, noWholeChunk, grows, reserveOf, manageOf, adoptOf}
@@ -30,14 +33,14 @@ use Rattle.layer.specs.Claiming.{eligible, serves, asksCommit, grantArena, gran
 use Rattle.layer.specs.Releasing.{releases, releaseReply, releaseOf}
 use Rattle.layer.specs.Sweeping.{purgeReply, sweptReply, visit, sweepFrom}
 use Rattle.layer.specs.Answering.{isFor, answerOf}
-use Rattle.layer.specs.Step.{manage, claim, owns, act, query, rules, step}
+use Rattle.layer.specs.Step.{reserve, manage, claim, owns, act, query, answer, rules, step}
 use Rattle.layer.specs.Book.{lowest, claims, refused, granted, enter, sayAll}
 use Rattle.layer.specs.History.{Marked, begin, isSound, start, Place, inRange, OpensAt}
 use Rattle.layer.specs.Demand.{bookOf, Demand3}
 use Rattle.share_book_cases.specs.Example.{S, plain, row, by}
 use Rattle.share_book_cases.proofs.Runs.{at-start, before-made, open-made, after-made, by-book, own-call}
 use Rattle.wrong_layers.proofs.Ground.{stand, clash, ground}
-use Rattle.wrong_layers.specs.Wrong.{smallOnly, lowOnly, fullAtOne, dummies, fillsTheTable, RegisteringFails}
+use Rattle.wrong_layers.specs.Wrong.{smallOnly, lowOnly, fullAtOne, dummies, fillsTheTable, noneReserved, RegisteringFails}
 
 -- ---- 513 chunks at S; one chunk at 2^42; one chunk at 3 S beside a shared arena at S
 
@@ -240,5 +243,65 @@ fills-the-table d =
     let z : _≡_ {A = ℕ} S 4398046511104 = cc in
     omega (arith, z)
 
+-- ---- memory for an exclusive arena
+
+abbrev reserved : ℕ → ℕ → World
+reserved used dirty =
+    worldOf (record { base = S; chunks = 1; exclusive = 1; owned = 1; node = negsuc 0; deadline = 0; used = row used; dirty = row dirty; committed = row 0; pending = row 0 } ∷ replicate 31 blank)
+    (replicate 32768 0) (stateOf 1 false Idle)
+
+abbrev waiting : World
+waiting = worldOf (replicate 32 blank) (replicate 32768 0) (stateOf 0 false (Reserving 1 S false true Reserve))
+
+abbrev asks : Marked
+asks = by 9 empty 0 (act (reserve S false false true))
+
+abbrev brings : Marked
+brings = by 9 waiting 0 (answer ForMemory true S)
+
+abbrev at-reserved : Place
+at-reserved = record { id = 0; size = S; base = S; chunks = 1; managed = false }
+
+record Asked : Type 0 where
+  asked : step empty 0 plain (asks .call) ≡ outcome (Asks (AskMemory S S false false)) waiting
+  sound-waiting : isSound brings ≡ true
+  brought : step waiting 0 plain (brings .call) ≡ outcome (Registered 0) (reserved 0 0)
+  reserved-claimed : step (reserved 0 0) 0 plain (claimsAt 0 empty .call) ≡ outcome (Claimed S true false) (reserved 1 1)
+  reserved-says : sayAll (bookOf at-reserved) (claims lowest 1 ∷ []) ≡ granted S true ∷ []
+
+asked-facts : Asked
+unfolding enter inRange bit bitAt within number pack writeRun all least lowestRun orOne nowMs delayMs keeps armed isDue arenaAllowed pageSizeSound newArena reservedArena managedArena adoptedArena grownArena findRun runCommitted runFresh takeRun giveBackRun commitRun dirtyRun finishGrant tellRun pendRun releaseRun stampRun sweepDue disarm young toAsk nextAsked borrowChunk unpendChunk returnChunk rearm bytesOf endOf isInside soundRange clearPast clearPastAll soundArena empty meets overlaps badRange findArena apart soundQuestion soundTable soundLent chunksFor tooLarge bytesAsked askMemory reserveReply badCount registerReply registers noWholeChunk grows reserveOf manageOf adoptOf eligible serves asksCommit grantArena grantReply missReply searchOf claimOf releases releaseReply releaseOf purgeReply sweptReply visit sweepFrom isFor answerOf rules
+asked-facts = record { asked = refl; sound-waiting = refl; brought = refl; reserved-claimed = refl; reserved-says = refl }
+
+reserved-opens : OpensAt (stand waiting 9 asks) brings
+unfolding isFor
+reserved-opens = record {
+  base = S;
+  chunks = 1;
+  managed = false;
+  is-sound = asked-facts .sound-waiting;
+  registrable = record { some = omega arith; few = omega arith; whole = refl; somewhere = omega arith; ends = lit< tt; apart = λ i h. absurd (omega arith); room = omega arith };
+  registers = record { bytes = S; commit = false; large = false; is-call = refl; memory-open = refl; asked-by = refl; rounds = (omega arith, omega arith) };
+}
+
+none-reserved : Demand3 noneReserved → ⊥
+unfolding inRange empty isFor reserved-opens
+none-reserved d =
+    let L = noneReserved in
+    let b₁ = before-made L begin start empty (at-start L) asks (outcome (Asks (AskMemory S S false false)) waiting) (outcome (Asks (AskMemory S S false false)) waiting)
+    (record { sound = ground .sound-empty; by-rules = asked-facts .asked; by-layer = asked-facts .asked; passed = refl }) refl in
+    let r = open-made L 7 _ (stand waiting 9 asks) waiting b₁ brings (outcome (Registered 0) (reserved 0 0)) (outcome (Refused TableFull) empty) reserved-opens
+    (record { sound = asked-facts .sound-waiting; by-rules = asked-facts .brought; by-layer = refl; passed = refl }) refl in
+    let u = after-made L 7 at-reserved _ (stand (reserved 0 0) 9 asks) empty _ _ r (claimsAt 0 empty) (outcome (Claimed S true false) (reserved 1 1)) (outcome (Refused NoRun) empty) (claims lowest 1 ∷ []) (refused 10 ∷ [])
+    (record { sound = ground .sound-empty; by-rules = asked-facts .reserved-claimed; by-layer = facts .none-there; passed = refl }) refl (own-call 7 at-reserved (stand (reserved 0 0) 9 asks) (claimsAt 0 empty) refl refl refl) refl refl in
+    let b = by-book L 7 at-reserved _ (stand (reserved 1 1) 7 (claimsAt 0 empty)) empty _ _ u d in
+    clash 10 S true (b .0) [] (b .1 ∙ asked-facts .reserved-says)
+
 pub registering-fails : RegisteringFails
-registering-fails = record { small-only = small-only; low-only = low-only; full-at-one = full-at-one; fills-the-table = fills-the-table }
+registering-fails = record {
+  small-only = small-only;
+  low-only = low-only;
+  full-at-one = full-at-one;
+  fills-the-table = fills-the-table;
+  none-reserved = none-reserved;
+}

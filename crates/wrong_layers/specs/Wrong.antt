@@ -174,6 +174,19 @@ lowOnly = butWhere (λ w c. ltb (2 ^ 42) (managedEnd c)) (refuses Range)
 abbrev pub fullAtOne : Layer
 fullAtOne = butWhere (λ w c. ltb 0 (w .state .count) && ltb 0 (managedSize c)) (refuses TableFull)
 
+-- memory that comes for an exclusive arena is turned down
+abbrev pub exclusiveAsked : Question → Bool
+exclusiveAsked Idle = false
+exclusiveAsked (Committing i s n) = false
+exclusiveAsked (Purging i j v) = false
+exclusiveAsked (Reserving chunks bytes commit exclusive waiting) = exclusive
+exclusiveAsked (GivingBack cause waiting) = false
+
+abbrev pub noneReserved : Layer
+noneReserved =
+    butWhere (λ w c. isAnswer c && exclusiveAsked (w .state .question))
+    (λ w o. outcome (Refused TableFull) (worldOf (w .records) (w .stamps) (stateOf (w .state .count) (w .state .mark) Idle)))
+
 -- a query fills the table with arenas that nobody registered, so that 13 comes
 abbrev pub dummy : ℕ → Arena
 dummy i = record { base = i * 33554432; chunks = 1; exclusive = 0; owned = 0; node = negsuc 0; deadline = 0; used = noBits; dirty = noBits; committed = noBits; pending = noBits }
@@ -242,6 +255,7 @@ pub record RegisteringFails : Type 0 where
   pub low-only : Demand3 lowOnly → ⊥
   pub full-at-one : Demand3 fullAtOne → ⊥
   pub fills-the-table : Demand3 fillsTheTable → ⊥
+  pub none-reserved : Demand3 noneReserved → ⊥
 
 pub record SweepsFail : Type 0 where
   pub dirty-before-yes : IsRules dirtyBeforeYes → ⊥

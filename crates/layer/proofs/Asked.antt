@@ -2,20 +2,16 @@
 use mathlib.Core.Path.{_≡_, refl, sym, ap, _∙_, subst}
 use mathlib.Core.Bool.{Bool, true, false, cond}
 use mathlib.Core.List.{List}
-use Prim.Native.Nat.{ℕ, zero, suc, _+_, _-_, _<_, _≤_}
+use Prim.Native.Nat.{ℕ, suc, _+_, _-_, _<_, _≤_}
 use native.Mathlib.Omega.{arith}
 use lib.IntN.{ℤ, pos, negsuc}
 use lib.ListN.{length, set, length-set}
 use Rattle.refusals.specs.declared.Refusal.{Refusal}
 use Rattle.words.proofs.Tests.{by-cond}
-use Rattle.runs.specs.declared.Found.{Found}
-use Rattle.runs.specs.declared.Found.the-variants.{At, Nothing}
 use Rattle.arena.specs.declared.Arena.{Arena}
 use Rattle.arena.specs.Flags.{isOn}
 use Rattle.arena.specs.Claiming.{takeRun}
-use Rattle.arena.specs.Sweeping.{sweepDue, disarm, nextAsked}
 use Rattle.lookup.proofs.SoundLaws.{never}
-use Rattle.purge.specs.Stamps.{stampsOf}
 use Rattle.layer.specs.declared.Settings.{Settings}
 use Rattle.layer.specs.declared.Sweep.{Sweep}
 use Rattle.layer.specs.declared.Question.{Question}
@@ -28,13 +24,14 @@ use Rattle.layer.specs.World.{Outcome, after}
 use Rattle.layer.specs.Table.{at}
 use Rattle.layer.specs.Registering.{chunksFor, askMemory, withRecord, withStamps, register}
 use Rattle.layer.specs.Claiming.{serves, searchOf, missReply}
-use Rattle.layer.specs.Sweeping.{purgeReply, sweptReply, visitAt, visit, sweepFrom}
+use Rattle.layer.specs.Sweeping.{visit, sweepFrom}
 use Rattle.layer.specs.Answering.{isFor, counted, failReply, resume, answerTo, answerOf}
 use Rattle.layer.specs.Step.{Act, reserve, manage, adopt, claim, release, sweep, Call, act, query, answer, sweepOf, actOn, stepOn}
 use Rattle.layer.specs.History.{isIdle}
 use Rattle.layer.proofs.Tools.{at-same}
 use Rattle.layer.proofs.Rules.{not-shared, served-named, Again, again}
 use Rattle.layer.proofs.Cases.{grant-cases, search-cases, miss-cases, claim-cases, release-in-cases, release-cases, reserve-cases, register-cases, manage-cases, adopt-cases, memory-cases}
+use Rattle.layer.proofs.Sweeps.{visit-cases, sweep-cases}
 
 -- the arena that a claim at the id was served in: the one that it names, and with a negative id one that is not exclusive
 abbrev pub ServedIn : List Arena → ℤ → ℕ → Type 0
@@ -97,23 +94,13 @@ module _ (S : ℕ) (l : List Arena) (stamps : List ℕ) (k : ℕ) (mark : Bool) 
   memory-asked (negsuc x) n commits settings =
       miss-cases S l stamps k mark (AskedOf S (act (claim (negsuc x) n commits))) (negsuc x) n commits settings tt tt (x, refl)
 
-  -- a sweep
-  module _ (w : Sweep) (force : Bool) where
-    visit-asked : (l : List Arena) (i : ℕ) (a : Arena) (from : ℕ) (rest : List Arena → Outcome) → ((m : List Arena) → AskedOf S (act (sweep force)) (rest m))
-        → AskedOf S (act (sweep force)) (visit S stamps k mark w l i a from rest)
-    unfolding visit purgeReply
-    visit-asked l i a from rest go-on = go (nextAsked a (stampsOf stamps i) (w .force) (w .now) (w .delay) from)
-      where
-        go : (f : Found) → AskedOf S (act (sweep force)) (visitAt S stamps k mark w l i a rest f)
-        go (At j) = (force, refl)
-        go Nothing = go-on _
+  -- a sweep's questions are its own
+  visit-asked : (w : Sweep) (force : Bool) (l : List Arena) (i : ℕ) (a : Arena) (from : ℕ) (rest : List Arena → Outcome) → ((m : List Arena) → AskedOf S (act (sweep force)) (rest m))
+      → AskedOf S (act (sweep force)) (visit S stamps k mark w l i a from rest)
+  visit-asked w force l i a from rest go-on = visit-cases S stamps k mark w (AskedOf S (act (sweep force))) 0 (λ m x b j u. (force, refl)) (λ m. tt) l i a from rest (omega arith) go-on
 
-    sweep-asked : (f i : ℕ) (l : List Arena) → AskedOf S (act (sweep force)) (sweepFrom S stamps k mark w f i l)
-    unfolding sweepFrom sweptReply
-    sweep-asked zero i l = tt
-    sweep-asked (suc f) i l =
-        by-cond (AskedOf S (act (sweep force))) (sweepDue (at l i) (w .force) (w .now)) _ _
-        (λ e. visit-asked l i (disarm (at l i)) 0 (sweepFrom S stamps k mark w f (i + 1)) (λ m. sweep-asked f (i + 1) m)) (λ e. sweep-asked f (i + 1) l)
+  sweep-asked : (w : Sweep) (force : Bool) (f i : ℕ) (l : List Arena) → AskedOf S (act (sweep force)) (sweepFrom S stamps k mark w f i l)
+  sweep-asked w force f i l = sweep-cases S stamps k mark w (AskedOf S (act (sweep force))) 0 (λ m x b j u. (force, refl)) (λ m. tt) f i l (omega arith)
 
   act-asked : (q : Question) (ns : ℕ) (settings : Settings) (a : Act) → AskedOf S (act a) (actOn S l stamps k mark q ns settings a)
   unfolding askMemory

@@ -3,7 +3,7 @@
 use mathlib.Core.Path.{_≡_, refl, sym, ap, ap₂, _∙_, subst}
 use mathlib.Core.Bool.{Bool, true, false, cond, not}
 use mathlib.Core.List.{List}
-use Prim.Native.Nat.{ℕ, zero, suc, _+_, _-_, _*_, _/_, _%_, _<_, _≤_}
+use Prim.Native.Nat.{ℕ, suc, _+_, _-_, _*_, _/_, _%_, _<_, _≤_}
 use native.Mathlib.Nat.{add-mul, mul-le-mul-right}
 use native.Mathlib.Omega.{arith}
 use borrow.Author.Tests.{eqb-false}
@@ -11,8 +11,6 @@ use lib.Dec.{leb, ltb, eqb}
 use lib.IntN.{ℤ, pos, negsuc}
 use lib.ListN.{length}
 use Rattle.words.proofs.Tests.{by-cond}
-use Rattle.runs.specs.declared.Found.{Found}
-use Rattle.runs.specs.declared.Found.the-variants.{At, Nothing}
 use Rattle.runs.specs.Lowest.{all}
 use Rattle.runs.proofs.SearchLaws.{and-both}
 use Rattle.options.specs.Options.{pageSizeSound}
@@ -22,15 +20,12 @@ use Rattle.refusals.specs.Number.{number}
 use Rattle.arena.specs.declared.Arena.{Arena}
 use Rattle.arena.specs.Flags.{isOn}
 use Rattle.arena.specs.Registering.{reservedArena}
-use Rattle.arena.specs.Sweeping.{sweepDue, disarm, nextAsked}
 use Rattle.lookup.specs.Place.{isInside}
 use Rattle.lookup.specs.Soundness.{soundArena}
 use Rattle.lookup.proofs.SoundLaws.{never}
 use Rattle.lookup.proofs.PlaceLaws.{inside-test}
-use Rattle.purge.specs.Stamps.{stampsOf}
 use Rattle.lookup.proofs.Changes.{found-inside}
 use Rattle.layer.specs.declared.Settings.{Settings}
-use Rattle.layer.specs.declared.Sweep.{Sweep}
 use Rattle.layer.specs.declared.Question.{Question}
 use Rattle.layer.specs.declared.Question.the-variants.{Idle, Committing, Purging, Reserving, GivingBack}
 use Rattle.layer.specs.declared.Waiting.{Waiting}
@@ -38,14 +33,12 @@ use Rattle.layer.specs.declared.Waiting.the-variants.{Reserve, Claim}
 use Rattle.layer.specs.declared.Unusable.{Unusable}
 use Rattle.layer.specs.declared.Unusable.the-variants.{Count, Misaligned, Full}
 use Rattle.layer.specs.declared.Kind.{Kind}
-use Rattle.layer.specs.declared.Ask.{Ask}
 use Rattle.layer.specs.declared.Answer.{Answer}
 use Rattle.layer.specs.declared.Answer.the-variants.{Refused, Asks, Registered, Claimed, Released, Swept, Owns, Area}
-use Rattle.layer.specs.World.{World, Outcome, after, turnDown, outcome}
+use Rattle.layer.specs.World.{World, Outcome, after, turnDown}
 use Rattle.layer.specs.Table.{at, meets, badRange, apart, soundTable, soundLent, sound}
 use Rattle.layer.specs.Registering.{askMemory, badCount, withRecord, withStamps, register}
 use Rattle.layer.specs.Claiming.{serves, claimOf}
-use Rattle.layer.specs.Sweeping.{purgeReply, sweptReply, visitAt, visit, sweepFrom}
 use Rattle.layer.specs.Answering.{isFor, causeRefusal, counted, failReply, answerCommit, resume, answerMemory, answerTo, answerOf}
 use Rattle.layer.specs.Step.{Act, reserve, manage, adopt, claim, release, sweep, Query, owns, area, Call, act, query, answer, sweepOf, gate, actOn, queryOn, stepOn, rules}
 use Rattle.layer.proofs.Tools.{at-other}
@@ -55,6 +48,7 @@ use Rattle.layer.proofs.Registered.{good-range, new-table, reserved-row
 use Rattle.layer.specs.History.{isBroken}
 use Rattle.layer.specs.Demand.{chunksOf}
 use Rattle.layer.proofs.Cases.{grant-cases, search-cases, miss-cases, claim-cases, release-in-cases, release-cases, reserve-cases, register-cases, manage-cases, adopt-cases, memory-cases}
+use Rattle.layer.proofs.Sweeps.{visit-cases, sweep-cases}
 use Rattle.layer.proofs.Does.{only-one}
 
 -- ---- no address lies in two arenas
@@ -195,23 +189,6 @@ module _ (S : ℕ) (l : List Arena) (stamps : List ℕ) (k : ℕ) (mark : Bool) 
       memory-cases S l stamps k mark (TellsOf S l k (asksIn (Reserving chunks bytes commit exclusive waiting)) (λ j. false)) chunks bytes commit exclusive waiting base refl (λ cause. tt)
       (resume-tells base chunks bytes commit exclusive waiting)
 
--- a sweep asks, or ends
-module _ (S : ℕ) (stamps : List ℕ) (k : ℕ) (mark : Bool) (w : Sweep) (P : Outcome → Type 0) (asks : (ask : Ask) (v : World) → P (outcome (Asks ask) v)) (ends : (n : ℕ) (v : World) → P (outcome (Swept n) v)) where
-  visit-cases : (l : List Arena) (i : ℕ) (a : Arena) (from : ℕ) (rest : List Arena → Outcome) → ((m : List Arena) → P (rest m)) → P (visit S stamps k mark w l i a from rest)
-  unfolding visit purgeReply
-  visit-cases l i a from rest go-on = go (nextAsked a (stampsOf stamps i) (w .force) (w .now) (w .delay) from)
-    where
-      go : (f : Found) → P (visitAt S stamps k mark w l i a rest f)
-      go (At j) = asks _ _
-      go Nothing = go-on _
-
-  sweep-cases : (f i : ℕ) (l : List Arena) → P (sweepFrom S stamps k mark w f i l)
-  unfolding sweepFrom sweptReply
-  sweep-cases zero i l = ends _ _
-  sweep-cases (suc f) i l =
-      by-cond P (sweepDue (at l i) (w .force) (w .now)) _ _ (λ e. visit-cases l i (disarm (at l i)) 0 (sweepFrom S stamps k mark w f (i + 1)) (λ m. sweep-cases f (i + 1) m))
-      (λ e. sweep-cases f (i + 1) l)
-
 -- ---- one step
 
 module _ (S : ℕ) (l : List Arena) (stamps : List ℕ) (k : ℕ) (mark : Bool) where
@@ -228,8 +205,8 @@ module _ (S : ℕ) (l : List Arena) (stamps : List ℕ) (k : ℕ) (mark : Bool) 
       go Idle x = refl
       go (Committing i s n) x = commit-tells S l stamps k mark i s n accepted x
       go (Purging i j w) x =
-          visit-cases S stamps k mark (counted w accepted) (TellsOf S l k 0 (λ u. false)) (λ ask v. tt) (λ n v. tt) l i _ _ _
-          (λ m. sweep-cases S stamps k mark (counted w accepted) (TellsOf S l k 0 (λ u. false)) (λ ask v. tt) (λ n v. tt) (k - (i + 1)) (i + 1) m)
+          visit-cases S stamps k mark (counted w accepted) (TellsOf S l k 0 (λ u. false)) 0 (λ m x a j u. tt) (λ m. tt) l i _ _ _ (omega arith)
+          (λ m. sweep-cases S stamps k mark (counted w accepted) (TellsOf S l k 0 (λ u. false)) 0 (λ n x a j u. tt) (λ n. tt) (k - (i + 1)) (i + 1) m (omega arith))
       go (Reserving chunks bytes commit exclusive waiting) x = memory-tells S l stamps k mark chunks bytes commit exclusive waiting accepted base
       go (GivingBack c waiting) x = fail-tells S l stamps k mark _ _ _ waiting (cause c)
 
@@ -256,7 +233,7 @@ module _ (S : ℕ) (l : List Arena) (stamps : List ℕ) (k : ℕ) (mark : Bool) 
       release-cases S l stamps k mark (TellsOf S l k 0 (λ j. false)) n told pending _ _ x (λ e. refl) (λ e f. refl)
       (λ i e u f. release-in-cases S l stamps k mark (TellsOf S l k 0 (λ j. false)) n told pending _ _ i _ (λ g. refl) (λ g v. refl) (λ g v. tt))
   act-tells q ns settings (sweep force) =
-      sweep-cases S stamps k mark (sweepOf force ns settings) (TellsOf S l k 0 (λ j. false)) (λ ask v. tt) (λ n v. tt) k 0 l
+      sweep-cases S stamps k mark (sweepOf force ns settings) (TellsOf S l k 0 (λ j. false)) 0 (λ m x a j u. tt) (λ m. tt) k 0 l (omega arith)
 
   query-tells : (q : Question) (ns : ℕ) (settings : Settings) (c : Query) (w : World) → Tells S l k 0 (λ j. false) (queryOn S l stamps k mark q ns settings c) w
   query-tells q ns settings (owns address) w = tt

@@ -3,21 +3,15 @@ use mathlib.Core.Path.{_≡_, refl, sym, ap, _∙_, subst}
 use mathlib.Core.Bool.{Bool, true, false, true≢false}
 use mathlib.Core.List.{List}
 use mathlib.Core.Logic.{_⊎_, inl, inr}
-use Prim.Native.Nat.{ℕ, zero, suc, _+_, _-_, _*_, _%_, _≤_, _^_, _<_}
+use Prim.Native.Nat.{ℕ, suc, _+_, _-_, _*_, _%_, _≤_, _^_, _<_}
 use native.Mathlib.Omega.{arith}
 use borrow.Author.Tests.{ne-eqb, lt-leb}
 use lib.Dec.{eqb, leb}
 use Rattle.refusals.specs.declared.Refusal.{Refusal}
 use Rattle.refusals.specs.declared.Refusal.the-variants.{NoSuchQuestion}
 use Rattle.words.proofs.Tests.{by-cond, when, unless}
-use Rattle.runs.specs.declared.Found.{Found}
-use Rattle.runs.specs.declared.Found.the-variants.{At, Nothing}
-use Rattle.runs.specs.Lowest.{least}
-use Rattle.runs.proofs.LowestLaws.{First, first-says}
 use Rattle.arena.specs.declared.Arena.{Arena}
 use Rattle.arena.specs.Registering.{reservedArena}
-use Rattle.arena.specs.Sweeping.{sweepDue, disarm, toAsk, nextAsked}
-use Rattle.purge.specs.Stamps.{stampsOf}
 use Rattle.layer.specs.declared.Settings.{Settings}
 use Rattle.layer.specs.declared.Sweep.{Sweep}
 use Rattle.layer.specs.declared.Question.{Question}
@@ -31,15 +25,15 @@ use Rattle.layer.specs.declared.Ask.the-variants.{AskMemory}
 use Rattle.layer.specs.declared.Reply.{Reply}
 use Rattle.layer.specs.declared.Answer.the-variants.{Asks}
 use Rattle.layer.specs.World.{World, Outcome, stateOf, worldOf, after}
-use Rattle.layer.specs.Table.{at, badRange, sound}
+use Rattle.layer.specs.Table.{badRange, sound}
 use Rattle.layer.specs.Registering.{chunksFor, tooLarge, bytesAsked, reserveReply, reserveOf, askMemory, badCount, register, withRecord, withStamps}
-use Rattle.layer.specs.Sweeping.{purgeReply, sweptReply, visitAt, visit, sweepFrom}
 use Rattle.layer.specs.Answering.{isFor, counted, failReply, resume, answerPurge, answerMemory, answerTo, answerOf}
 use Rattle.layer.specs.Step.{Act, reserve, manage, adopt, claim, release, sweep, Call, act, query, answer, sweepOf, actOn, stepOn, step}
 use Rattle.layer.specs.Questions.{TurnedDown, CommitOf, AfterAnswer, AfterAct, AfterCall, QuestionsByRules, ReservesAsk}
 use Rattle.layer.proofs.Facts.{SoundQuestion}
 use Rattle.layer.proofs.Rules.{Again, again}
 use Rattle.layer.proofs.Cases.{grant-cases, search-cases, miss-cases, claim-cases, release-in-cases, release-cases, reserve-cases, register-cases, manage-cases, adopt-cases}
+use Rattle.layer.proofs.Sweeps.{visit-cases, sweep-cases}
 use Rattle.layer.proofs.Plain.{some-chunk, few-chunks, not-6, passes}
 use Rattle.layer.proofs.Outcomes.{sound-question}
 use Rattle.layer.proofs.Demand.{no-question}
@@ -58,39 +52,6 @@ module _ (l : List Arena) (stamps : List ℕ) (k : ℕ) (mark : Bool) where
   abbrev From : ℕ → Outcome → Type 0
   From lo o = (o .world .state .question ≡ Idle) ⊎ ((i : ℕ) × (j : ℕ) × (x : Sweep) × (o .world .state .question ≡ Purging i j x) × (lo ≤ 1024 * i + j))
 
-  module _ (w : Sweep) where
-    visit-from : (lo : ℕ) (l : List Arena) (i : ℕ) (a : Arena) (from : ℕ) (rest : List Arena → Outcome) → lo ≤ 1024 * i + from → ((m : List Arena) → From lo (rest m)) → From lo (visit S stamps k mark w l i a from rest)
-    unfolding visit nextAsked purgeReply
-    visit-from lo l i a from rest h go-on =
-        go (least (toAsk a (stampsOf stamps i) (w .force) (w .now) (w .delay)) from (a .chunks - from)) (first-says (toAsk a (stampsOf stamps i) (w .force) (w .now) (w .delay)) from (a .chunks - from))
-      where
-        go : (f : Found) → First (toAsk a (stampsOf stamps i) (w .force) (w .now) (w .delay)) from (a .chunks - from) f → From lo (visitAt S stamps k mark w l i a rest f)
-        go (At j) g = inr (i, j, w, refl, omega (arith, h, g .0))
-        go Nothing g = go-on _
-
-    sweep-from : (lo f i : ℕ) (l : List Arena) → lo ≤ 1024 * i → From lo (sweepFrom S stamps k mark w f i l)
-    unfolding sweepFrom sweptReply
-    sweep-from lo zero i l h = inl refl
-    sweep-from lo (suc f) i l h =
-        by-cond (From lo) (sweepDue (at l i) (w .force) (w .now)) _ _
-        (λ e. visit-from lo l i (disarm (at l i)) 0 (sweepFrom S stamps k mark w f (i + 1)) (omega arith) (λ m. sweep-from lo f (i + 1) m (omega arith)))
-        (λ e. sweep-from lo f (i + 1) l (omega arith))
-
-    -- a sweep that starts asks, or ends
-    visit-put : (l : List Arena) (i : ℕ) (a : Arena) (from : ℕ) (rest : List Arena → Outcome) → ((m : List Arena) → Put (rest m)) → Put (visit S stamps k mark w l i a from rest)
-    unfolding visit purgeReply
-    visit-put l i a from rest go-on = go (nextAsked a (stampsOf stamps i) (w .force) (w .now) (w .delay) from)
-      where
-        go : (f : Found) → Put (visitAt S stamps k mark w l i a rest f)
-        go (At j) = inr (_, refl)
-        go Nothing = go-on _
-
-    sweep-put : (f i : ℕ) (l : List Arena) → Put (sweepFrom S stamps k mark w f i l)
-    unfolding sweepFrom sweptReply
-    sweep-put zero i l = inl refl
-    sweep-put (suc f) i l =
-        by-cond Put (sweepDue (at l i) (w .force) (w .now)) _ _ (λ e. visit-put l i (disarm (at l i)) 0 (sweepFrom S stamps k mark w f (i + 1)) (λ m. sweep-put f (i + 1) m)) (λ e. sweep-put f (i + 1) l)
-
   act-put : (ns : ℕ) (settings : Settings) (a : Act) → Put (actOn S l stamps k mark Idle ns settings a)
   unfolding askMemory
   act-put ns settings (reserve size commit large exclusive) = reserve-cases S l stamps k mark Put size commit large exclusive (settings .page) (inl refl) (inr (_, refl))
@@ -104,7 +65,7 @@ module _ (l : List Arena) (stamps : List ℕ) (k : ℕ) (mark : Bool) where
   act-put ns settings (release x n told pending) =
       release-cases S l stamps k mark Put n told pending _ _ x (λ e. inl refl) (λ e f. inl refl)
       (λ i e u f. release-in-cases S l stamps k mark Put n told pending _ _ i _ (λ g. inl refl) (λ g v. inl refl) (λ g v. inl refl))
-  act-put ns settings (sweep force) = sweep-put (sweepOf force ns settings) k 0 l
+  act-put ns settings (sweep force) = sweep-cases S stamps k mark (sweepOf force ns settings) Put 0 (λ m x a j u. inr (_, refl)) (λ m. inl refl) k 0 l (omega arith)
 
 -- ---- answers
 
@@ -155,9 +116,14 @@ module _ (w : World) (page : ℕ) (e : sound S w page ≡ true) (base : ℕ) whe
   answer-after (Committing i s n) h kind true f = refl
   answer-after (Committing i s n) h kind false f = refl
   answer-after (Purging i j x) h kind accepted f =
-      behind (answerPurge S l (w .stamps) k (w .state .mark) i j x accepted) (visit-from l (w .stamps) k (w .state .mark) (counted x accepted) (1024 * i + (j + 1)) l i _ (j + 1) _ (omega arith)
-      (λ m. sweep-from l (w .stamps) k (w .state .mark) (counted x accepted) (1024 * i + (j + 1)) (k - (i + 1)) (i + 1) m (omega (arith, h .1, few-chunks w page e i (h .0)))))
+      behind (answerPurge S l (w .stamps) k (w .state .mark) i j x accepted)
+      (visit-cases S (w .stamps) k (w .state .mark) (counted x accepted) later (1024 * i + (j + 1)) (λ m i′ a j′ u. inr (i′, j′, counted x accepted, refl, u)) (λ m. inl refl) l i _ (j + 1) _ (omega arith)
+      (λ m. sweep-cases S (w .stamps) k (w .state .mark) (counted x accepted) later (1024 * i + (j + 1)) (λ n i′ a j′ u. inr (i′, j′, counted x accepted, refl, u)) (λ n. inl refl) (k - (i + 1)) (i + 1) m
+      (omega (arith, h .1, few-chunks w page e i (h .0)))))
     where
+      later : Outcome → Type 0
+      later = From l (w .stamps) k (w .state .mark) (1024 * i + (j + 1))
+
       behind : (o : Outcome) → From l (w .stamps) k (w .state .mark) (1024 * i + (j + 1)) o → After (Purging i j x) o
       behind o (inl y) = inl y
       behind o (inr y) = inr (y .0, y .1, y .2, y .3, omega (arith, y .4))

@@ -3,7 +3,7 @@ use mathlib.Core.Path.{_≡_, refl, sym, ap, _∙_, subst}
 use mathlib.Core.Bool.{Bool, true, false}
 use mathlib.Core.List.{List}
 use mathlib.Core.Logic.{_⊎_, inl, inr}
-use Prim.Native.Nat.{ℕ, zero, suc, _+_, _-_, _*_, _/_, _%_, _<_, _≤_}
+use Prim.Native.Nat.{ℕ, suc, _+_, _-_, _*_, _/_, _%_, _<_, _≤_}
 use native.Mathlib.Omega.{arith}
 use native.Mathlib.Decide.{ℕ-discrete}
 use lib.Dec.{eqb}
@@ -13,18 +13,13 @@ use borrow.Author.Tests.{eqb-true}
 use Rattle.refusals.specs.declared.Refusal.{Refusal}
 use Rattle.refusals.specs.declared.Refusal.the-variants.{MemoryRefused}
 use Rattle.words.proofs.Tests.{by-cond}
-use Rattle.runs.specs.declared.Found.{Found}
-use Rattle.runs.specs.declared.Found.the-variants.{At, Nothing}
 use Rattle.runs.proofs.SearchLaws.{and-both}
 use Rattle.arena.specs.declared.Arena.{Arena}
 use Rattle.arena.specs.Flags.{isOn}
 use Rattle.arena.specs.Registering.{newArena, reservedArena, managedArena, adoptedArena}
 use Rattle.arena.specs.Claiming.{takeRun, dirtyRun}
-use Rattle.arena.specs.Sweeping.{sweepDue, disarm, nextAsked}
 use Rattle.arena.proofs.FlagLaws.{flag-read}
-use Rattle.purge.specs.Stamps.{stampsOf}
 use Rattle.layer.specs.declared.Settings.{Settings}
-use Rattle.layer.specs.declared.Sweep.{Sweep}
 use Rattle.layer.specs.declared.Question.{Question}
 use Rattle.layer.specs.declared.Question.the-variants.{Idle, Committing, Purging, Reserving, GivingBack}
 use Rattle.layer.specs.declared.Waiting.{Waiting}
@@ -33,13 +28,13 @@ use Rattle.layer.specs.declared.Kind.{Kind}
 use Rattle.layer.specs.World.{Outcome, after}
 use Rattle.layer.specs.Table.{at, soundLent}
 use Rattle.layer.specs.Registering.{chunksFor, askMemory, register, withRecord, withStamps, firstWhole, pastWhole}
-use Rattle.layer.specs.Sweeping.{purgeReply, sweptReply, visitAt, visit, sweepFrom}
 use Rattle.layer.specs.Answering.{isFor, causeRefusal, counted, failReply, resume, answerTo, answerOf}
 use Rattle.layer.specs.Step.{Act, reserve, manage, adopt, claim, release, sweep, Call, act, query, answer, sweepOf, actOn, stepOn, step}
 use Rattle.layer.specs.Standing.{Brought, AskedFor, NoneUnasked}
 use Rattle.layer.proofs.Tools.{at-same, at-other}
 use Rattle.layer.proofs.Rules.{Again, again, count-facts}
 use Rattle.layer.proofs.Cases.{grant-cases, search-cases, miss-cases, claim-cases, release-in-cases, release-cases, reserve-cases, register-cases, manage-cases, adopt-cases, memory-cases}
+use Rattle.layer.proofs.Sweeps.{visit-cases, sweep-cases}
 use Rattle.layer.proofs.Plain.{passes}
 use Rattle.layer.proofs.Trails.{S}
 
@@ -64,21 +59,6 @@ module _ (l : List Arena) (stamps : List ℕ) (k : ℕ) (mark : Bool) (long : le
   register-stands A chunks a h =
       register-cases S l stamps k mark (Stands A) chunks a (inl refl) (inl refl)
       (λ e f. inr (refl, subst A (sym (at-same l k a (omega (arith, long)))) (h (count-facts chunks e .0))))
-
-  module _ (A : Arena → Type 0) (w : Sweep) where
-    visit-stands : (l : List Arena) (i : ℕ) (a : Arena) (from : ℕ) (rest : List Arena → Outcome) → ((m : List Arena) → Stands A (rest m)) → Stands A (visit S stamps k mark w l i a from rest)
-    unfolding visit purgeReply
-    visit-stands l i a from rest go-on = go (nextAsked a (stampsOf stamps i) (w .force) (w .now) (w .delay) from)
-      where
-        go : (f : Found) → Stands A (visitAt S stamps k mark w l i a rest f)
-        go (At j) = inl refl
-        go Nothing = go-on _
-
-    sweep-stands : (f i : ℕ) (l : List Arena) → Stands A (sweepFrom S stamps k mark w f i l)
-    unfolding sweepFrom sweptReply
-    sweep-stands zero i l = inl refl
-    sweep-stands (suc f) i l =
-        by-cond (Stands A) (sweepDue (at l i) (w .force) (w .now)) _ _ (λ e. visit-stands l i (disarm (at l i)) 0 (sweepFrom S stamps k mark w f (i + 1)) (λ m. sweep-stands f (i + 1) m)) (λ e. sweep-stands f (i + 1) l)
 
   -- the whole chunks of a managed range lie in it
   managed-asked : (from size : ℕ) (exclusive : Bool) (node : ℤ) (chunks : ℕ) → (pastWhole S from size - firstWhole S from) / S ≡ chunks → 1 ≤ chunks
@@ -108,7 +88,7 @@ module _ (l : List Arena) (stamps : List ℕ) (k : ℕ) (mark : Bool) (long : le
   act-stands q ns settings (release x n told pending) =
       release-cases S l stamps k mark (Stands (λ a. ⊥)) n told pending _ _ x (λ e. inl refl) (λ e f. inl refl)
       (λ i e u f. release-in-cases S l stamps k mark (Stands (λ a. ⊥)) n told pending _ _ i _ (λ g. inl refl) (λ g v. inl refl) (λ g v. inl refl))
-  act-stands q ns settings (sweep force) = sweep-stands (λ a. ⊥) (sweepOf force ns settings) k 0 l
+  act-stands q ns settings (sweep force) = sweep-cases S stamps k mark (sweepOf force ns settings) (Stands (λ a. ⊥)) 0 (λ m x a j u. inl refl) (λ m. inl refl) k 0 l (omega arith)
 
   -- ---- answers
 
@@ -159,7 +139,9 @@ module _ (l : List Arena) (stamps : List ℕ) (k : ℕ) (mark : Bool) (long : le
       go Idle accepted = inl refl
       go (Committing i s n) true = inl refl
       go (Committing i s n) false = inl refl
-      go (Purging i j w) accepted = visit-stands (λ a. ⊥) (counted w accepted) l i _ _ _ (λ m. sweep-stands (λ a. ⊥) (counted w accepted) (k - (i + 1)) (i + 1) m)
+      go (Purging i j w) accepted =
+          visit-cases S stamps k mark (counted w accepted) (Stands (λ a. ⊥)) 0 (λ m x a c u. inl refl) (λ m. inl refl) l i _ _ _ (omega arith)
+          (λ m. sweep-cases S stamps k mark (counted w accepted) (Stands (λ a. ⊥)) 0 (λ n x a c u. inl refl) (λ n. inl refl) (k - (i + 1)) (i + 1) m (omega arith))
       go (Reserving chunks bytes commit exclusive waiting) false = fail-stands (Brought base (Reserving chunks bytes commit exclusive waiting)) MemoryRefused waiting
       go (Reserving chunks bytes commit exclusive waiting) true =
           memory-cases S l stamps k mark (Stands (Brought base (Reserving chunks bytes commit exclusive waiting))) chunks bytes commit exclusive waiting base (inl refl) (λ cause. inl refl)

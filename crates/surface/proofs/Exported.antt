@@ -2,21 +2,17 @@
 use mathlib.Core.Path.{_≡_, refl, sym, ap, ap₂, _∙_, subst}
 use mathlib.Core.Bool.{Bool, true, false}
 use mathlib.Core.List.{List}
-use Prim.Native.Nat.{ℕ, zero, suc, _+_, _-_}
+use Prim.Native.Nat.{ℕ, suc, _+_, _-_}
+use native.Mathlib.Omega.{arith}
 use lib.Dec.{ltb}
 use lib.IntN.{pos, negsuc}
 use Rattle.words.proofs.Tests.{by-cond, when}
-use Rattle.runs.specs.declared.Found.{Found}
-use Rattle.runs.specs.declared.Found.the-variants.{At, Nothing}
 use Rattle.refusals.specs.declared.Refusal.{Refusal}
 use Rattle.refusals.specs.declared.Refusal.the-variants.{Broken, QuestionOpen, NoSuchQuestion, Zero, ArenasOff, Range, NotWhole, NotInside, PastEnd, NoRun, CommitRefused, ChunkCount, TableFull, MemoryRefused, NoWholeChunk, HostRefused}
 use Rattle.arena.specs.declared.Arena.{Arena}
-use Rattle.arena.specs.Sweeping.{sweepDue, disarm, nextAsked}
 use Rattle.arena.proofs.FlagLaws.{flag-read}
-use Rattle.purge.specs.Stamps.{stampsOf}
 use Rattle.layer.specs.declared.Settings.{Settings}
 use Rattle.layer.specs.declared.State.{State}
-use Rattle.layer.specs.declared.Sweep.{Sweep}
 use Rattle.layer.specs.declared.Question.{Question}
 use Rattle.layer.specs.declared.Question.the-variants.{Idle, Committing, Purging, Reserving, GivingBack}
 use Rattle.layer.specs.declared.Waiting.{Waiting}
@@ -26,14 +22,14 @@ use Rattle.layer.specs.declared.Ask.the-variants.{AskCommit, AskPurge, AskMemor
 use Rattle.layer.specs.declared.Answer.{Answer}
 use Rattle.layer.specs.declared.Answer.the-variants.{Refused, Asks, Registered, Claimed, Released, Swept, Owns, Area}
 use Rattle.layer.specs.World.{World, Outcome, outcome, worldOf, after}
-use Rattle.layer.specs.Table.{at, sound}
+use Rattle.layer.specs.Table.{sound}
 use Rattle.layer.specs.Registering.{askMemory, withRecord, withStamps, register}
-use Rattle.layer.specs.Sweeping.{purgeReply, sweptReply, visitAt, visit, sweepFrom}
 use Rattle.layer.specs.Answering.{isFor, counted, failReply, resume, answerTo, answerOf as answerOn}
 use Rattle.layer.specs.Step.{Act, reserve, manage, adopt, claim, release, sweep, Query, owns, area, Call, act, query, answer, sweepOf, actOn, queryOn, stepOn, rules, step}
 use Rattle.layer.specs.Demand.{Demand3}
 use Rattle.layer.proofs.Rules.{Again, again}
 use Rattle.layer.proofs.Cases.{grant-cases, search-cases, miss-cases, claim-cases, release-in-cases, release-cases, reserve-cases, register-cases, manage-cases, adopt-cases, memory-cases}
+use Rattle.layer.proofs.Sweeps.{visit-cases, sweep-cases}
 use Rattle.layer.proofs.Elsewhere.{demand3}
 use Rattle.surface.specs.declared.StateNumbers.{StateNumbers}
 use Rattle.surface.specs.Numbers.{stateOf, numbersOf, isState}
@@ -61,21 +57,6 @@ module _ (S : ℕ) (l : List Arena) (stamps : List ℕ) (k : ℕ) (mark : Bool) 
   register-shape : (chunks : ℕ) (a : Arena) → ShapeOf registering (register l stamps k mark chunks a)
   register-shape chunks a = register-cases S l stamps k mark (ShapeOf registering) chunks a tt tt (λ e f. refl)
 
-  module _ (w : Sweep) where
-    visit-shape : (l : List Arena) (i : ℕ) (a : Arena) (from : ℕ) (rest : List Arena → Outcome) → ((m : List Arena) → ShapeOf sweeping (rest m)) → ShapeOf sweeping (visit S stamps k mark w l i a from rest)
-    unfolding visit purgeReply
-    visit-shape l i a from rest go-on = go (nextAsked a (stampsOf stamps i) (w .force) (w .now) (w .delay) from)
-      where
-        go : (f : Found) → ShapeOf sweeping (visitAt S stamps k mark w l i a rest f)
-        go (At j) = tt
-        go Nothing = go-on _
-
-    sweep-shape : (f i : ℕ) (l : List Arena) → ShapeOf sweeping (sweepFrom S stamps k mark w f i l)
-    unfolding sweepFrom sweptReply
-    sweep-shape zero i l = refl
-    sweep-shape (suc f) i l =
-        by-cond (ShapeOf sweeping) (sweepDue (at l i) (w .force) (w .now)) _ _ (λ e. visit-shape l i (disarm (at l i)) 0 (sweepFrom S stamps k mark w f (i + 1)) (λ m. sweep-shape f (i + 1) m)) (λ e. sweep-shape f (i + 1) l)
-
   act-shape : (q : Question) (ns : ℕ) (settings : Settings) (a : Act) → ShapeOf (grantOfAct a) (actOn S l stamps k mark q ns settings a)
   unfolding askMemory
   act-shape q ns settings (reserve size commit large exclusive) = reserve-cases S l stamps k mark (ShapeOf registering) size commit large exclusive (settings .page) tt tt
@@ -89,7 +70,7 @@ module _ (S : ℕ) (l : List Arena) (stamps : List ℕ) (k : ℕ) (mark : Bool) 
   act-shape q ns settings (release x n told pending) =
       release-cases S l stamps k mark (ShapeOf releasing) n told pending _ _ x (λ e. tt) (λ e f. tt)
       (λ i e u f. release-in-cases S l stamps k mark (ShapeOf releasing) n told pending _ _ i _ (λ g. tt) (λ g v. tt) (λ g v. refl))
-  act-shape q ns settings (sweep force) = sweep-shape (sweepOf force ns settings) k 0 l
+  act-shape q ns settings (sweep force) = sweep-cases S stamps k mark (sweepOf force ns settings) (ShapeOf sweeping) 0 (λ m x a j u. tt) (λ m. refl) k 0 l (omega arith)
 
   fail-shape : (g : Grant) (why : Refusal) (waiting : Waiting) → ShapeOf g (after (failReply k mark why waiting) l stamps)
   fail-shape g why Reserve = tt
@@ -111,7 +92,9 @@ module _ (S : ℕ) (l : List Arena) (stamps : List ℕ) (k : ℕ) (mark : Bool) 
       go Idle accepted = tt
       go (Committing i s n) true = refl
       go (Committing i s n) false = tt
-      go (Purging i j w) accepted = visit-shape (counted w accepted) l i _ _ _ (λ m. sweep-shape (counted w accepted) (k - (i + 1)) (i + 1) m)
+      go (Purging i j w) accepted =
+          visit-cases S stamps k mark (counted w accepted) (ShapeOf sweeping) 0 (λ m x a c u. tt) (λ m. refl) l i _ _ _ (omega arith)
+          (λ m. sweep-cases S stamps k mark (counted w accepted) (ShapeOf sweeping) 0 (λ n x a c u. tt) (λ n. refl) (k - (i + 1)) (i + 1) m (omega arith))
       go (Reserving chunks bytes commit exclusive waiting) false = fail-shape _ _ waiting
       go (Reserving chunks bytes commit exclusive waiting) true =
           memory-cases S l stamps k mark (ShapeOf (grantOfWaiting waiting)) chunks bytes commit exclusive waiting base tt (λ cause. tt) (λ d e f u. resume-shape _ waiting)

@@ -25,7 +25,7 @@ use Rattle.layer.specs.World.{World, Outcome, outcome, worldOf, stateOf, sizeOf
 use Rattle.layer.specs.Table.{at}
 use Rattle.layer.specs.Answering.{kindOpen}
 use Rattle.layer.specs.Step.{reserve, manage, adopt, claim, release, sweep, Call, act, query, answer, step}
-use Rattle.layer.specs.History.{Layer}
+use Rattle.layer.specs.History.{Layer, isAnswer}
 use Rattle.layer.specs.Demand.{Demand3}
 use Rattle.layer.specs.Ten.{TenExactly}
 
@@ -66,11 +66,6 @@ abbrev pub isQuery : Call → Bool
 isQuery (act a) = false
 isQuery (query c) = true
 isQuery (answer kind accepted base) = false
-
-abbrev pub isAnswer : Call → Bool
-isAnswer (act a) = false
-isAnswer (query c) = false
-isAnswer (answer kind accepted base) = true
 
 -- the size of a range that it manages, and its end; 0 if it manages none
 abbrev pub managedSize : Call → ℕ

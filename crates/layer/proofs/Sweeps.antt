@@ -1,0 +1,41 @@
+-- The case principle of a sweep: to prove P of what comes out, prove it of each question that it may put, and of its end. Assumes nothing.
+use Prim.Native.Nat.{ℕ, zero, suc, _+_, _-_, _*_, _≤_}
+use mathlib.Core.Bool.{Bool}
+use mathlib.Core.List.{List}
+use native.Mathlib.Omega.{arith}
+use Rattle.words.proofs.Tests.{by-cond}
+use Rattle.runs.specs.declared.Found.{Found}
+use Rattle.runs.specs.declared.Found.the-variants.{At, Nothing}
+use Rattle.runs.specs.Lowest.{least}
+use Rattle.runs.proofs.LowestLaws.{First, first-says}
+use Rattle.arena.specs.declared.Arena.{Arena}
+use Rattle.arena.specs.Sweeping.{sweepDue, disarm, toAsk, nextAsked}
+use Rattle.purge.specs.Stamps.{stampsOf}
+use Rattle.layer.specs.declared.Sweep.{Sweep}
+use Rattle.layer.specs.declared.Question.the-variants.{Purging}
+use Rattle.layer.specs.declared.Ask.the-variants.{AskPurge}
+use Rattle.layer.specs.declared.Answer.the-variants.{Asks, Swept}
+use Rattle.layer.specs.World.{Outcome, stateOf, reply, after, calm}
+use Rattle.layer.specs.Table.{at}
+use Rattle.layer.specs.Sweeping.{purgeReply, sweptReply, visitAt, visit, sweepFrom}
+
+-- it asks about a place from lo on, or ends
+module _ (S : ℕ) (stamps : List ℕ) (k : ℕ) (mark : Bool) (w : Sweep) (P : Outcome → Type 0) (lo : ℕ)
+    (asks : (l : List Arena) (i : ℕ) (a : Arena) (j : ℕ) → lo ≤ 1024 * i + j → P (after (reply (Asks (AskPurge (a .base + j * S) S (w .decommit))) (stateOf k mark (Purging i j w))) l stamps))
+    (ends : (l : List Arena) → P (after (reply (Swept (w .purged)) (calm k mark)) l stamps)) where
+  pub visit-cases : (l : List Arena) (i : ℕ) (a : Arena) (from : ℕ) (rest : List Arena → Outcome) → lo ≤ 1024 * i + from → ((m : List Arena) → P (rest m)) → P (visit S stamps k mark w l i a from rest)
+  unfolding visit nextAsked purgeReply
+  visit-cases l i a from rest h go-on =
+      go (least (toAsk a (stampsOf stamps i) (w .force) (w .now) (w .delay)) from (a .chunks - from)) (first-says (toAsk a (stampsOf stamps i) (w .force) (w .now) (w .delay)) from (a .chunks - from))
+    where
+      go : (f : Found) → First (toAsk a (stampsOf stamps i) (w .force) (w .now) (w .delay)) from (a .chunks - from) f → P (visitAt S stamps k mark w l i a rest f)
+      go (At j) g = asks _ i a j (omega (arith, h, g .0))
+      go Nothing g = go-on _
+
+  pub sweep-cases : (f i : ℕ) (l : List Arena) → lo ≤ 1024 * i → P (sweepFrom S stamps k mark w f i l)
+  unfolding sweepFrom sweptReply
+  sweep-cases zero i l h = ends l
+  sweep-cases (suc f) i l h =
+      by-cond P (sweepDue (at l i) (w .force) (w .now)) _ _
+      (λ e. visit-cases l i (disarm (at l i)) 0 (sweepFrom S stamps k mark w f (i + 1)) (omega arith) (λ m. sweep-cases f (i + 1) m (omega arith)))
+      (λ e. sweep-cases f (i + 1) l (omega arith))

@@ -19,16 +19,17 @@ use Rattle.layer.specs.declared.Kind.{Kind}
 use Rattle.layer.specs.declared.Answer.{Answer}
 use Rattle.layer.specs.declared.Answer.the-variants.{Refused, Claimed}
 use Rattle.layer.specs.World.{World, Outcome}
-use Rattle.layer.specs.Table.{at}
+use Rattle.layer.specs.Table.{at, sound}
 use Rattle.layer.specs.Answering.{isFor, answerOf}
 use Rattle.layer.specs.Step.{Act, reserve, manage, adopt, claim, release, sweep, Call, act, query, answer, stepOn, step}
 use Rattle.layer.specs.Book.{lowest, claims}
 use Rattle.layer.specs.History.{Marked, isSound, Layer, isBroken, Trail, openAt, ruled, entries, goesOn, Place, inRange, isNone, feeds, fedBy, standing, place, isAnswer}
-use Rattle.layer.specs.Demand.{claimant, chunksOf, OthersElsewhere, Demand3}
+use Rattle.layer.specs.Demand.{claimant, chunksOf, OthersElsewhere, StaysSound, Demand3}
 use Rattle.layer.proofs.Shown.{calm, committing, viewOf, Mine}
+use Rattle.layer.proofs.Stepped.{sound-test}
 use Rattle.layer.proofs.Outcomes.{namesIn, actNames, names, asksIn, asksFor, Tells, step-tells}
 use Rattle.layer.proofs.Asked.{Asked}
-use Rattle.layer.proofs.Trails.{S, Good, onTrail, good-ruled, row-1, answers-ruled}
+use Rattle.layer.proofs.Trails.{S, Good, onTrail, good-ruled, row-1, left-ruled, answers-ruled}
 use Rattle.layer.proofs.Demand.{place-size, along, by-the-book}
 use Rattle.layer.proofs.Consequences.{granted-exactly, granted-lowest, alike}
 
@@ -115,6 +116,10 @@ others-elsewhere p h m w l k other x fresh committed e y lo hi =
     not-false true e = refl
     not-false false e = absurd (true≢false e)
 
+-- what the rules leave stays sound
+pub stays-sound : StaysSound step
+stays-sound h l page e = ap (λ (w : World). sound S w page) (left-ruled h l) ∙ sound-test S (ruled h .world) page (good-ruled h .world) e
+
 -- DEMAND 3, of the rules
 pub demand3-rules : Demand3 step
 demand3-rules = record {
@@ -123,6 +128,7 @@ demand3-rules = record {
   granted-lowest = granted-lowest step by-the-book;
   others-elsewhere = others-elsewhere;
   alike = alike step by-the-book;
+  stays-sound = stays-sound;
 }
 
 -- and of every layer that answers and leaves what they say

@@ -1,7 +1,7 @@
 -- Demand 3, of any layer; proofs/ proves it of every layer that answers and leaves what the rules say. Each statement is about every history from the empty
 -- layer, lent as the order says, and every exclusive arena whose book opened in it and whose program keeps the premises. Assumes nothing.
 use mathlib.Core.Path.{_≡_}
-use mathlib.Core.Bool.{Bool, false, cond, not, _&&_, _||_}
+use mathlib.Core.Bool.{Bool, true, false, cond, not, _&&_, _||_}
 use mathlib.Core.List.{List, [], _∷_, _++_}
 use mathlib.Core.Logic.{_⊎_, inr, _↔_}
 use Prim.Native.Nat.{ℕ, _+_, _-_, _*_, _/_, _<_, _≤_}
@@ -9,10 +9,13 @@ use lib.ListN.{length}
 use Rattle.words.specs.Bits.{within}
 use Rattle.runs.specs.declared.Found.the-variants.{At}
 use Rattle.runs.specs.Lowest.{Starts, Lowest}
+use Rattle.options.specs.Options.{pageSizeSound}
 use Rattle.layer.specs.declared.Answer.the-variants.{Claimed}
+use Rattle.layer.specs.World.{sizeOf}
+use Rattle.layer.specs.Table.{sound}
 use Rattle.layer.specs.Step.{reserve, manage, adopt, claim, release, sweep, Call, act, query, answer}
 use Rattle.layer.specs.Book.{Book, lowest, Fed, claims, releases, Say, refused, granted, released, opened, sayAll}
-use Rattle.layer.specs.History.{Marked, History, next, Layer, outcomeBy, Lent, Trail, ruled, goesOn, Place, inRange, waits, Where, place, fed, told, isAnswer, Keeps}
+use Rattle.layer.specs.History.{Marked, History, next, Layer, outcomeBy, left, Lent, Trail, ruled, goesOn, Place, inRange, waits, Where, place, fed, told, isAnswer, Keeps}
 
 -- the book as it is opened
 abbrev pub bookOf : Place → Book
@@ -106,6 +109,11 @@ Alike L =
     → bookOf (place h w) ≡ bookOf (place h′ w′) → fed h w ≡ fed h′ w′
     → Begins (told L h w) (told L h′ w′) ⊎ Begins (told L h′ w′) (told L h w)
 
+-- What a layer leaves, row 1 lets pass at every sound page size: its programs can make their calls "with sound tables and settings". A layer that broke its own
+-- table would make the statements above hold of nothing.
+abbrev pub StaysSound : Layer → Type 0
+StaysSound L = (h : History) → Lent L h → (page : ℕ) → pageSizeSound page ≡ true → sound (sizeOf (left L h .state)) (left L h) page ≡ true
+
 -- DEMAND 3
 pub record Demand3 (L : Layer) : Type 0 where
   pub by-the-book : ByTheBook L
@@ -113,3 +121,4 @@ pub record Demand3 (L : Layer) : Type 0 where
   pub granted-lowest : GrantedLowest L
   pub others-elsewhere : OthersElsewhere L
   pub alike : Alike L
+  pub stays-sound : StaysSound L

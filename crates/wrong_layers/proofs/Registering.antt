@@ -1,6 +1,6 @@
 -- Wrong layers that turn an exclusive arena down which Registering's rules register: program 7's claim there then gets 10. Assumes nothing.
-use mathlib.Core.Path.{_≡_, refl, ap, _∙_}
-use mathlib.Core.Bool.{true, false}
+use mathlib.Core.Path.{_≡_, refl, sym, ap, _∙_}
+use mathlib.Core.Bool.{true, false, true≢false}
 use mathlib.Core.List.{List, [], _∷_, _++_}
 use Prim.Native.Nat.{ℕ, _+_, _*_, _≤_, _<_}
 use native.Mathlib.Omega.{arith}
@@ -27,7 +27,7 @@ use Rattle.layer.specs.declared.Kind.the-variants.{ForMemory}
 use Rattle.layer.specs.declared.Answer.{Answer}
 use Rattle.layer.specs.declared.Answer.the-variants.{Refused, Asks, Registered, Claimed, Owns}
 use Rattle.layer.specs.World.{World, Outcome, blank, stateOf, worldOf, outcome, empty}
-use Rattle.layer.specs.Table.{at, meets, overlaps, badRange, findArena, apart, soundQuestion, soundTable, soundLent}
+use Rattle.layer.specs.Table.{at, meets, overlaps, badRange, findArena, apart, soundQuestion, soundTable, soundLent, sound}
 use Rattle.layer.specs.Registering.{chunksFor, tooLarge, bytesAsked, askMemory, reserveReply, badCount, registerReply, registers, noWholeChunk, grows, reserveOf, manageOf, adoptOf}
 use Rattle.layer.specs.Claiming.{eligible, serves, asksCommit, grantArena, grantReply, missReply, searchOf, claimOf}
 use Rattle.layer.specs.Releasing.{releases, releaseReply, releaseOf}
@@ -35,12 +35,12 @@ use Rattle.layer.specs.Sweeping.{purgeReply, sweptReply, visit, sweepFrom}
 use Rattle.layer.specs.Answering.{isFor, answerOf}
 use Rattle.layer.specs.Step.{reserve, manage, claim, owns, act, query, answer, rules, step}
 use Rattle.layer.specs.Book.{lowest, claims, refused, granted, enter, sayAll}
-use Rattle.layer.specs.History.{Marked, begin, isSound, start, Place, inRange, OpensAt}
+use Rattle.layer.specs.History.{Marked, begin, next, isSound, start, Place, inRange, OpensAt}
 use Rattle.layer.specs.Demand.{bookOf, Demand3}
 use Rattle.share_book_cases.specs.Example.{S, plain, row, by}
-use Rattle.share_book_cases.proofs.Runs.{at-start, before-made, open-made, after-made, by-book, own-call}
+use Rattle.share_book_cases.proofs.Runs.{Before, at-start, before-made, open-made, after-made, by-book, own-call}
 use Rattle.wrong_layers.proofs.Ground.{stand, clash, ground}
-use Rattle.wrong_layers.specs.Wrong.{smallOnly, lowOnly, fullAtOne, dummies, fillsTheTable, noneReserved, RegisteringFails}
+use Rattle.wrong_layers.specs.Wrong.{smallOnly, lowOnly, fullAtOne, dummies, fillsTheTable, noneReserved, breaksItsTable, RegisteringFails}
 
 -- ---- 513 chunks at S; one chunk at 2^42; one chunk at 3 S beside a shared arena at S
 
@@ -297,6 +297,23 @@ none-reserved d =
     let b = by-book L 7 at-reserved _ (stand (reserved 1 1) 7 (claimsAt 0 empty)) empty _ _ u d in
     clash 10 S true (b .0) [] (b .1 ∙ asked-facts .reserved-says)
 
+-- ---- a table of 33 arenas
+
+abbrev broken : World
+broken = worldOf (replicate 32 blank) (replicate 32768 0) (stateOf 33 false Idle)
+
+broken-is : sound S broken 4096 ≡ false
+unfolding pageSizeSound soundLent soundTable
+broken-is = refl
+
+breaks-its-table : Demand3 breaksItsTable → ⊥
+unfolding empty pageSizeSound
+breaks-its-table d =
+    let L = breaksItsTable in
+    let b : Before L (next begin looks) (stand empty 9 looks) broken = before-made L begin start empty (at-start L) looks (outcome (Owns false) empty) (outcome (Owns false) broken)
+    (record { sound = ground .sound-empty; by-rules = filled-facts .looked; by-layer = ap (λ (z : Outcome). outcome (z .answer) broken) (filled-facts .looked); passed = refl }) refl in
+    true≢false (sym (ap (λ (w : World). sound S w 4096) (sym (b .left-is)) ∙ d .stays-sound (next begin looks) (b .lent) 4096 refl) ∙ broken-is)
+
 pub registering-fails : RegisteringFails
 registering-fails = record {
   small-only = small-only;
@@ -304,4 +321,5 @@ registering-fails = record {
   full-at-one = full-at-one;
   fills-the-table = fills-the-table;
   none-reserved = none-reserved;
+  breaks-its-table = breaks-its-table;
 }

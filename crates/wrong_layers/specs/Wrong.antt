@@ -193,6 +193,10 @@ dummies (suc n) i = dummy i ∷ dummies n (suc i)
 abbrev pub fillsTheTable : Layer
 fillsTheTable = butWhere (λ w c. isQuery c) (λ w o. outcome (o .answer) (worldOf (dummies 32 1) (w .stamps) (stateOf 32 (w .state .mark) Idle)))
 
+-- a query leaves a table that row 1 does not let pass, so that no program can bring a sound one
+abbrev pub breaksItsTable : Layer
+breaksItsTable = butWhere (λ w c. isQuery c) (λ w o. outcome (o .answer) (worldOf (w .records) (w .stamps) (stateOf 33 (w .state .mark) Idle)))
+
 -- ---- sweeps and bits: what demand 2 alone rules out
 
 -- "Marking chunks dirty before a commit is answered no"
@@ -251,6 +255,7 @@ pub record RegisteringFails : Type 0 where
   pub full-at-one : Demand3 fullAtOne → ⊥
   pub fills-the-table : Demand3 fillsTheTable → ⊥
   pub none-reserved : Demand3 noneReserved → ⊥
+  pub breaks-its-table : Demand3 breaksItsTable → ⊥
 
 pub record SweepsFail : Type 0 where
   pub dirty-before-yes : IsRules dirtyBeforeYes → ⊥

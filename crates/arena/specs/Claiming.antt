@@ -24,7 +24,7 @@ runCommitted a s n = all (bitAt (a .committed)) s n
 unfoldable pub runFresh : Arena → ℕ → ℕ → Bool
 runFresh a s n = all (λ j. not (bitAt (a .dirty) j)) s n
 
--- the run's used bits set, and cleared again: with registering and growth, the only two writes of a used bit
+-- the run's used bits set, and cleared again: beside registering, the only two writes of a used bit
 unfoldable pub takeRun : Arena → ℕ → ℕ → Arena
 takeRun a s n = withUsed a (setRun (a .used) s n)
 

@@ -1,5 +1,5 @@
-// Runs of one arena's chunks, by value: taken, given back, committed, dirtied, told. A used bit is written by
-// take_run and give_back_run alone, beside registering and growth.
+// Runs of one arena's chunks, by value: taken, given back, committed, dirtied, told. By value a used bit
+// is written by take_run and give_back_run, and by registering; where a record lies, by `records::map_changes`.
 ghost use mathlib.Core.Path.{_≡_};
 ghost use Prim.Native.Nat.{_+_, _≤_};
 ghost use Rattle.arena.specs.Claiming.{takeRun, giveBackRun, commitRun, dirtyRun, finishGrant};

@@ -8,7 +8,8 @@ use native.Mathlib.Omega.{arith}
 use borrow.Author.Tests.{ne-eqb, lt-leb}
 use lib.Dec.{eqb, leb}
 use Rattle.refusals.specs.declared.Refusal.{Refusal}
-use Rattle.refusals.specs.declared.Refusal.the-variants.{NoSuchQuestion}
+use Rattle.refusals.specs.declared.Refusal.the-variants.{NoSuchQuestion, Range, MemoryRefused}
+use Rattle.refusals.specs.Number.{number}
 use Rattle.words.proofs.Tests.{by-cond, when, unless}
 use Rattle.arena.specs.declared.Arena.{Arena}
 use Rattle.arena.specs.Registering.{reservedArena}
@@ -23,7 +24,8 @@ use Rattle.layer.specs.declared.Kind.{Kind}
 use Rattle.layer.specs.declared.Ask.{Ask}
 use Rattle.layer.specs.declared.Ask.the-variants.{AskMemory}
 use Rattle.layer.specs.declared.Reply.{Reply}
-use Rattle.layer.specs.declared.Answer.the-variants.{Asks}
+use Rattle.layer.specs.declared.Answer.{Answer}
+use Rattle.layer.specs.declared.Answer.the-variants.{Refused, Asks, Registered, Claimed, Released, Swept, Owns, Area}
 use Rattle.layer.specs.World.{World, Outcome, stateOf, worldOf, after}
 use Rattle.layer.specs.Table.{badRange, sound}
 use Rattle.layer.specs.Registering.{chunksFor, tooLarge, bytesAsked, reserveReply, reserveOf, askMemory, badCount, register, withRecord, withStamps}
@@ -69,6 +71,20 @@ module _ (l : List Arena) (stamps : List ℕ) (k : ℕ) (mark : Bool) where
 
 -- ---- answers
 
+-- 6
+abbrev isRange : Answer → Bool
+isRange (Refused why) = eqb (number why) 6
+isRange (Asks ask) = false
+isRange (Registered id) = false
+isRange (Claimed address fresh committed) = false
+isRange Released = false
+isRange (Swept count) = false
+isRange (Owns whether) = false
+isRange (Area at-base bytes) = false
+
+not-range : (r : Answer) → isRange r ≡ false → r ≡ Refused Range → ⊥
+not-range r e f = true≢false (sym (ap isRange f) ∙ e)
+
 module _ (w : World) (page : ℕ) (e : sound S w page ≡ true) (base : ℕ) where
   abbrev After : Question → Outcome → Type 0
   After q o = AfterAnswer w base q (o .answer) (o .world .state .question)
@@ -86,30 +102,35 @@ module _ (w : World) (page : ℕ) (e : sound S w page ≡ true) (base : ℕ) whe
   -- who waits goes on
   resume-after : (a : Arena) (waiting : Waiting)
       → let o = resume S l (w .stamps) k (w .state .mark) a waiting in
-      (o .world .state .question ≡ Idle) ⊎ CommitOf waiting (o .world .state .question)
-  resume-after a Reserve = inl refl
+      (o .answer ≡ Refused Range → ⊥) × ((o .world .state .question ≡ Idle) ⊎ CommitOf waiting (o .world .state .question))
+  resume-after a Reserve = (not-range _ refl, inl refl)
   resume-after a (Claim n commits) =
       let g : Again S l (w .stamps) k (w .state .mark) a n commits = again S l (w .stamps) k (w .state .mark) a n commits in
-      let P : Outcome → Type 0 = λ o. (o .world .state .question ≡ Idle) ⊎ CommitOf (Claim n commits) (o .world .state .question) in
+      let P : Outcome → Type 0 = λ o. (o .answer ≡ Refused Range → ⊥) × ((o .world .state .question ≡ Idle) ⊎ CommitOf (Claim n commits) (o .world .state .question)) in
       subst P (sym (g .is))
-      (search-cases S (withRecord l k a) (withStamps (w .stamps) k) (suc k) (w .state .mark) P (g .id) n commits _ (λ _. inl refl)
-      (λ i h f. grant-cases S (withRecord l k a) (withStamps (w .stamps) k) (suc k) (w .state .mark) P i n commits (λ _. inl refl) (λ s _. inl refl) (λ s _. inr (i, s, refl))))
+      (search-cases S (withRecord l k a) (withStamps (w .stamps) k) (suc k) (w .state .mark) P (g .id) n commits _ (λ _. (not-range _ refl, inl refl))
+      (λ i h f. grant-cases S (withRecord l k a) (withStamps (w .stamps) k) (suc k) (w .state .mark) P i n commits (λ _. (not-range _ refl, inl refl)) (λ s _. (not-range _ refl, inl refl)) (λ s _. (not-range _ refl, inr (i, s, refl)))))
+
+  no-memory : (waiting : Waiting) → after (failReply k (w .state .mark) MemoryRefused waiting) l (w .stamps) .answer ≡ Refused Range → ⊥
+  no-memory Reserve = not-range _ refl
+  no-memory (Claim n commits) = not-range _ refl
 
   memory-after : (chunks bytes : ℕ) (commit exclusive : Bool) (waiting : Waiting) (accepted : Bool)
       → After (Reserving chunks bytes commit exclusive waiting) (answerMemory S l (w .stamps) k (w .state .mark) chunks bytes commit exclusive waiting accepted base)
-  memory-after chunks bytes commit exclusive waiting false = inr (inl (fail-after _ waiting))
+  memory-after chunks bytes commit exclusive waiting false = inr (no-memory waiting, inl (fail-after MemoryRefused waiting))
   memory-after chunks bytes commit exclusive waiting true =
       let P : Outcome → Type 0 = After (Reserving chunks bytes commit exclusive waiting) in
       by-cond P (badRange S l k base (chunks * S)) _ _
       (λ f. inl (refl, refl, λ r. true≢false (sym f ∙ not-6 w (some-chunk w page e) base chunks r)))
-      (λ f. by-cond P (badCount chunks) _ _ (λ g. inr (inr (inl (Count, refl))))
+      (λ f. by-cond P (badCount chunks) _ _ (λ g. inr (not-range _ refl, inr (inl (Count, refl))))
       (λ g. by-cond P (eqb (base % S) 0) _ _
-      (λ h. by-cond P (leb 32 k) _ _ (λ m. inr (inr (inl (Full, refl)))) (λ m. goes (resume-after (reservedArena base chunks commit exclusive) waiting)))
-      (λ h. inr (inr (inl (Misaligned, refl))))))
+      (λ h. by-cond P (leb 32 k) _ _ (λ m. inr (not-range _ refl, inr (inl (Full, refl))))
+      (λ m. let x = resume-after (reservedArena base chunks commit exclusive) waiting in inr (x .0, goes (x .1))))
+      (λ h. inr (not-range _ refl, inr (inl (Misaligned, refl))))))
     where
-      goes : {v : Question} → (v ≡ Idle) ⊎ CommitOf waiting v → {A B : Type 0} → A ⊎ ((v ≡ Idle) ⊎ (B ⊎ CommitOf waiting v))
-      goes (inl x) = inr (inl x)
-      goes (inr x) = inr (inr (inr x))
+      goes : {v : Question} → (v ≡ Idle) ⊎ CommitOf waiting v → {B : Type 0} → (v ≡ Idle) ⊎ (B ⊎ CommitOf waiting v)
+      goes (inl x) = inl x
+      goes (inr x) = inr (inr x)
 
   answer-after : (q : Question) → SoundQuestion l k q → (kind : Kind) (accepted : Bool) → isFor q kind ≡ true → After q (answerTo S l (w .stamps) k (w .state .mark) q accepted base)
   answer-after Idle h kind accepted f = absurd (true≢false (sym f ∙ no-question kind))

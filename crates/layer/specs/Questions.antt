@@ -38,10 +38,10 @@ AfterAnswer w base Idle r v = ⊥
 AfterAnswer w base (Committing i s n) r v = v ≡ Idle
 -- a sweep goes on: the next chunk that it asks about stands behind the one that it asked about
 AfterAnswer w base (Purging i j x) r v = (v ≡ Idle) ⊎ ((i′ : ℕ) × (j′ : ℕ) × (x′ : Sweep) × (v ≡ Purging i′ j′ x′) × (1024 * i + j < 1024 * i′ + j′))
--- "6 keeps it open", and comes only if the range is not free; a block that cannot be registered is given back; a claim that waited may put its commit question
+-- 6 keeps it open, and comes only if the range is not free; a block that cannot be registered is given back; a claim that waited may put its commit question
 AfterAnswer w base (Reserving chunks bytes commit exclusive waiting) r v =
     ((r ≡ Refused Range) × (v ≡ Reserving chunks bytes commit exclusive waiting) × (Registrable w base chunks → ⊥))
-    ⊎ ((v ≡ Idle) ⊎ (((cause : Unusable) × (v ≡ GivingBack cause waiting)) ⊎ CommitOf waiting v))
+    ⊎ ((r ≡ Refused Range → ⊥) × ((v ≡ Idle) ⊎ (((cause : Unusable) × (v ≡ GivingBack cause waiting)) ⊎ CommitOf waiting v)))
 AfterAnswer w base (GivingBack cause waiting) r v = v ≡ Idle
 
 -- where no question is open an act leaves none open but one that it puts; where one is, it is turned down

@@ -101,7 +101,7 @@ refusalOf n =
     (cond (eqb n 14) MemoryRefused
     (cond (eqb n 15) NoWholeChunk HostRefused))))))))))))))
 
--- "0 granted, 255 a question, else the refusal"
+-- the reply's number, as include/sirqobal.h has it: 0 granted, 255 a question, else the refusal
 abbrev pub answerOf : Question → Call → ReplyNumbers → Answer
 answerOf q c r = cond (eqb (r .number) 0) (granting (grantOf q c) r) (cond (eqb (r .number) 255) (Asks (askOf r)) (Refused (refusalOf (r .number))))
 

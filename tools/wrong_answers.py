@@ -8,9 +8,8 @@ each other share a check, and the prover must refuse the functions that they nam
 facts of their own, and say nothing else: `shown` tells what is said of a fact from what shows nothing. A must-fail edit that
 has no such line is left to `rt`, and counts for no function.
 
-A walk names what each call is passed. Where the code passes something else it is refused there, by the two values, and its
-contract is not looked at. That shows less: an edit by which a function fails so has a line `by: operand`, and may change nothing
-but operands.
+A walk that names what each call is passed is refused there, by the two values, where the code passes something else, and its
+contract is not looked at. That shows nothing: a walk finds what is passed in the code (records/proofs/Operands).
 
 Two edits keep clear of each other if no function is made wrong by both, and none is made wrong by one and fails with the other
 as a caller; but such a caller may be, where its proof is in parts that are checked each by itself (they name its module Tie, or
@@ -48,10 +47,9 @@ FACT = re.compile(
     r"|does not hold \(this comparison|the two (?:types|values) (?:first differ|differ|are)|expected type `[^`]*`,? *\n? *but this has type"
 )
 
-# What is to be proved, where that is no fact but a piece of the code that the proof goes through: a need or a place of it, or a
-# step of a walk. An operand of a call is such a step too, or what stands in the walk's context where it is read.
-PIECE = re.compile(r"expected type `(?:tie\.|\S+\.(?:Tie|Lts)\.|types\.)")
-OPERAND = re.compile(r"expected type `(?:types\.Run\.(?:Opd|Reads) |\S*_≡_ \{2\} \{A = (?:types\.Kit\.)?Item )")
+# What is to be proved, where that is no fact but a piece of the code that the proof goes through: a need or a place of it, a
+# step of a walk as an operand of a call, or what stands in the walk's context where it is read.
+PIECE = re.compile(r"expected type `(?:tie\.|\S+\.(?:Tie|Lts)\.|types\.|\S*_≡_ \{2\} \{A = (?:types\.Kit\.)?Item )")
 
 
 class Edit:
@@ -61,7 +59,7 @@ class Edit:
         self.label = path.stem
         self.crate = path.parent.parent
         self.changes = []
-        self.wrong, self.callers, self.by_operand = set(), set(), False
+        self.wrong, self.callers = set(), set()
         file = old = None
         for line in path.read_text().split("\n"):
             key, _, rest = line.partition(":")
@@ -75,22 +73,11 @@ class Edit:
             elif key == "fails":
                 wrong, _, callers = rest.partition(";")
                 self.wrong, self.callers = set(wrong.split()), set(callers.split())
-            elif key == "by":
-                self.by_operand = rest == "operand"
         if not self.changes or not self.wrong:
             sys.exit(f"{path}: it needs a pair 'old:' and 'new:', and a line 'fails:'")
-        if self.by_operand and not self.changes_operands():
-            sys.exit(f"{path}: it has a line 'by: operand', and changes more than operands of a call")
 
     def fails(self):
         return self.wrong | self.callers
-
-    def changes_operands(self):
-        """Whether it changes operands of calls alone."""
-        return all(
-            file.startswith("src/") and re.sub(r"\w+(?=[,)])", "", old) == re.sub(r"\w+(?=[,)])", "", new)
-            for file, old, new in self.changes
-        )
 
     def keeps_contracts(self):
         """Whether it changes the bodies of functions alone."""
@@ -228,11 +215,9 @@ def refused_in(name, said):
 
 
 def shown(reason):
-    """What the prover's reason shows: a fact that fails, a walk's operand, that something cited fails, or nothing."""
+    """What the prover's reason shows: a fact that fails, that something cited fails, or nothing."""
     if CITED.match(reason):
         return "cited"
-    if OPERAND.search(reason):
-        return "operand"
     return "fact" if FACT.search(reason) and not PIECE.search(reason) else "nothing"
 
 
@@ -270,10 +255,9 @@ def faults(name, crate, group, status, said):
     found = [f"{function} is proved, and an edit names it" for function in sorted(named - refused)]
     found += [f"{function} is not proved, and no edit names it" for function in sorted(refused - named)]
     for edit in group:
-        wanted = "operand" if edit.by_operand else "fact"
         for function in sorted(edit.wrong & refused):
-            if wanted not in shown_of(name, crate, function, said):
-                found.append(f"{function} is not refused for its own {wanted}")
+            if "fact" not in shown_of(name, crate, function, said):
+                found.append(f"{function} is not refused for its own fact")
     return found
 
 

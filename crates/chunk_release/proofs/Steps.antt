@@ -138,12 +138,12 @@ module _ {M : Type 1} {𝓤 : URA M} {H : Heap 𝓤} {A : Atoms 𝓤} {K : Type 
   pub stamps-step : K → Site K W Γ C E #releases·release-stamps xs G after → (mem : Memory → SProp 𝓤) (run : Routine → Fun 𝓤) → Triple 𝓤 (C #releases·release-stamps) (StampsOf 𝓤 H A mem run)
       → (L : Loan) (us : List ℕ) → (p : ℕ) → p < 2 ^ 64 → (n : ℕ) → n < 2 ^ 64 → (pending : Bool) → (ms : ℕ) → ms < 2 ^ 32 → (f : Found) (vf : Val) → Is F.the-row f (vf ∷ []) → (a : Head) (va : Val) → Is J.the-row a (va ∷ []) → (S : ℕ) → S < 2 ^ 64 → 0 < S → ((x : ℕ) → f ≡ At x → (a .chunks ≤ 1024) × (x < 32) × (length us ≡ 32768))
       → ((h : Item 𝓤) → Opds K W (h ∷ Γ) E xs (sliceOf L ∷ vint w64 p ∷ vint w64 n ∷ vbool pending ∷ vint w32 ms ∷ vf ∷ va ∷ vint w64 S ∷ []))
-      → ((v : Val) → Is Nothing tt (v ∷ []) → length (stampsAfter S us p n pending ms f (headed a)) ≡ length us → Seq K W ((‵ (lent u32 L (stampsAfter S us p n pending ms f (headed a))) ⊛ i) ∷ Γ) (after v))
+      → ((v : Val) (ts : List ℕ) → Is Nothing tt (v ∷ []) → ts ≡ stampsAfter S us p n pending ms f (headed a) → length ts ≡ length us → Seq K W ((‵ (lent u32 L ts) ⊛ i) ∷ Γ) (after v))
       → Seq K W ((‵ (lent u32 L us) ⊛ i) ∷ Γ) G
   stamps-step t site mem run known L us p fp n fn pending ms fms f vf gf a va ga S fS some inside ops k =
       mut-call t site u32 L Nothing (plain (λ _. u64) ∷ plain (λ _. usize) ∷ plain (λ _. bool) ∷ plain (λ _. u32) ∷ plain (λ _. F.the-row) ∷ plain (λ _. J.the-row) ∷ plain (λ _. u64) ∷ []) (yes, (yes, (yes, (yes, (yes, (yes, (yes, tt))))))) (stamps′.clauses 𝓤 H A mem run) known us (λ _. (p, (n, (pending, (ms, (f, (a, (S, tt)))))))) (λ _. (vint w64 p ∷ [], (vint w64 n ∷ [], (vbool pending ∷ [], (vint w32 ms ∷ [], (vf ∷ [], (va ∷ [], (vint w64 S ∷ [], tt))))))))
       (λ _. owns-make 𝓤 H A (u64 ∷ usize ∷ bool ∷ u32 ∷ F.the-row ∷ J.the-row ∷ u64 ∷ []) (Ises (u64 ∷ usize ∷ bool ∷ u32 ∷ F.the-row ∷ J.the-row ∷ u64 ∷ [])) (uint-makes 𝓤 H A W w64, (uint-makes 𝓤 H A W w64, (bool-makes 𝓤 H A W, (uint-makes 𝓤 H A W w32, (EL.makes F.the-type F′.the-plain 𝓤 H A, (LL.makes J.the-type J′.the-plain 𝓤 H A, (uint-makes 𝓤 H A W w64, tt))))))) (p, (n, (pending, (ms, (f, (a, (S, tt))))))) (vint w64 p ∷ [], (vint w64 n ∷ [], (vbool pending ∷ [], (vint w32 ms ∷ [], (vf ∷ [], (va ∷ [], (vint w64 S ∷ [], tt))))))) ((refl, fp), ((refl, fn), (refl, ((refl, fms), (gf, (ga, ((refl, fS), tt)))))))) (λ _ _. tt) (λ _ _. factI 𝓤 _ (emp 𝓤) (some, inside))
-      (λ r zs. zs ≡ stampsAfter S us p n pending ms f (headed a)) (λ _ _ r ws. id⊢ 𝓤 _) (λ h _. ops h) (λ v r zs is e l. subst (λ (ts : List ℕ). Seq K W ((‵ (lent u32 L ts) ⊛ i) ∷ Γ) (after v)) (sym e) (k v is (subst (λ (ts : List ℕ). length ts ≡ length us) e l)))
+      (λ r zs. zs ≡ stampsAfter S us p n pending ms f (headed a)) (λ _ _ r ws. id⊢ 𝓤 _) (λ h _. ops h) (λ v r zs is e l. k v zs is e l)
 
   pub answer-step : K → Site K W Γ C E #releases·release-answer xs G after → (mem : Memory → SProp 𝓤) (run : Routine → Fun 𝓤) → Triple 𝓤 (C #releases·release-answer) (AnswerOf 𝓤 H A mem run)
       → (ok : Bool) → (z : State) (vz : Val) → Is Z.the-row z (vz ∷ []) → (p : ℕ) → p < 2 ^ 64 → (n : ℕ) → n < 2 ^ 64 → (f : Found) (vf : Val) → Is F.the-row f (vf ∷ []) → (a : Head) (va : Val) → Is J.the-row a (va ∷ []) → (S : ℕ) → S < 2 ^ 64 → 0 < S

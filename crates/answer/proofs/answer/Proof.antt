@@ -52,6 +52,7 @@ use Rattle.layer.proofs.Kind.Laws as J′
 use Rattle.answer.specs.Call.{answerOn}
 use Rattle.records.proofs.Walk.{Loan, Known, lent, sliceOf}
 use Rattle.records.proofs.Locals.{enters, used, in-local}
+use Rattle.records.proofs.Operands.{arg-fits}
 use Rattle.records.proofs.Calls.{in-seq}
 use Rattle.records.proofs.Frame.{Done2, finish2, mut2-meets}
 use Rattle.table.proofs.Steps.{Row, row-step}
@@ -98,6 +99,9 @@ module _ {M : Type 1} (𝓤 : URA M) (H : Heap 𝓤) (A : Atoms 𝓤) (W : Given
     abbrev χ : Reply → List Arena → List ℕ → Type 0
     χ = Leaves (step (worldOf ys us s) ns settings (answer kind granted base))
 
+    ends : {r : Reply} {zs : List Arena} {ts : List ℕ} → Leaves left r zs ts → χ r zs ts
+    ends {r} {zs} {ts} d = subst (λ (o : Outcome). Leaves o r zs ts) (answer-is 33554432 ys us s ns settings kind granted base) d
+
     walk : Known T.the-row L ys → Known u32 L′ us → Is Z.the-row s (ms ∷ []) → ns < 2 ^ 64 → Is G.the-row settings (msettings ∷ []) → Is J.the-row kind (mkind ∷ []) → base < 2 ^ 64
         → Sq W ((‵ (lent T.the-row L ys) ⊛ (‵ (lent u32 L′ us) ⊛ ‵ ftrue)) ∷ []) (prop (WpFn 𝓤 H (𝓣 .C) (𝓣 .Λ) code.function (sliceOf L ∷ sliceOf L′ ∷ ms ∷ vint w64 ns ∷ msettings ∷ mkind ∷ vbool granted ∷ vint w64 base ∷ []) (Done2 𝓤 H A T.the-row u32 L L′ P.the-row ys us χ)))
     walk kn kn′ gs fns gsettings gkind fbase =
@@ -118,12 +122,11 @@ module _ {M : Type 1} (𝓤 : URA M) (H : Heap 𝓤) (A : Atoms 𝓤) (W : Given
         assigns ! (agg ! (and-then ! (in-local ! refl) (and-then ! (load ! (from ! (fld ! refl (stop !))) (look-in ! 3 (sub ! 1 refl (whole !)))) (no-more !)))) (from ! (stop !)) (init ! 29 refl (tt, (tt, (record { fits = kn .1 .0 }, tt)))) $
         assigns ! (addr ! (from ! (fld ! refl (hop ! (look-in ! 5 (sub ! 0 refl (whole !))) (stop !))))) (from ! (stop !)) (init ! 31 refl (tt, tt)) $
         assigns ! (agg ! (and-then ! (in-local ! refl) (and-then ! (load ! (from ! (fld ! refl (stop !))) (look-in ! 5 (sub ! 1 refl (whole !)))) (no-more !)))) (from ! (stop !)) (init ! 33 refl (tt, (tt, (record { fits = kn′ .1 .0 }, tt)))) $
-        answer-on-step ! (in-seq ! (fmOf 𝓤 H (W .laws) 𝓣)) mem run known-answer-on L L′ ys us ok s ms gs kind mkind gkind _ base fbase 33554432 fS lo hi (sound-answerable 33554432 ys us s (settings .page))
+        arg-fits ! 6 refl (λ f₆. answer-on-step ! (in-seq ! (fmOf 𝓤 H (W .laws) 𝓣)) mem run known-answer-on L L′ ys us ok s ms gs kind mkind gkind _ _ (f₆ .fits) 33554432 fS lo hi (sound-answerable 33554432 ys us s (settings .page))
         (λ _. and-then ! (in-local ! refl) (and-then ! (in-local ! refl) (and-then ! (in-local ! refl) (and-then ! (in-local ! refl) (and-then ! (in-local ! refl) (and-then ! (in-local ! refl) (and-then ! (in-local ! refl) (and-then ! (big-lit ! (record { fits = lit< tt })) (no-more !))))))))) (λ vr r gr e l l′.
         land ! (from ! (stop !)) (init ! 1 refl (LL.lawful P.the-type P′.the-laws 𝓤 H A W .typed r (vr ∷ []) gr .0)) $
         returns ! (look ! 1 refl) $ used ! $ used ! $ used ! $ used ! $ used ! $ used ! $ used ! $ used ! $ used ! $ used ! $ used ! $ used ! $ used ! $ used ! $ used ! $ used ! $ used ! $ free0 ! $
-        finish2 𝓤 H A T.the-row u32 L L′ P.the-row ys us χ W (‵ ftrue) vr r (left .world .records) (left .world .stamps) gr l l′
-        (subst (λ (o : Outcome). Leaves o r (left .world .records) (left .world .stamps)) (answer-is 33554432 ys us s ns settings kind granted base) (e, refl, refl)))))
+        finish2 𝓤 H A T.the-row u32 L L′ P.the-row ys us χ W (‵ ftrue) vr r _ _ gr l l′ (ends (e, refl, refl))))))
 
   answer-meets : Meets 𝓤 H A answer′.signature (WpFn 𝓤 H (𝓣 .C) (𝓣 .Λ) code.function) (answer′.spec 𝓤 H A mem run)
   answer-meets = mut2-meets 𝓤 H A W T.the-row u32 P.the-row (plain (λ _. Z.the-row) ∷ plain (λ _. u64) ∷ plain (λ _. G.the-row) ∷ plain (λ _. J.the-row) ∷ plain (λ _. bool) ∷ plain (λ _. u64) ∷ []) (yes, (yes, (yes, (yes, (yes, (yes, tt)))))) (answer′.clauses 𝓤 H A mem run)

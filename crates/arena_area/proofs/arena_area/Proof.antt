@@ -48,6 +48,7 @@ use Rattle.layer.proofs.Settings as G
 use Rattle.layer.proofs.Settings.Laws as G′
 use Rattle.records.proofs.Walk.{Loan, Known, shared, sliceOf}
 use Rattle.records.proofs.Locals.{enters, used, in-local}
+use Rattle.records.proofs.Operands.{arg, arg-fits}
 use Rattle.records.proofs.Calls.{in-seq}
 use Rattle.entry.proofs.EntrySteps.{Page, page-step}
 use Rattle.records.proofs.Steps.{LoadOr, load-or-pass}
@@ -124,12 +125,12 @@ module _ {M : Type 1} (𝓤 : URA M) (H : Heap 𝓤) (A : Atoms 𝓤) (W : Given
         land ! (from ! (stop !)) (init ! 17 refl (tt, tt)) $
         place-of-step ! (in-seq ! (fmOf 𝓤 H (W .laws) 𝓣)) mem run known-place id gid (λ _. and-then ! (in-local ! refl) (no-more !)) (λ fj.
         land ! (from ! (stop !)) (init ! 19 refl (tt, record { fits = fj })) $
-        load-or-pass ! (in-seq ! (fmOf 𝓤 H (W .laws) 𝓣)) mem run known-load L ys j fj (λ _. and-then ! (in-local ! refl) (and-then ! (in-local ! refl) (no-more !))) (λ va ga.
+        arg-fits ! 1 refl (λ f₁. load-or-pass ! (in-seq ! (fmOf 𝓤 H (W .laws) 𝓣)) mem run known-load L ys _ (f₁ .fits) (λ _. and-then ! (arg ! refl) (and-then ! (arg ! refl) (no-more !))) (λ va ga.
         land ! (from ! (stop !)) (init ! 21 refl (LL.lawful T.the-type T′.the-laws 𝓤 H A W .typed a (va ∷ []) ga .0)) $
-        area-reply-step ! (in-seq ! (fmOf 𝓤 H (W .laws) 𝓣)) mem run known-reply ok state mstate gstate j fj a va ga 33554432 fS (λ e l. few 33554432 ys us state ns settings e j l) hi (λ _. and-then ! (in-local ! refl) (and-then ! (in-local ! refl) (and-then ! (in-local ! refl) (and-then ! (in-local ! refl) (and-then ! (big-lit ! (record { fits = lit< tt })) (no-more !)))))) (λ vr gr.
+        arg-fits ! 2 refl (λ f₂. area-reply-step ! (in-seq ! (fmOf 𝓤 H (W .laws) 𝓣)) mem run known-reply ok state mstate gstate _ (f₂ .fits) a va ga 33554432 fS (λ e l. few 33554432 ys us state ns settings e j l) hi (λ _. and-then ! (arg ! refl) (and-then ! (arg ! refl) (and-then ! (arg ! refl) (and-then ! (arg ! refl) (and-then ! (big-lit ! (record { fits = lit< tt })) (no-more !)))))) (λ vr gr.
         land ! (from ! (stop !)) (init ! 1 refl (LL.lawful Y.the-type Y′.the-laws 𝓤 H A W .typed re (vr ∷ []) gr .0)) $
         returns ! (look ! 1 refl) $ used ! $ used ! $ used ! $ used ! $ used ! $ used ! $ used ! $ used ! $ used ! $ used ! $ used ! $ used ! $ free0 ! $
-        finish 𝓤 H A T.the-row u32 L L′ Y.the-row ys us χ W (‵ ftrue) vr re gr (area-step 33554432 ys us state ns settings id)))))))
+        finish 𝓤 H A T.the-row u32 L L′ Y.the-row ys us χ W (‵ ftrue) vr re gr (area-step 33554432 ys us state ns settings id)))))))))
 
   arena-area-meets : Meets 𝓤 H A arena-area′.signature (WpFn 𝓤 H (𝓣 .C) (𝓣 .Λ) code.function) (arena-area′.spec 𝓤 H A mem run)
   arena-area-meets = meets 𝓤 H A W T.the-row u32 Y.the-row (plain (λ _. Z.the-row) ∷ plain (λ _. u64) ∷ plain (λ _. G.the-row) ∷ plain (λ _. i32) ∷ []) (yes, (yes, (yes, (yes, tt)))) (arena-area′.clauses 𝓤 H A mem run)

@@ -51,6 +51,7 @@ use Rattle.judge.proofs.Query as Q
 use Rattle.judge.proofs.Query.Laws as Q′
 use Rattle.records.proofs.Walk.{Loan, Known, shared, sliceOf}
 use Rattle.records.proofs.Locals.{enters, used, in-local}
+use Rattle.records.proofs.Operands.{arg-fits}
 use Rattle.records.proofs.Calls.{in-seq}
 use Rattle.entry.proofs.EntrySteps.{Page, HoldsQuery, page-step, holds-step}
 use Rattle.table.proofs.Steps.{Row, Scan, row-pass, scan-pass}
@@ -131,14 +132,14 @@ module _ {M : Type 1} (𝓤 : URA M) (H : Heap 𝓤) (A : Atoms 𝓤) (W : Given
         land ! (from ! (stop !)) (init ! 17 refl (tt, tt)) $
         looked-at-step ! (in-seq ! (fmOf 𝓤 H (W .laws) 𝓣)) mem run known-looked ok state mstate gstate (λ _. and-then ! (in-local ! refl) (and-then ! (in-local ! refl) (no-more !))) (λ fk.
         land ! (from ! (stop !)) (init ! 19 refl (tt, record { fits = fk })) $
-        holds-step ! (in-seq ! (fmOf 𝓤 H (W .laws) 𝓣)) mem run known-holds address faddress (λ _. and-then ! (in-local ! refl) (no-more !)) (λ vq gq.
+        arg-fits ! 0 refl (λ f₀. holds-step ! (in-seq ! (fmOf 𝓤 H (W .laws) 𝓣)) mem run known-holds _ (f₀ .fits) (λ _. and-then ! (in-local ! refl) (no-more !)) (λ vq gq.
         land ! (from ! (stop !)) (init ! 21 refl (EL.lawful Q.the-type Q′.the-laws 𝓤 H A W tt .typed (Holds address) (vq ∷ []) gq .0)) $
         scan-pass ! (in-seq ! (fmOf 𝓤 H (W .laws) 𝓣)) mem run known-scan L ys k fk 33554432 fS (Holds address) vq gq lo hi (λ _. and-then ! (in-local ! refl) (and-then ! (in-local ! refl) (and-then ! (big-lit ! (record { fits = lit< tt })) (and-then ! (in-local ! refl) (no-more !))))) (λ vf gf.
         land ! (from ! (stop !)) (init ! 23 refl (EL.lawful F.the-type F′.the-laws 𝓤 H A W tt .typed fo (vf ∷ []) gf .0)) $
         owns-reply-step ! (in-seq ! (fmOf 𝓤 H (W .laws) 𝓣)) mem run known-reply ok state mstate gstate fo vf gf (λ _. and-then ! (in-local ! refl) (and-then ! (in-local ! refl) (and-then ! (in-local ! refl) (no-more !)))) (λ vr gr.
         land ! (from ! (stop !)) (init ! 1 refl (LL.lawful Y.the-type Y′.the-laws 𝓤 H A W .typed re (vr ∷ []) gr .0)) $
         returns ! (look ! 1 refl) $ used ! $ used ! $ used ! $ used ! $ used ! $ used ! $ used ! $ used ! $ used ! $ used ! $ used ! $ used ! $ used ! $ free0 ! $
-        finish 𝓤 H A T.the-row u32 L L′ Y.the-row ys us χ W (‵ ftrue) vr re gr (owns-step 33554432 ys us state ns settings address))))))))
+        finish 𝓤 H A T.the-row u32 L L′ Y.the-row ys us χ W (‵ ftrue) vr re gr (owns-step 33554432 ys us state ns settings address)))))))))
 
   owns-meets : Meets 𝓤 H A owns′.signature (WpFn 𝓤 H (𝓣 .C) (𝓣 .Λ) code.function) (owns′.spec 𝓤 H A mem run)
   owns-meets = meets 𝓤 H A W T.the-row u32 Y.the-row (plain (λ _. Z.the-row) ∷ plain (λ _. u64) ∷ plain (λ _. G.the-row) ∷ plain (λ _. u64) ∷ []) (yes, (yes, (yes, (yes, tt)))) (owns′.clauses 𝓤 H A mem run)

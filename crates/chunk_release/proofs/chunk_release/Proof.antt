@@ -1,6 +1,6 @@
 -- `chunk_release::chunk_release` meets its contract: a walk of its MIR, by hand. It calls functions that take one of the two slices, and functions by value. All that it knows of its callees is that each meets its contract.
 -- Assumes nothing.
-use mathlib.Core.Path.{_≡_, refl}
+use mathlib.Core.Path.{_≡_, refl, _∙_}
 use Prim.Native.Nat.{ℕ, _<_, _≤_, _^_}
 use mathlib.Core.List.{List, [], _∷_}
 use mathlib.Core.Bool.{Bool}
@@ -59,6 +59,7 @@ use Rattle.judge.proofs.Query as Q
 use Rattle.judge.proofs.Query.Laws as Q′
 use Rattle.records.proofs.Walk.{Loan, Known, lent, sliceOf}
 use Rattle.records.proofs.Locals.{enters, used, in-local}
+use Rattle.records.proofs.Operands.{arg-fits}
 use Rattle.records.proofs.Frame.{Done2, finish2, mut2-meets}
 use Rattle.records.proofs.Calls.{in-seq, swaps}
 use Rattle.table.proofs.Steps.{Row, Scan, HeadOr, row-step, scan-step, head-or-step}
@@ -106,7 +107,7 @@ use Rattle.releases.proofs.release_stamps.Met as stamps-thm
 use Rattle.releases.proofs.release_answer.Symbol as answer-def
 use Rattle.releases.proofs.release_answer.Symbol.{name as #releases·release-answer}
 use Rattle.releases.proofs.release_answer.Met as answer-thm
-use Rattle.chunk_release.proofs.CallLaws.{okOf, countOf, foundOf, headAt, onOf, startOf, replyOf, recordsOf, stampsOf, stepOf, found-in, on-in, as-many, ends}
+use Rattle.chunk_release.proofs.CallLaws.{okOf, countOf, foundOf, headAt, onOf, startOf, replyOf, recordsOf, stepOf, found-in, on-in, as-many, ends}
 use Rattle.entry.proofs.EntrySteps.{Page, HoldsQuery, Stored, page-step, holds-step, stored-step}
 use Rattle.records.proofs.Big.{big-lit}
 use Rattle.chunk_release.proofs.Steps.{Ms, Delay, Count, Granted, Start, StampsOf, AnswerOf, ms-step, delay-step, count-step, granted-step, start-step, stamps-step, answer-step}
@@ -161,16 +162,13 @@ module _ {M : Type 1} (𝓤 : URA M) (H : Heap 𝓤) (A : Atoms 𝓤) (W : Given
     abbrev zs : List Arena
     zs = recordsOf S ys us state settings address n ns told pending
 
-    abbrev ts : List ℕ
-    ts = stampsOf S ys us state settings address n ns told pending
-
     abbrev r : Reply
     r = replyOf S ys us state settings address n ns told pending
 
     abbrev χ : Reply → List Arena → List ℕ → Type 0
-    χ r′ zs ts′ =
+    χ r′ zs ts =
         (r′ ≡ reply (stepOf S ys us state settings address n ns told pending .answer) (stepOf S ys us state settings address n ns told pending .world .state))
-        × (zs ≡ stepOf S ys us state settings address n ns told pending .world .records) × (ts′ ≡ stepOf S ys us state settings address n ns told pending .world .stamps)
+        × (zs ≡ stepOf S ys us state settings address n ns told pending .world .records) × (ts ≡ stepOf S ys us state settings address n ns told pending .world .stamps)
 
     -- the machine values of what comes by value
     abbrev vz : Val
@@ -223,16 +221,17 @@ module _ {M : Type 1} (𝓤 : URA M) (H : Heap 𝓤) (A : Atoms 𝓤) (W : Given
         -- the release, the stamps, the answer
         assigns ! (addr ! (from ! (fld ! refl (hop ! (look-in ! 3 (sub ! 0 refl (whole !))) (stop !))))) (from ! (stop !)) (init ! 59 refl (tt, tt)) $
         assigns ! (agg ! (and-then ! (in-local ! refl) (and-then ! (load ! (from ! (fld ! refl (stop !))) (look-in ! 3 (sub ! 1 refl (whole !)))) (no-more !)))) (from ! (stop !)) (init ! 61 refl (tt, (tt, (record { fits = kn .1 .0 }, tt)))) $
-        release-if-step ! (in-seq ! (fmOf 𝓤 H (W .laws) 𝓣)) mem run known-if L ys on (storedAt f) fi s fs n fn told vd gd pending (nowMs ns) fms (delayMs (settings .delay)) fdelay (on-in S ys us state settings address n) (λ _. and-then ! (in-local ! refl) (and-then ! (in-local ! refl) (and-then ! (in-local ! refl) (and-then ! (in-local ! refl) (and-then ! (in-local ! refl) (and-then ! (in-local ! refl) (and-then ! (in-local ! refl) (and-then ! (in-local ! refl) (and-then ! (in-local ! refl) (no-more !)))))))))) (λ vu gu.
+        arg-fits ! 3 refl (λ f₃. arg-fits ! 4 refl (λ f₄. release-if-step ! (in-seq ! (fmOf 𝓤 H (W .laws) 𝓣)) mem run known-if L ys on (storedAt f) fi _ (f₃ .fits) _ (f₄ .fits) told vd gd pending (nowMs ns) fms (delayMs (settings .delay)) fdelay (on-in S ys us state settings address n) (λ _. and-then ! (in-local ! refl) (and-then ! (in-local ! refl) (and-then ! (in-local ! refl) (and-then ! (in-local ! refl) (and-then ! (in-local ! refl) (and-then ! (in-local ! refl) (and-then ! (in-local ! refl) (and-then ! (in-local ! refl) (and-then ! (in-local ! refl) (no-more !)))))))))) (λ vu gu.
         land ! (from ! (stop !)) (init ! 57 refl (nothing-lawful 𝓤 H A W .typed tt (vu ∷ []) gu .0)) $
         assigns ! (addr ! (from ! (fld ! refl (hop ! (look-in ! 5 (sub ! 0 refl (whole !))) (stop !))))) (from ! (stop !)) (init ! 63 refl (tt, tt)) $
         assigns ! (agg ! (and-then ! (in-local ! refl) (and-then ! (load ! (from ! (fld ! refl (stop !))) (look-in ! 5 (sub ! 1 refl (whole !)))) (no-more !)))) (from ! (stop !)) (init ! 65 refl (tt, (tt, (record { fits = kn′ .1 .0 }, tt)))) $
-        swaps ! $ stamps-step ! (in-seq ! (fmOf 𝓤 H (W .laws) 𝓣)) mem run known-stamps L′ us address fp n fn pending (nowMs ns) fms f vf gf a va ga S (lit< tt) (lit< tt) (found-in S ys us state settings address n) (λ _. and-then ! (in-local ! refl) (and-then ! (in-local ! refl) (and-then ! (in-local ! refl) (and-then ! (in-local ! refl) (and-then ! (in-local ! refl) (and-then ! (in-local ! refl) (and-then ! (in-local ! refl) (and-then ! (big-lit ! (record { fits = lit< tt })) (no-more !))))))))) (λ vw gw same. swaps ! $
+        swaps ! $ arg-fits ! 4 refl (λ f₄. stamps-step ! (in-seq ! (fmOf 𝓤 H (W .laws) 𝓣)) mem run known-stamps L′ us address fp n fn pending _ (f₄ .fits) f vf gf a va ga S (lit< tt) (lit< tt) (found-in S ys us state settings address n) (λ _. and-then ! (in-local ! refl) (and-then ! (in-local ! refl) (and-then ! (in-local ! refl) (and-then ! (in-local ! refl) (and-then ! (in-local ! refl) (and-then ! (in-local ! refl) (and-then ! (in-local ! refl) (and-then ! (big-lit ! (record { fits = lit< tt })) (no-more !))))))))) (λ vw ts gw stamped same. swaps ! $
         land ! (from ! (stop !)) (store ! 57 refl (nothing-lawful 𝓤 H A W .typed tt (vw ∷ []) gw .0)) $
         answer-step ! (in-seq ! (fmOf 𝓤 H (W .laws) 𝓣)) mem run known-answer ok state vz gz address fp n fn f vf gf a va ga S (lit< tt) (lit< tt) (λ _. and-then ! (in-local ! refl) (and-then ! (in-local ! refl) (and-then ! (in-local ! refl) (and-then ! (in-local ! refl) (and-then ! (in-local ! refl) (and-then ! (in-local ! refl) (and-then ! (big-lit ! (record { fits = lit< tt })) (no-more !)))))))) (λ vr gr.
         land ! (from ! (stop !)) (init ! 1 refl (LL.lawful P.the-type P′.the-laws 𝓤 H A W .typed r (vr ∷ []) gr .0)) $
         returns ! (look ! 1 refl) $ used ! $ used ! $ used ! $ used ! $ used ! $ used ! $ used ! $ used ! $ used ! $ used ! $ used ! $ used ! $ used ! $ used ! $ used ! $ used ! $ used ! $ used ! $ used ! $ used ! $ used ! $ used ! $ used ! $ used ! $ used ! $ used ! $ used ! $ used ! $ used ! $ used ! $ used ! $ used ! $ used ! $ free0 ! $
-        finish2 𝓤 H A T.the-row u32 L L′ P.the-row ys us χ W (‵ ftrue) vr r zs ts gr (as-many S ys us state settings address n ns told pending) same (ends S ys us state settings address n ns told pending))))))))))))))))
+        finish2 𝓤 H A T.the-row u32 L L′ P.the-row ys us χ W (‵ ftrue) vr r zs ts gr (as-many S ys us state settings address n ns told pending) same
+        (let d = ends S ys us state settings address n ns told pending in (d .0, d .1, stamped ∙ d .2))))))))))))))))))))
 
   chunk-release-meets : Meets 𝓤 H A chunk-release′.signature (WpFn 𝓤 H (𝓣 .C) (𝓣 .Λ) code.function) (chunk-release′.spec 𝓤 H A mem run)
   chunk-release-meets = mut2-meets 𝓤 H A W T.the-row u32 P.the-row (plain (λ _. Z.the-row) ∷ plain (λ _. u64) ∷ plain (λ _. B.the-row) ∷ plain (λ _. u64) ∷ plain (λ _. usize) ∷ plain (λ _. D.the-row) ∷ plain (λ _. bool) ∷ []) (yes, (yes, (yes, (yes, (yes, (yes, (yes, tt))))))) (chunk-release′.clauses 𝓤 H A mem run)

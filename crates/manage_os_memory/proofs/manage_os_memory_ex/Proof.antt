@@ -1,6 +1,6 @@
 -- `manage_os_memory::manage_os_memory_ex` meets its contract: a walk of its MIR, by hand. Of its callees it knows only that each meets its contract.
 -- Assumes nothing.
-use mathlib.Core.Path.{_≡_, refl}
+use mathlib.Core.Path.{refl}
 use mathlib.Core.Bool.{Bool}
 use Prim.Native.Nat.{ℕ, _<_, _^_}
 use mathlib.Core.List.{List, [], _∷_}
@@ -47,6 +47,7 @@ use Rattle.entry.proofs.writing.Writing as X
 use Rattle.entry.proofs.writing.Writing.Laws as X′
 use Rattle.records.proofs.Walk.{Loan, Known, lent, sliceOf}
 use Rattle.records.proofs.Locals.{enters, used, in-local}
+use Rattle.records.proofs.Operands.{arg-fits}
 use Rattle.records.proofs.Calls.{in-seq}
 use Rattle.entry.proofs.EntrySteps.{Page, page-step}
 use Rattle.records.proofs.Frame.{Done2, finish2, mut2-meets}
@@ -95,7 +96,7 @@ module _ {M : Type 1} (𝓤 : URA M) (H : Heap 𝓤) (A : Atoms 𝓤) (W : Given
         assigns ! (addr ! (from ! (fld ! refl (hop ! (look-in ! 3 (sub ! 0 refl (whole !))) (stop !))))) (from ! (stop !)) (init ! 35 refl (tt, tt)) $
         assigns ! (agg ! (and-then ! (in-local ! refl) (and-then ! (load ! (from ! (fld ! refl (stop !))) (look-in ! 3 (sub ! 1 refl (whole !)))) (no-more !)))) (from ! (stop !)) (init ! 37 refl (tt, (tt, (record { fits = kn .1 .0 }, tt)))) $
         assigns ! (of-opd ! (load ! (from ! (fld ! refl (stop !))) (look-in ! 5 (sub ! 1 refl (whole !))))) (from ! (stop !)) (init ! 39 refl (tt, record { fits = kn′ .1 .0 })) $
-        manage-writing-step ! (in-seq ! (fmOf 𝓤 H (W .laws) 𝓣)) mem run known-manage-writing L ys (length us) (kn′ .1 .0) state mstate gstate (settings .page) fp start fstart size fsize exclusive node gnode mapped reserved (λ _. and-then ! (in-local ! refl) (and-then ! (in-local ! refl) (and-then ! (in-local ! refl) (and-then ! (in-local ! refl) (and-then ! (in-local ! refl) (and-then ! (in-local ! refl) (and-then ! (in-local ! refl) (and-then ! (in-local ! refl) (and-then ! (in-local ! refl) (and-then ! (in-local ! refl) (no-more !))))))))))) (λ vw w gw e.
+        arg-fits ! 3 refl (λ f₃. manage-writing-step ! (in-seq ! (fmOf 𝓤 H (W .laws) 𝓣)) mem run known-manage-writing L ys (length us) (kn′ .1 .0) state mstate gstate _ (f₃ .fits) start fstart size fsize exclusive node gnode mapped reserved (λ _. and-then ! (in-local ! refl) (and-then ! (in-local ! refl) (and-then ! (in-local ! refl) (and-then ! (in-local ! refl) (and-then ! (in-local ! refl) (and-then ! (in-local ! refl) (and-then ! (in-local ! refl) (and-then ! (in-local ! refl) (and-then ! (in-local ! refl) (and-then ! (in-local ! refl) (no-more !))))))))))) (λ vw w gw e.
         land ! (from ! (stop !)) (init ! 33 refl (LL.lawful X.the-type X′.the-laws 𝓤 H A W .typed w (vw ∷ []) gw .0)) $
         assigns ! (addr ! (from ! (fld ! refl (hop ! (look-in ! 3 (sub ! 0 refl (whole !))) (stop !))))) (from ! (stop !)) (init ! 41 refl (tt, tt)) $
         assigns ! (agg ! (and-then ! (in-local ! refl) (and-then ! (load ! (from ! (fld ! refl (stop !))) (look-in ! 3 (sub ! 1 refl (whole !)))) (no-more !)))) (from ! (stop !)) (init ! 43 refl (tt, (tt, (record { fits = kn .1 .0 }, tt)))) $
@@ -104,7 +105,7 @@ module _ {M : Type 1} (𝓤 : URA M) (H : Heap 𝓤) (A : Atoms 𝓤) (W : Given
         write-step ! (in-seq ! (fmOf 𝓤 H (W .laws) 𝓣)) mem run known-write L L′ ys us w vw gw (manage-stamps 33554432 ys us state ns settings start size exclusive node mapped reserved w e) (λ _. and-then ! (in-local ! refl) (and-then ! (in-local ! refl) (and-then ! (in-local ! refl) (no-more !)))) (λ vr gr len.
         land ! (from ! (stop !)) (init ! 1 refl (LL.lawful Y.the-type Y′.the-laws 𝓤 H A W .typed (w .reply) (vr ∷ []) gr .0)) $
         returns ! (look ! 1 refl) $ used ! $ used ! $ used ! $ used ! $ used ! $ used ! $ used ! $ used ! $ used ! $ used ! $ used ! $ used ! $ used ! $ used ! $ used ! $ used ! $ used ! $ used ! $ used ! $ used ! $ used ! $ used ! $ used ! $ used ! $ free0 ! $
-        finish2 𝓤 H A T.the-row u32 L L′ Y.the-row ys us χ W (‵ ftrue) vr (w .reply) (set ys (recordPlace (w .id)) (w .arena)) (stampsWith us (w .stamped)) gr (length-set ys (recordPlace (w .id)) (w .arena)) len (manage-done 33554432 ys us state ns settings start size exclusive node mapped reserved w (kn .1 .0) e)))))
+        finish2 𝓤 H A T.the-row u32 L L′ Y.the-row ys us χ W (‵ ftrue) vr (w .reply) (set ys (recordPlace (w .id)) (w .arena)) (stampsWith us (w .stamped)) gr (length-set ys (recordPlace (w .id)) (w .arena)) len (manage-done 33554432 ys us state ns settings start size exclusive node mapped reserved w (kn .1 .0) e))))))
 
   manage-os-memory-ex-meets : Meets 𝓤 H A manage-os-memory-ex′.signature (WpFn 𝓤 H (𝓣 .C) (𝓣 .Λ) code.function) (manage-os-memory-ex′.spec 𝓤 H A mem run)
   manage-os-memory-ex-meets = mut2-meets 𝓤 H A W T.the-row u32 Y.the-row (plain (λ _. Z.the-row) ∷ plain (λ _. u64) ∷ plain (λ _. G.the-row) ∷ plain (λ _. u64) ∷ plain (λ _. u64) ∷ plain (λ _. bool) ∷ plain (λ _. bool) ∷ plain (λ _. bool) ∷ plain (λ _. i32) ∷ plain (λ _. bool) ∷ plain (λ _. bool) ∷ plain (λ _. bool) ∷ []) (yes, (yes, (yes, (yes, (yes, (yes, (yes, (yes, (yes, (yes, (yes, (yes, tt)))))))))))) (manage-os-memory-ex′.clauses 𝓤 H A mem run)

@@ -49,6 +49,7 @@ use Rattle.judge.proofs.spans.Span as P
 use Rattle.judge.proofs.spans.Span.Laws as P′
 use Rattle.records.proofs.Walk.{Loan, Known, shared, sliceOf}
 use Rattle.records.proofs.Locals.{Blocks, envOf, rooms, enters, used, room, if-else, tests, whiles}
+use Rattle.records.proofs.Operands.{arg, arg-fits}
 use Rattle.records.proofs.Calls.{in-seq}
 use Rattle.records.proofs.Frame.{DoneS, finishS, shr-meets}
 use Rattle.table.proofs.TableLaws.{ends-at, alone, apart-is, covers-none, covers-more}
@@ -168,7 +169,7 @@ module _ {M : Type 1} (𝓤 : URA M) (H : Heap 𝓤) (A : Atoms 𝓤) (W : Given
           let fit : d .base + d .chunks * S < 2 ^ 64 = ends-at S ys n ok (s .i) lt in
           head-or-pass ! (in-seq ! (fmOf 𝓤 H (W .laws) 𝓣)) mem run known-head L ys (s .i) fi (λ _. and-then ! (load ! (from ! (stop !)) (look ! 3 refl)) (and-then ! (load ! (from ! (stop !)) (look ! 11 refl)) (no-more !))) (λ vd gd.
           land ! (from ! (stop !)) (init ! 13 refl (LL.lawful D.the-type D′.the-laws 𝓤 H A W .typed d (vd ∷ []) gd .0)) $
-          meets-none-pass ! (in-seq ! (fmOf 𝓤 H (W .laws) 𝓣)) mem run known-none L ys (s .i) fi S fS (s .span) (s .mach) (s .is) d vd gd lo hi fit (s .covers) (λ _. and-then ! (load ! (from ! (stop !)) (look ! 3 refl)) (and-then ! (load ! (from ! (stop !)) (look ! 11 refl)) (and-then ! (load ! (from ! (stop !)) (look ! 7 refl)) (and-then ! (load ! (from ! (stop !)) (look ! 9 refl)) (and-then ! (load ! (from ! (stop !)) (look ! 13 refl)) (no-more !)))))) (
+          arg-fits ! 1 refl (λ f₁. meets-none-pass ! (in-seq ! (fmOf 𝓤 H (W .laws) 𝓣)) mem run known-none L ys _ (f₁ .fits) S fS (s .span) (s .mach) (s .is) d vd gd lo hi fit (s .covers) (λ _. and-then ! (arg ! refl) (and-then ! (arg ! refl) (and-then ! (load ! (from ! (stop !)) (look ! 7 refl)) (and-then ! (load ! (from ! (stop !)) (look ! 9 refl)) (and-then ! (load ! (from ! (stop !)) (look ! 13 refl)) (no-more !)))))) (
           land ! (from ! (stop !)) (store ! 15 refl (tt, tt)) $
           assigns ! (un ! (load ! (from ! (stop !)) (look ! 15 refl)) tt) (from ! (stop !)) (init ! 17 refl (tt, tt)) $
           if-else ! (load ! (from ! (stop !)) (look ! 17 refl))
@@ -179,7 +180,7 @@ module _ {M : Type 1} (𝓤 : URA M) (H : Heap 𝓤) (A : Atoms 𝓤) (W : Given
           land ! (from ! (stop !)) (store ! 9 refl (LL.lawful P.the-type P′.the-laws 𝓤 H A W .typed r (vr ∷ []) gr .0)) $
           assigns-last ! (bin ! (load ! (from ! (stop !)) (look ! 11 refl)) (lit ! tt) (record { fits = omega (arith, lt, fn) })) (from ! (stop !)) (store ! 11 refl (tt, record { fits = omega (arith, lt, fn) })) $
           forget ! 13 refl $ forget ! 15 refl $ forget ! 17 refl $
-          again ! (λ (u v : State). u .k < v .k) I s (next S ys n s lt w r vr gr (covers-more S ys (s .span) r (s .i) (s .covers) e)) (fewer S ys n (s .k) (s .i) (s .ends) lt .0))))))
+          again ! (λ (u v : State). u .k < v .k) I s (next S ys n s lt w r vr gr (covers-more S ys (s .span) r (s .i) (s .covers) e)) (fewer S ys n (s .k) (s .i) (s .ends) lt .0)))))))
           (λ h. exec ! (𝓣 .C) (𝓣 .Λ) En t-4 (atRet En Post) $
           assigns ! (of-opd ! (true-lit !)) (from ! (stop !)) (init ! 1 refl (tt, tt)) $
           returns ! (look ! 1 refl) $ used ! $ used ! $ used ! $ used ! $ used ! $ used ! $ room ! $ used ! $ room ! $ free0 ! $

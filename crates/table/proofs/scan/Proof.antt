@@ -48,6 +48,7 @@ use Rattle.judge.proofs.Query as Q
 use Rattle.judge.proofs.Query.Laws as Q′
 use Rattle.records.proofs.Walk.{Loan, Known, shared, sliceOf}
 use Rattle.records.proofs.Locals.{Blocks, envOf, rooms, enters, used, room, if-else, tests, whiles}
+use Rattle.records.proofs.Operands.{arg, arg-fits}
 use Rattle.records.proofs.Calls.{in-seq}
 use Rattle.records.proofs.Frame.{DoneS, finishS, shr-meets}
 use Rattle.table.proofs.Leaf.{Find, Miss, HitsAt, found-step, nothing-step, hits-at-pass}
@@ -160,10 +161,10 @@ module _ {M : Type 1} (𝓤 : URA M) (H : Heap 𝓤) (A : Atoms 𝓤) (W : Given
           (λ _. and-then ! (load ! (from ! (stop !)) (look ! 3 refl)) (and-then ! (load ! (from ! (stop !)) (look ! 11 refl)) (and-then ! (load ! (from ! (stop !)) (look ! 9 refl)) (and-then ! (load ! (from ! (stop !)) (look ! 7 refl)) (no-more !))))) (
           land ! (from ! (stop !)) (init ! 15 refl (tt, tt)) $
           if-else ! (load ! (from ! (stop !)) (look ! 15 refl))
-          (λ w. found-step ! (in-seq ! (fmOf 𝓤 H (W .laws) 𝓣)) mem run known-found (s .i) fi (λ _. and-then ! (load ! (from ! (stop !)) (look ! 11 refl)) (no-more !)) (λ v g.
+          (λ w. arg-fits ! 0 refl (λ f₀. found-step ! (in-seq ! (fmOf 𝓤 H (W .laws) 𝓣)) mem run known-found _ (f₀ .fits) (λ _. and-then ! (arg ! refl) (no-more !)) (λ v g.
           land ! (from ! (stop !)) (init ! 1 refl (EL.lawful F.the-type F′.the-laws 𝓤 H A W tt .typed (At (s .i)) (v ∷ []) g .0)) $
           returns-within ! Post refl (look ! 1 refl) $ used ! $ used ! $ used ! $ used ! $ used ! $ used ! $ used ! $ used ! $ free0 ! $
-          finishS 𝓤 H A T.the-row L F.the-row ys χ W (‵ ftrue) v (At (s .i)) g (here S ys n query s lt w)))
+          finishS 𝓤 H A T.the-row L F.the-row ys χ W (‵ ftrue) v (At (s .i)) g (here S ys n query s lt w))))
           (λ w. assigns-last ! (bin ! (load ! (from ! (stop !)) (look ! 11 refl)) (lit ! tt) (record { fits = omega (arith, lt, fn) })) (from ! (stop !)) (store ! 11 refl (tt, record { fits = omega (arith, lt, fn) })) $
           forget ! 13 refl $ forget ! 15 refl $
           again ! (λ (u v : State). u .k < v .k) I s (next S ys n query s lt w) (fewer S ys n query (s .k) (s .i) (s .ends) lt .0))))

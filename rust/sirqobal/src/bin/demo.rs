@@ -57,7 +57,10 @@ fn drive() -> Result<usize, Refusal> {
     let purged = memory.sweep(true)?;
     println!("  {purged} chunks purged");
     wrong += compare("2 chunks are purged", purged == 2);
-    wrong += compare("64 MiB less are resident", before == 0 || resident() + 63 <= before);
+    wrong += compare(
+        "64 MiB less are resident",
+        before == 0 || resident() + 63 <= before,
+    );
     show(&memory);
 
     say("Guidance wants a run of 3. Free are 2 and 2, apart: turned down, and nothing changes.");

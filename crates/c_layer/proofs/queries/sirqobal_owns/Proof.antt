@@ -44,6 +44,7 @@ use Rattle.layer.proofs.Reply as P
 use Rattle.layer.proofs.Reply.Laws as P′
 use Rattle.records.proofs.Walk.{Loan, Known, shared, sliceOf}
 use Rattle.records.proofs.Locals.{enters, used, in-local}
+use Rattle.records.proofs.Operands.{arg, arg-fits}
 use Rattle.records.proofs.Calls.{Site, in-seq}
 use Rattle.arena_area.proofs.Two.{ss-call, Done, finish, meets}
 use Rattle.surface.specs.declared.StateNumbers.{StateNumbers}
@@ -130,13 +131,14 @@ module _ {M : Type 1} (𝓤 : URA M) (H : Heap 𝓤) (A : Atoms 𝓤) (W : Given
         land ! (from ! (stop !)) (init ! 17 refl (LL.lawful Z.the-type Z′.the-laws 𝓤 H A W .typed (stateOf s) (vz ∷ []) gz .0)) $
         settings-of-step ! (in-seq ! (fmOf 𝓤 H (W .laws) 𝓣)) mem run known-settings (isState s) e ve ge (λ _. and-then ! (in-local ! refl) (and-then ! (in-local ! refl) (no-more !))) (λ vc gc.
         land ! (from ! (stop !)) (init ! 19 refl (LL.lawful Y.the-type Y′.the-laws 𝓤 H A W .typed (settingsOf (isState s) e) (vc ∷ []) gc .0)) $
-        entry-step ! (in-seq ! (fmOf 𝓤 H (W .laws) 𝓣)) mem run known-entry L L′ ys us (stateOf s) vz gz ns fns (settingsOf (isState s) e) vc gc address faddress
-        (λ _. and-then ! (in-local ! refl) (and-then ! (in-local ! refl) (and-then ! (in-local ! refl) (and-then ! (in-local ! refl) (and-then ! (in-local ! refl) (and-then ! (in-local ! refl) (no-more !))))))) (λ vr r gr d.
+        arg-fits ! 3 refl (λ f₃. arg-fits ! 5 refl (λ f₅.
+        entry-step ! (in-seq ! (fmOf 𝓤 H (W .laws) 𝓣)) mem run known-entry L L′ ys us (stateOf s) vz gz _ (f₃ .fits) (settingsOf (isState s) e) vc gc _ (f₅ .fits)
+        (λ _. and-then ! (arg ! refl) (and-then ! (arg ! refl) (and-then ! (arg ! refl) (and-then ! (arg ! refl) (and-then ! (arg ! refl) (and-then ! (arg ! refl) (no-more !))))))) (λ vr r gr d.
         land ! (from ! (stop !)) (init ! 21 refl (LL.lawful P.the-type P′.the-laws 𝓤 H A W .typed r (vr ∷ []) gr .0)) $
         reply-of-step ! (in-seq ! (fmOf 𝓤 H (W .laws) 𝓣)) mem run known-reply (isState s) s vs gs r vr gr (λ _. and-then ! (in-local ! refl) (and-then ! (in-local ! refl) (and-then ! (in-local ! refl) (no-more !)))) (λ v g.
         land ! (from ! (stop !)) (init ! 1 refl (LL.lawful X.the-type X′.the-laws 𝓤 H A W .typed (replyOf (isState s) s r) (v ∷ []) g .0)) $
         returns ! (look ! 1 refl) $ used ! $ used ! $ used ! $ used ! $ used ! $ used ! $ used ! $ used ! $ used ! $ used ! $ used ! $ free0 ! $
-        finish 𝓤 H A T.the-row u32 L L′ X.the-row ys us χ W (‵ ftrue) v (replyOf (isState s) s r) g (exports-query ys us s ns e (query (owns address)) r d)))))))
+        finish 𝓤 H A T.the-row u32 L L′ X.the-row ys us χ W (‵ ftrue) v (replyOf (isState s) s r) g (exports-query ys us s ns e (query (owns address)) r d)))))))))
 
   exported-meets : Meets 𝓤 H A exported′.signature (WpFn 𝓤 H (𝓣 .C) (𝓣 .Λ) code.function) (exported′.spec 𝓤 H A mem run)
   exported-meets = meets 𝓤 H A W T.the-row u32 X.the-row (plain (λ _. N.the-row) ∷ plain (λ _. u64) ∷ plain (λ _. J.the-row) ∷ plain (λ _. u64) ∷ []) (yes, (yes, (yes, (yes, tt)))) (exported′.clauses 𝓤 H A mem run)

@@ -9,7 +9,7 @@ facts of their own, and say nothing else: `shown` tells what is said of a fact f
 has no such line is left to `rt`, and counts for no function.
 
 A walk that names what each call is passed is refused there, by the two values, where the code passes something else, and its
-contract is not looked at. That shows nothing: a walk finds what is passed in the code (records/proofs/Operands).
+contract is not looked at. That shows nothing: a walk finds what is passed in the code (walks/proofs/Operands).
 
 Two edits keep clear of each other if no function is made wrong by both, and none is made wrong by one and fails with the other
 as a caller; but such a caller may be, where its proof is in parts that are checked each by itself (they name its module Tie, or

@@ -1,2 +1,3 @@
 mod AdoptLaws
 mod Steps
+pub mod Callable

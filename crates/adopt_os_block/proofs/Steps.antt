@@ -11,7 +11,7 @@ use prog.Memory.{Memory}
 use prog.Routine.{Routine}
 use prog.Wp.{Heap, Env, Calls}
 use ghost.Atoms.{Atoms}
-use types.Kit.{Given, Item, Goal, Seq, ‵, _⊛_}
+use types.Kit.{Given, Item, Goal, Seq}
 use types.Run.{Opds}
 use contract.Monad.{Fun, factI}
 use denote.Builtin.{bool, usize, u64}
@@ -44,21 +44,17 @@ use Rattle.entry.proofs.writing.Writing as X
 use Rattle.runs.specs.declared.Found.the-variants.{At}
 use Rattle.judge.specs.declared.Query.the-variants.{Meets as Meeting, Grows}
 use Rattle.registering.specs.Adopting.{adoptCount, adoptAnswer, adoptId, adoptArena, adoptStamped}
-use Rattle.adopt_os_block.specs.Writes.{AdoptWrites}
 use Rattle.registering.proofs.adopting.adopt_count as adopt-count′
 use Rattle.registering.proofs.adopting.adopt_count.Symbol.{name as #adopting·adopt-count}
 use Rattle.registering.proofs.adopting.adopt_core as adopt-core′
 use Rattle.registering.proofs.adopting.adopt_core.Symbol.{name as #adopting·adopt-core}
 use Rattle.adopt_os_block.proofs.adopted as adopted′
 use Rattle.adopt_os_block.proofs.adopted.Symbol.{name as #adopt-os-block·adopted}
-use Rattle.adopt_os_block.proofs.adopt_writing as adopt-writing′
-use Rattle.adopt_os_block.proofs.adopt_writing.Symbol.{name as #adopt-os-block·adopt-writing}
 use Rattle.adopt_os_block.proofs.block_query as block-query′
 use Rattle.adopt_os_block.proofs.block_query.Symbol.{name as #adopt-os-block·block-query}
 use Rattle.adopt_os_block.proofs.growth_query as growth-query′
 use Rattle.adopt_os_block.proofs.growth_query.Symbol.{name as #adopt-os-block·growth-query}
-use Rattle.records.proofs.Walk.{Loan, sliceOf, lent}
-use Rattle.records.proofs.Calls.{Site, plain-call, shr-call}
+use Rattle.walks.proofs.Calls.{Site, plain-call}
 
 -- the contracts that a walk cites
 module _ {M : Type 1} (𝓤 : URA M) (H : Heap 𝓤) (A : Atoms 𝓤) (mem : Memory → SProp 𝓤) (run : Routine → Fun 𝓤) where
@@ -70,9 +66,6 @@ module _ {M : Type 1} (𝓤 : URA M) (H : Heap 𝓤) (A : Atoms 𝓤) (mem : Mem
 
   abbrev pub Adopted : Contract 𝓤
   Adopted = tripleOf 𝓤 H A adopted′.signature (adopted′.spec 𝓤 H A mem run)
-
-  abbrev pub AdoptWriting : Contract 𝓤
-  AdoptWriting = tripleOf 𝓤 H A adopt-writing′.signature (adopt-writing′.spec 𝓤 H A mem run)
 
   abbrev pub BlockQuery : Contract 𝓤
   BlockQuery = tripleOf 𝓤 H A block-query′.signature (block-query′.spec 𝓤 H A mem run)
@@ -110,16 +103,6 @@ module _ {M : Type 1} {𝓤 : URA M} {H : Heap 𝓤} {A : Atoms 𝓤} {K : Type 
       plain-call t site X.the-row (plain (λ _. F.the-row) ∷ plain (λ _. D.the-row) ∷ []) (yes, (yes, tt)) (adopted′.clauses 𝓤 H A mem run) known (g, (d, tt)) (vg ∷ [], (vd ∷ [], tt))
       (owns-make 𝓤 H A (F.the-row ∷ D.the-row ∷ []) (Ises (F.the-row ∷ D.the-row ∷ [])) (EL.makes F.the-type F′.the-plain 𝓤 H A, (LL.makes D.the-type D′.the-plain 𝓤 H A, tt)) (g, (d, tt)) (vg ∷ [], (vd ∷ [], tt)) (gg, (gd, tt))) tt (id⊢ 𝓤 _)
       (λ r. r ≡ writingOf d (adoptStamped g (d .id))) (λ r ws. id⊢ 𝓤 _) ops (λ v r is e. k v (subst (λ (o : Writing). Is X.the-row o (v ∷ [])) e is))
-
-  pub adopt-writing-step : K → Site K W Γ C E #adopt-os-block·adopt-writing xs G after → (mem : Memory → SProp 𝓤) (run : Routine → Fun 𝓤) → Triple 𝓤 (C #adopt-os-block·adopt-writing) (AdoptWriting 𝓤 H A mem run)
-      → (L : Loan) (ys : List Arena) → (n : ℕ) → n < 2 ^ 64 → (s : State) (vs : Val) → Is Z.the-row s (vs ∷ []) → (page : ℕ) → page < 2 ^ 64 → (address : ℕ) → address < 2 ^ 64 → (size : ℕ) → size < 2 ^ 64
-      → ((h : Item 𝓤) → Opds K W (h ∷ Γ) E xs (sliceOf L ∷ vint w64 n ∷ vs ∷ vint w64 page ∷ vint w64 address ∷ vint w64 size ∷ []))
-      → ((v : Val) (w : Writing) → Is X.the-row w (v ∷ []) → AdoptWrites 33554432 ys n s page address size w → Seq K W ((‵ (lent T.the-row L ys) ⊛ i) ∷ Γ) (after v))
-      → Seq K W ((‵ (lent T.the-row L ys) ⊛ i) ∷ Γ) G
-  adopt-writing-step t site mem run known L ys n fn s vs gs page fpage address faddress size fsize ops k =
-      shr-call t site T.the-row L X.the-row (plain (λ _. usize) ∷ plain (λ _. Z.the-row) ∷ plain (λ _. u64) ∷ plain (λ _. u64) ∷ plain (λ _. u64) ∷ []) (yes, (yes, (yes, (yes, (yes, tt))))) (adopt-writing′.clauses 𝓤 H A mem run) known ys (λ _. (n, (s, (page, (address, (size, tt)))))) (λ _. (vint w64 n ∷ [], (vs ∷ [], (vint w64 page ∷ [], (vint w64 address ∷ [], (vint w64 size ∷ [], tt))))))
-      (λ _. owns-make 𝓤 H A (usize ∷ Z.the-row ∷ u64 ∷ u64 ∷ u64 ∷ []) (Ises (usize ∷ Z.the-row ∷ u64 ∷ u64 ∷ u64 ∷ [])) (uint-makes 𝓤 H A W w64, (LL.makes Z.the-type Z′.the-plain 𝓤 H A, (uint-makes 𝓤 H A W w64, (uint-makes 𝓤 H A W w64, (uint-makes 𝓤 H A W w64, tt))))) (n, (s, (page, (address, (size, tt))))) (vint w64 n ∷ [], (vs ∷ [], (vint w64 page ∷ [], (vint w64 address ∷ [], (vint w64 size ∷ [], tt))))) ((refl, fn), (gs, ((refl, fpage), ((refl, faddress), ((refl, fsize), tt)))))) (λ _ _. tt) (λ _ _. id⊢ 𝓤 _)
-      (λ w. AdoptWrites 33554432 ys n s page address size w) (λ _ _ r ws. id⊢ 𝓤 _) (λ h _. ops h) k
 
   pub block-query-step : K → Site K W Γ C E #adopt-os-block·block-query xs G after → (mem : Memory → SProp 𝓤) (run : Routine → Fun 𝓤) → Triple 𝓤 (C #adopt-os-block·block-query) (BlockQuery 𝓤 H A mem run)
       → (address : ℕ) → address < 2 ^ 64 → (size : ℕ) → size < 2 ^ 64

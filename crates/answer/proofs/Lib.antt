@@ -1,2 +1,3 @@
 mod CallLaws
 mod Steps
+pub mod Callable

@@ -1,4 +1,4 @@
--- The functions that the walks call, each called in one step (`Calls.antt` of `table`).
+-- The functions that the walks call, each called in one step (`walks`' Calls.antt).
 -- Assumes `Given`, the callee's theorem, and that the table of calls is monotone under a frame.
 use mathlib.Core.Path.{_≡_, refl, sym, _∙_, ap, subst}
 use mathlib.Core.Bool.{Bool, true, cond}
@@ -47,9 +47,8 @@ use Rattle.commit_answer.proofs.CommitLaws.{Room}
 use Rattle.purge_answer.specs.Part.{Purgeable, purgeLeft}
 use Rattle.memory_answer.specs.Part.{Reservable, memoryLeft}
 use Rattle.questions.specs.Parts.{goesFor, ownReply}
-use Rattle.answer.specs.Call.{Answerable, answerOn}
-use Rattle.records.proofs.Walk.{Loan, sliceOf, lent}
-use Rattle.records.proofs.Calls.{Site, plain-call, mut-call, mut2-call}
+use Rattle.walks.proofs.Walk.{Loan, sliceOf, lent}
+use Rattle.walks.proofs.Calls.{Site, plain-call, mut-call, mut2-call}
 use Rattle.questions.proofs.answer_parts.goes_commit as goes-commit′
 use Rattle.questions.proofs.answer_parts.goes_commit.Symbol.{name as #answer-parts·goes-commit}
 use Rattle.questions.proofs.answer_parts.goes_purge as goes-purge′
@@ -64,8 +63,6 @@ use Rattle.memory_answer.proofs.memory_part as memory-part′
 use Rattle.memory_answer.proofs.memory_part.Symbol.{name as #memory-answer·memory-part}
 use Rattle.questions.proofs.answer_parts.reply_for as reply-for′
 use Rattle.questions.proofs.answer_parts.reply_for.Symbol.{name as #answer-parts·reply-for}
-use Rattle.answer.proofs.answer_on as answer-on′
-use Rattle.answer.proofs.answer_on.Symbol.{name as #answer·answer-on}
 
 -- the contracts that a walk cites
 module _ {M : Type 1} (𝓤 : URA M) (H : Heap 𝓤) (A : Atoms 𝓤) (mem : Memory → SProp 𝓤) (run : Routine → Fun 𝓤) where
@@ -89,9 +86,6 @@ module _ {M : Type 1} (𝓤 : URA M) (H : Heap 𝓤) (A : Atoms 𝓤) (mem : Mem
 
   abbrev pub ReplyFor : Contract 𝓤
   ReplyFor = tripleOf 𝓤 H A reply-for′.signature (reply-for′.spec 𝓤 H A mem run)
-
-  abbrev pub AnswerOn : Contract 𝓤
-  AnswerOn = tripleOf 𝓤 H A answer-on′.signature (answer-on′.spec 𝓤 H A mem run)
 
 module _ {M : Type 1} {𝓤 : URA M} {H : Heap 𝓤} {A : Atoms 𝓤} {K : Type 0} {W : Given 𝓤 H A} {Γ : List (Item 𝓤)} {C : Calls 𝓤 H} {E : Env 𝓤 H} {xs : List Operand} {G : Goal 𝓤 H} {after : Val → Goal 𝓤 H} {i : Item 𝓤} where
   pub goes-commit-step : K → Site K W Γ C E #answer-parts·goes-commit xs G after → (mem : Memory → SProp 𝓤) (run : Routine → Fun 𝓤) → Triple 𝓤 (C #answer-parts·goes-commit) (GoesCommit 𝓤 H A mem run)
@@ -167,15 +161,3 @@ module _ {M : Type 1} {𝓤 : URA M} {H : Heap 𝓤} {A : Atoms 𝓤} {K : Type 
       plain-call t site P.the-row (plain (λ _. bool) ∷ plain (λ _. Z.the-row) ∷ plain (λ _. J.the-row) ∷ plain (λ _. P.the-row) ∷ plain (λ _. P.the-row) ∷ plain (λ _. P.the-row) ∷ []) (yes, (yes, (yes, (yes, (yes, (yes, tt)))))) (reply-for′.clauses 𝓤 H A mem run) known (ok, (s, (kind, (commit, (purge, (memory, tt)))))) (vbool ok ∷ [], (vs ∷ [], (vkind ∷ [], (vcommit ∷ [], (vpurge ∷ [], (vmemory ∷ [], tt))))))
       (owns-make 𝓤 H A (bool ∷ Z.the-row ∷ J.the-row ∷ P.the-row ∷ P.the-row ∷ P.the-row ∷ []) (Ises (bool ∷ Z.the-row ∷ J.the-row ∷ P.the-row ∷ P.the-row ∷ P.the-row ∷ [])) (bool-makes 𝓤 H A W, (LL.makes Z.the-type Z′.the-plain 𝓤 H A, (EL.makes J.the-type J′.the-plain 𝓤 H A, (LL.makes P.the-type P′.the-plain 𝓤 H A, (LL.makes P.the-type P′.the-plain 𝓤 H A, (LL.makes P.the-type P′.the-plain 𝓤 H A, tt)))))) (ok, (s, (kind, (commit, (purge, (memory, tt)))))) (vbool ok ∷ [], (vs ∷ [], (vkind ∷ [], (vcommit ∷ [], (vpurge ∷ [], (vmemory ∷ [], tt)))))) (refl, (gs, (gkind, (gcommit, (gpurge, (gmemory, tt))))))) tt (id⊢ 𝓤 _)
       (λ r. r ≡ gated ok s kind (ownReply s kind commit purge memory)) (λ r ws. id⊢ 𝓤 _) ops (λ v r is e. k v (subst (λ (o : Reply). Is P.the-row o (v ∷ [])) e is))
-
-  pub answer-on-step : K → Site K W Γ C E #answer·answer-on xs G after → (mem : Memory → SProp 𝓤) (run : Routine → Fun 𝓤) → Triple 𝓤 (C #answer·answer-on) (AnswerOn 𝓤 H A mem run)
-      → (L L′ : Loan) (ys : List Arena) (us : List ℕ) → (ok : Bool) → (s : State) (vs : Val) → Is Z.the-row s (vs ∷ []) → (kind : Kind) (vkind : Val) → Is J.the-row kind (vkind ∷ []) → (granted : Bool) → (base : ℕ) → base < 2 ^ 64 → (S : ℕ) → S < 2 ^ 64 → 0 < S → S ≤ 4294967296 → (ok ≡ true → Answerable S ys us s)
-      → ((h : Item 𝓤) → Opds K W (h ∷ Γ) E xs (sliceOf L ∷ sliceOf L′ ∷ vbool ok ∷ vs ∷ vkind ∷ vbool granted ∷ vint w64 base ∷ vint w64 S ∷ []))
-      → ((v : Val) (o : Reply) → Is P.the-row o (v ∷ []) → o ≡ replyOf (answerOn S ys us ok s kind granted base) → length (answerOn S ys us ok s kind granted base .world .records) ≡ length ys → length (answerOn S ys us ok s kind granted base .world .stamps) ≡ length us → Seq K W ((‵ (lent T.the-row L (answerOn S ys us ok s kind granted base .world .records)) ⊛ (‵ (lent u32 L′ (answerOn S ys us ok s kind granted base .world .stamps)) ⊛ i)) ∷ Γ) (after v))
-      → Seq K W ((‵ (lent T.the-row L ys) ⊛ (‵ (lent u32 L′ us) ⊛ i)) ∷ Γ) G
-  answer-on-step t site mem run known L L′ ys us ok s vs gs kind vkind gkind granted base fbase S fS pos most fit ops k =
-      mut2-call t site T.the-row u32 L L′ P.the-row (plain (λ _. bool) ∷ plain (λ _. Z.the-row) ∷ plain (λ _. J.the-row) ∷ plain (λ _. bool) ∷ plain (λ _. u64) ∷ plain (λ _. u64) ∷ []) (yes, (yes, (yes, (yes, (yes, (yes, tt)))))) (answer-on′.clauses 𝓤 H A mem run) known ys us (λ _. (ok, (s, (kind, (granted, (base, (S, tt))))))) (λ _. (vbool ok ∷ [], (vs ∷ [], (vkind ∷ [], (vbool granted ∷ [], (vint w64 base ∷ [], (vint w64 S ∷ [], tt)))))))
-      (λ _. owns-make 𝓤 H A (bool ∷ Z.the-row ∷ J.the-row ∷ bool ∷ u64 ∷ u64 ∷ []) (Ises (bool ∷ Z.the-row ∷ J.the-row ∷ bool ∷ u64 ∷ u64 ∷ [])) (bool-makes 𝓤 H A W, (LL.makes Z.the-type Z′.the-plain 𝓤 H A, (EL.makes J.the-type J′.the-plain 𝓤 H A, (bool-makes 𝓤 H A W, (uint-makes 𝓤 H A W w64, (uint-makes 𝓤 H A W w64, tt)))))) (ok, (s, (kind, (granted, (base, (S, tt)))))) (vbool ok ∷ [], (vs ∷ [], (vkind ∷ [], (vbool granted ∷ [], (vint w64 base ∷ [], (vint w64 S ∷ [], tt)))))) (refl, (gs, (gkind, (refl, ((refl, fbase), ((refl, fS), tt))))))) (λ _ _ _. tt) (λ _ _ _. factI 𝓤 _ (emp 𝓤) (pos, most, fit))
-      (λ o zs ts. (o ≡ replyOf (answerOn S ys us ok s kind granted base)) × (zs ≡ answerOn S ys us ok s kind granted base .world .records) × (ts ≡ answerOn S ys us ok s kind granted base .world .stamps)) (λ _ _ _ r ws. id⊢ 𝓤 _) (λ h _. ops h)
-      (λ v r zs ts is e l l′. subst (λ (ps : List Arena). length ps ≡ length ys → Seq K W ((‵ (lent T.the-row L ps) ⊛ (‵ (lent u32 L′ ts) ⊛ i)) ∷ Γ) (after v)) (sym (e .1))
-      (λ q. subst (λ (rs : List ℕ). length rs ≡ length us → Seq K W ((‵ (lent T.the-row L (answerOn S ys us ok s kind granted base .world .records)) ⊛ (‵ (lent u32 L′ rs) ⊛ i)) ∷ Γ) (after v)) (sym (e .2)) (k v r is (e .0) q) l′) l)

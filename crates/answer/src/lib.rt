@@ -49,6 +49,7 @@ pub fn answer(
 ) -> Reply
     ensures { λ r. ⌜ Leaves (step (worldOf (now (records .entry)) (now (stamps .entry)) state) ns settings (answer kind granted base)) r (now (records .exit)) (now (stamps .exit)) ⌝ }
 {
-    let ok = table::row_one(records, stamps.len(), state, settings.page, CHUNK);
+    let page = entry::page_of(settings);
+    let ok = table::row_one(records, stamps.len(), state, page, CHUNK);
     answer_on(records, stamps, ok, state, kind, granted, base, CHUNK)
 }

@@ -1,3 +1,2 @@
-pub mod Two
 mod AreaLaws
-mod AreaSteps
+pub mod Callable

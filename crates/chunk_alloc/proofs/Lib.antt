@@ -1,2 +1,3 @@
 mod EntryLaws
 mod Steps
+pub mod Callable

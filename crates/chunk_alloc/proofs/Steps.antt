@@ -18,7 +18,7 @@ use ghost.Atoms.{Atoms}
 use types.Kit.{Given, Item, Goal, Seq, ‵, _⊛_}
 use types.Run.{Opds}
 use contract.Monad.{Fun, factI}
-use denote.Builtin.{bool, usize, u32, u64, i32}
+use denote.Builtin.{bool, usize, u64, i32}
 use denote.Exit.{yes}
 use denote.Laws.{Is, Ises, owns-make}
 use denote.Plain.{uint-makes, bool-makes}
@@ -38,8 +38,7 @@ use Rattle.arena.proofs.Arena as T
 use Rattle.layer.specs.declared.State.{State}
 use Rattle.layer.specs.declared.Settings.{Settings}
 use Rattle.layer.specs.declared.Reply.{Reply}
-use Rattle.layer.specs.World.{worldOf}
-use Rattle.layer.specs.Step.{claim, step, act}
+use Rattle.layer.specs.Step.{claim, step}
 use Rattle.layer.proofs.State as Z
 use Rattle.layer.proofs.State.Laws as Z′
 use Rattle.layer.proofs.Settings as Y
@@ -58,7 +57,6 @@ use Rattle.claims.specs.Reads.{startOf, grantOf, placeOf}
 use Rattle.claims.proofs.grant_parts.Grant as N
 use Rattle.claims.proofs.grant_parts.Grant.Laws as N′
 use Rattle.claims.specs.Core.{claimCount}
-use Rattle.layer.specs.World.{Leaves}
 use Rattle.claims.proofs.claim_count as count′
 use Rattle.claims.proofs.claim_count.Symbol.{name as #claims·claim-count}
 use Rattle.chunk_alloc.proofs.serves_query as query′
@@ -69,10 +67,8 @@ use Rattle.grant_at.proofs.grant_at as grant′
 use Rattle.grant_at.proofs.grant_at.Symbol.{name as #grant-at·grant-at}
 use Rattle.claims.proofs.grants.claim_answer as answer′
 use Rattle.claims.proofs.grants.claim_answer.Symbol.{name as #grants·claim-answer}
-use Rattle.chunk_alloc.proofs.claim_at as claim′
-use Rattle.chunk_alloc.proofs.claim_at.Symbol.{name as #chunk-alloc·claim-at}
-use Rattle.records.proofs.Walk.{Loan, sliceOf, lent}
-use Rattle.records.proofs.Calls.{Site, plain-call, mut-call, mut2-call}
+use Rattle.walks.proofs.Walk.{Loan, sliceOf, lent}
+use Rattle.walks.proofs.Calls.{Site, plain-call, mut-call}
 
 -- the contracts that a walk cites
 module _ {M : Type 1} (𝓤 : URA M) (H : Heap 𝓤) (A : Atoms 𝓤) (mem : Memory → SProp 𝓤) (run : Routine → Fun 𝓤) where
@@ -90,9 +86,6 @@ module _ {M : Type 1} (𝓤 : URA M) (H : Heap 𝓤) (A : Atoms 𝓤) (mem : Mem
 
   abbrev pub Answers : Contract 𝓤
   Answers = tripleOf 𝓤 H A answer′.signature (answer′.spec 𝓤 H A mem run)
-
-  abbrev pub Claim : Contract 𝓤
-  Claim = tripleOf 𝓤 H A claim′.signature (claim′.spec 𝓤 H A mem run)
 
 module _ {M : Type 1} {𝓤 : URA M} {H : Heap 𝓤} {A : Atoms 𝓤} {K : Type 0} {W : Given 𝓤 H A} {Γ : List (Item 𝓤)} {C : Calls 𝓤 H} {E : Env 𝓤 H} {xs : List Operand} {G : Goal 𝓤 H} {after : Val → Goal 𝓤 H} {i : Item 𝓤} where
   pub count-step : K → Site K W Γ C E #claims·claim-count xs G after → (mem : Memory → SProp 𝓤) (run : Routine → Fun 𝓤) → Triple 𝓤 (C #claims·claim-count) (Count 𝓤 H A mem run)
@@ -144,15 +137,3 @@ module _ {M : Type 1} {𝓤 : URA M} {H : Heap 𝓤} {A : Atoms 𝓤} {K : Type 
       plain-call t site P.the-row (plain (λ _. bool) ∷ plain (λ _. Z.the-row) ∷ plain (λ _. Y.the-row) ∷ plain (λ _. i32) ∷ plain (λ _. usize) ∷ plain (λ _. bool) ∷ plain (λ _. F.the-row) ∷ plain (λ _. N.the-row) ∷ plain (λ _. u64) ∷ []) (yes, (yes, (yes, (yes, (yes, (yes, (yes, (yes, (yes, tt))))))))) (answer′.clauses 𝓤 H A mem run) known (ok, (s, (c, (id, (n, (w, (f, (g, (S, tt))))))))) (vbool ok ∷ [], (vs ∷ [], (vc ∷ [], (vid ∷ [], (vint w64 n ∷ [], (vbool w ∷ [], (vf ∷ [], (vg ∷ [], (vint w64 S ∷ [], tt)))))))))
       (owns-make 𝓤 H A (bool ∷ Z.the-row ∷ Y.the-row ∷ i32 ∷ usize ∷ bool ∷ F.the-row ∷ N.the-row ∷ u64 ∷ []) (Ises (bool ∷ Z.the-row ∷ Y.the-row ∷ i32 ∷ usize ∷ bool ∷ F.the-row ∷ N.the-row ∷ u64 ∷ [])) (bool-makes 𝓤 H A W, (LL.makes Z.the-type Z′.the-plain 𝓤 H A, (LL.makes Y.the-type Y′.the-plain 𝓤 H A, (sint-makes 𝓤 H A W w32, (uint-makes 𝓤 H A W w64, (bool-makes 𝓤 H A W, (EL.makes F.the-type F′.the-plain 𝓤 H A, (LL.makes N.the-type N′.the-plain 𝓤 H A, (uint-makes 𝓤 H A W w64, tt))))))))) (ok, (s, (c, (id, (n, (w, (f, (g, (S, tt))))))))) (vbool ok ∷ [], (vs ∷ [], (vc ∷ [], (vid ∷ [], (vint w64 n ∷ [], (vbool w ∷ [], (vf ∷ [], (vg ∷ [], (vint w64 S ∷ [], tt))))))))) (refl, (gs, (gc, (gid, ((refl, fn), (refl, (gf, (gg, ((refl, fS), tt)))))))))) tt (factI 𝓤 _ (emp 𝓤) (pos, most, fits))
       (λ r. r ≡ claimAnswer S ok s c id n w f g) (λ r ws. id⊢ 𝓤 _) ops (λ v r is e. k v (subst (λ (o : Reply). Is P.the-row o (v ∷ [])) e is))
-
-  pub claim-step : K → Site K W Γ C E #chunk-alloc·claim-at xs G after → (mem : Memory → SProp 𝓤) (run : Routine → Fun 𝓤) → Triple 𝓤 (C #chunk-alloc·claim-at) (Claim 𝓤 H A mem run)
-      → (L L′ : Loan) (ys : List Arena) (us : List ℕ) → (s : State) (vs : Val) → Is Z.the-row s (vs ∷ []) → (c : Settings) (vc : Val) → Is Y.the-row c (vc ∷ []) → (id : ℤ) (vid : Val) → Is i32 id (vid ∷ []) → (n : ℕ) → n < 2 ^ 64 → (w : Bool)
-      → ((h : Item 𝓤) → Opds K W (h ∷ Γ) E xs (sliceOf L ∷ sliceOf L′ ∷ vs ∷ vc ∷ vid ∷ vint w64 n ∷ vbool w ∷ []))
-      → ((v : Val) (r : Reply) (zs : List Arena) (ts : List ℕ) → Is P.the-row r (v ∷ []) → ((ns : ℕ) → Leaves (step (worldOf ys us s) ns c (act (claim id n w))) r zs ts) → length zs ≡ length ys → length ts ≡ length us
-      → Seq K W ((‵ (lent T.the-row L zs) ⊛ (‵ (lent u32 L′ ts) ⊛ i)) ∷ Γ) (after v))
-      → Seq K W ((‵ (lent T.the-row L ys) ⊛ (‵ (lent u32 L′ us) ⊛ i)) ∷ Γ) G
-  claim-step t site mem run known L L′ ys us s vs gs c vc gc id vid gid n fn w ops k =
-      mut2-call t site T.the-row u32 L L′ P.the-row (plain (λ _. Z.the-row) ∷ plain (λ _. Y.the-row) ∷ plain (λ _. i32) ∷ plain (λ _. usize) ∷ plain (λ _. bool) ∷ []) (yes, (yes, (yes, (yes, (yes, tt))))) (claim′.clauses 𝓤 H A mem run) known ys us
-      (λ _. (s, (c, (id, (n, (w, tt)))))) (λ _. (vs ∷ [], (vc ∷ [], (vid ∷ [], (vint w64 n ∷ [], (vbool w ∷ [], tt))))))
-      (λ _. owns-make 𝓤 H A (Z.the-row ∷ Y.the-row ∷ i32 ∷ usize ∷ bool ∷ []) (Ises (Z.the-row ∷ Y.the-row ∷ i32 ∷ usize ∷ bool ∷ [])) (LL.makes Z.the-type Z′.the-plain 𝓤 H A, (LL.makes Y.the-type Y′.the-plain 𝓤 H A, (sint-makes 𝓤 H A W w32, (uint-makes 𝓤 H A W w64, (bool-makes 𝓤 H A W, tt))))) (s, (c, (id, (n, (w, tt))))) (vs ∷ [], (vc ∷ [], (vid ∷ [], (vint w64 n ∷ [], (vbool w ∷ [], tt))))) (gs, (gc, (gid, ((refl, fn), (refl, tt)))))) (λ _ _ _. tt) (λ _ _ _. id⊢ 𝓤 _)
-      (λ r zs ts. (ns : ℕ) → Leaves (step (worldOf ys us s) ns c (act (claim id n w))) r zs ts) (λ _ _ _ r ws. id⊢ 𝓤 _) (λ h _. ops h) (λ v r zs ts is e l l′. k v r zs ts is e l l′)

@@ -1,2 +1,2 @@
 mod CallLaws
-mod Steps
+pub mod Callable

@@ -36,7 +36,7 @@ use Rattle.layer.specs.Answering.{commitArena, commitReply}
 use Rattle.claims.specs.declared.granting.Served.{Served}
 use Rattle.claims.proofs.granting.Served as D
 use Rattle.claims.proofs.granting.Served.Laws as D′
-use Rattle.records.proofs.Calls.{Site, plain-call}
+use Rattle.walks.proofs.Calls.{Site, plain-call}
 use Rattle.commit_answer.specs.Run.{runId, runStart, runLength}
 use Rattle.commit_answer.proofs.CommitLaws.{Room}
 use Rattle.commit_answer.proofs.run_place as place′

@@ -1,1 +1,2 @@
 pub mod EntrySteps
+pub mod Callable

@@ -41,8 +41,8 @@ use Rattle.judge.proofs.Head.Laws as D′
 use Rattle.claims.specs.declared.grant_parts.Grant.{Grant}
 use Rattle.claims.specs.Reads.{startOf, grantOf}
 use Rattle.claims.proofs.grant_parts.Grant as N
-use Rattle.records.proofs.Walk.{Loan, sliceOf, lent}
-use Rattle.records.proofs.Calls.{Site, plain-call, shr-call, mut-call}
+use Rattle.walks.proofs.Walk.{Loan, sliceOf, lent}
+use Rattle.walks.proofs.Calls.{Site, plain-call, shr-call, mut-call}
 use Rattle.records.proofs.map_changes.take_at as take′
 use Rattle.records.proofs.map_changes.take_at.Symbol.{name as #map-changes·take-at}
 use Rattle.records.proofs.map_changes.dirty_at as dirty′

@@ -1,2 +1,3 @@
 mod ManageLaws
 mod Steps
+pub mod Callable

@@ -12,7 +12,7 @@ use prog.Memory.{Memory}
 use prog.Routine.{Routine}
 use prog.Wp.{Heap, Env, Calls}
 use ghost.Atoms.{Atoms}
-use types.Kit.{Given, Item, Goal, Seq, ‵, _⊛_}
+use types.Kit.{Given, Item, Goal, Seq}
 use types.Run.{Opds}
 use contract.Monad.{Fun, factI}
 use denote.Builtin.{bool, usize, u64, i32}
@@ -26,8 +26,6 @@ use denote.Enum.Laws as EL
 use denote.Struct.Laws as LL
 use denote.Triple.Spec.{tripleOf}
 use denote.Triple.Statement.{Contract, Triple}
-use Rattle.arena.specs.declared.Arena.{Arena}
-use Rattle.arena.proofs.Arena as T
 use Rattle.layer.specs.declared.State.{State}
 use Rattle.layer.proofs.State as Z
 use Rattle.layer.proofs.State.Laws as Z′
@@ -46,19 +44,15 @@ use Rattle.judge.specs.declared.Query.the-variants.{Meets as Meeting}
 use Rattle.arena.specs.Registering.{managedArena}
 use Rattle.layer.specs.Registering.{firstWhole}
 use Rattle.registering.specs.Managing.{manageCount, manageBytes, manageAnswer, manageId, manageBase, manageLength}
-use Rattle.manage_os_memory.specs.Writes.{ManageWrites}
 use Rattle.registering.proofs.managing.manage_count as manage-count′
 use Rattle.registering.proofs.managing.manage_count.Symbol.{name as #managing·manage-count}
 use Rattle.registering.proofs.managing.manage_core as manage-core′
 use Rattle.registering.proofs.managing.manage_core.Symbol.{name as #managing·manage-core}
 use Rattle.manage_os_memory.proofs.managed as managed′
 use Rattle.manage_os_memory.proofs.managed.Symbol.{name as #manage-os-memory·managed}
-use Rattle.manage_os_memory.proofs.manage_writing as manage-writing′
-use Rattle.manage_os_memory.proofs.manage_writing.Symbol.{name as #manage-os-memory·manage-writing}
 use Rattle.manage_os_memory.proofs.manage_query as manage-query′
 use Rattle.manage_os_memory.proofs.manage_query.Symbol.{name as #manage-os-memory·manage-query}
-use Rattle.records.proofs.Walk.{Loan, sliceOf, lent}
-use Rattle.records.proofs.Calls.{Site, plain-call, shr-call}
+use Rattle.walks.proofs.Calls.{Site, plain-call}
 
 -- the contracts that a walk cites
 module _ {M : Type 1} (𝓤 : URA M) (H : Heap 𝓤) (A : Atoms 𝓤) (mem : Memory → SProp 𝓤) (run : Routine → Fun 𝓤) where
@@ -70,9 +64,6 @@ module _ {M : Type 1} (𝓤 : URA M) (H : Heap 𝓤) (A : Atoms 𝓤) (mem : Mem
 
   abbrev pub Managed : Contract 𝓤
   Managed = tripleOf 𝓤 H A managed′.signature (managed′.spec 𝓤 H A mem run)
-
-  abbrev pub ManageWriting : Contract 𝓤
-  ManageWriting = tripleOf 𝓤 H A manage-writing′.signature (manage-writing′.spec 𝓤 H A mem run)
 
   abbrev pub ManageQuery : Contract 𝓤
   ManageQuery = tripleOf 𝓤 H A manage-query′.signature (manage-query′.spec 𝓤 H A mem run)
@@ -107,16 +98,6 @@ module _ {M : Type 1} {𝓤 : URA M} {H : Heap 𝓤} {A : Atoms 𝓤} {K : Type 
       plain-call t site X.the-row (plain (λ _. D.the-row) ∷ []) (yes, tt) (managed′.clauses 𝓤 H A mem run) known (d, tt) (vd ∷ [], tt)
       (owns-make 𝓤 H A (D.the-row ∷ []) (Ises (D.the-row ∷ [])) (LL.makes D.the-type D′.the-plain 𝓤 H A, tt) (d, tt) (vd ∷ [], tt) (gd, tt)) tt (id⊢ 𝓤 _)
       (λ r. r ≡ writingOf d (d .id)) (λ r ws. id⊢ 𝓤 _) ops (λ v r is e. k v (subst (λ (o : Writing). Is X.the-row o (v ∷ [])) e is))
-
-  pub manage-writing-step : K → Site K W Γ C E #manage-os-memory·manage-writing xs G after → (mem : Memory → SProp 𝓤) (run : Routine → Fun 𝓤) → Triple 𝓤 (C #manage-os-memory·manage-writing) (ManageWriting 𝓤 H A mem run)
-      → (L : Loan) (ys : List Arena) → (n : ℕ) → n < 2 ^ 64 → (s : State) (vs : Val) → Is Z.the-row s (vs ∷ []) → (page : ℕ) → page < 2 ^ 64 → (start : ℕ) → start < 2 ^ 64 → (size : ℕ) → size < 2 ^ 64 → (exclusive : Bool) → (node : ℤ) → Is i32 node (vint w32 (ofZ w32 node) ∷ []) → (mapped : Bool) → (reserved : Bool)
-      → ((h : Item 𝓤) → Opds K W (h ∷ Γ) E xs (sliceOf L ∷ vint w64 n ∷ vs ∷ vint w64 page ∷ vint w64 start ∷ vint w64 size ∷ vbool exclusive ∷ vint w32 (ofZ w32 node) ∷ vbool mapped ∷ vbool reserved ∷ []))
-      → ((v : Val) (w : Writing) → Is X.the-row w (v ∷ []) → ManageWrites 33554432 ys n s page start size exclusive node mapped reserved w → Seq K W ((‵ (lent T.the-row L ys) ⊛ i) ∷ Γ) (after v))
-      → Seq K W ((‵ (lent T.the-row L ys) ⊛ i) ∷ Γ) G
-  manage-writing-step t site mem run known L ys n fn s vs gs page fpage start fstart size fsize exclusive node gnode mapped reserved ops k =
-      shr-call t site T.the-row L X.the-row (plain (λ _. usize) ∷ plain (λ _. Z.the-row) ∷ plain (λ _. u64) ∷ plain (λ _. u64) ∷ plain (λ _. u64) ∷ plain (λ _. bool) ∷ plain (λ _. i32) ∷ plain (λ _. bool) ∷ plain (λ _. bool) ∷ []) (yes, (yes, (yes, (yes, (yes, (yes, (yes, (yes, (yes, tt))))))))) (manage-writing′.clauses 𝓤 H A mem run) known ys (λ _. (n, (s, (page, (start, (size, (exclusive, (node, (mapped, (reserved, tt)))))))))) (λ _. (vint w64 n ∷ [], (vs ∷ [], (vint w64 page ∷ [], (vint w64 start ∷ [], (vint w64 size ∷ [], (vbool exclusive ∷ [], (vint w32 (ofZ w32 node) ∷ [], (vbool mapped ∷ [], (vbool reserved ∷ [], tt))))))))))
-      (λ _. owns-make 𝓤 H A (usize ∷ Z.the-row ∷ u64 ∷ u64 ∷ u64 ∷ bool ∷ i32 ∷ bool ∷ bool ∷ []) (Ises (usize ∷ Z.the-row ∷ u64 ∷ u64 ∷ u64 ∷ bool ∷ i32 ∷ bool ∷ bool ∷ [])) (uint-makes 𝓤 H A W w64, (LL.makes Z.the-type Z′.the-plain 𝓤 H A, (uint-makes 𝓤 H A W w64, (uint-makes 𝓤 H A W w64, (uint-makes 𝓤 H A W w64, (bool-makes 𝓤 H A W, (sint-makes 𝓤 H A W w32, (bool-makes 𝓤 H A W, (bool-makes 𝓤 H A W, tt))))))))) (n, (s, (page, (start, (size, (exclusive, (node, (mapped, (reserved, tt))))))))) (vint w64 n ∷ [], (vs ∷ [], (vint w64 page ∷ [], (vint w64 start ∷ [], (vint w64 size ∷ [], (vbool exclusive ∷ [], (vint w32 (ofZ w32 node) ∷ [], (vbool mapped ∷ [], (vbool reserved ∷ [], tt))))))))) ((refl, fn), (gs, ((refl, fpage), ((refl, fstart), ((refl, fsize), (refl, (gnode, (refl, (refl, tt)))))))))) (λ _ _. tt) (λ _ _. id⊢ 𝓤 _)
-      (λ w. ManageWrites 33554432 ys n s page start size exclusive node mapped reserved w) (λ _ _ r ws. id⊢ 𝓤 _) (λ h _. ops h) k
 
   pub manage-query-step : K → Site K W Γ C E #manage-os-memory·manage-query xs G after → (mem : Memory → SProp 𝓤) (run : Routine → Fun 𝓤) → Triple 𝓤 (C #manage-os-memory·manage-query) (ManageQuery 𝓤 H A mem run)
       → (start : ℕ) → start < 2 ^ 64 → (size : ℕ) → size < 2 ^ 64 → (S : ℕ) → S < 2 ^ 64 → 0 < S → S ≤ 4294967296

@@ -1,4 +1,4 @@
--- The functions that the walks call, each called in one step (`Calls.antt` of `table`).
+-- The functions that the walks call, each called in one step (`walks`' Calls.antt).
 -- Assumes `Given`, the callee's theorem, and that the table of calls is monotone under a frame.
 use mathlib.Core.Path.{_≡_, refl, sym, _∙_, ap, subst}
 use mathlib.Core.Bool.{Bool, true}
@@ -44,8 +44,8 @@ use Rattle.layer.proofs.Reply as P
 use Rattle.judge.specs.declared.Query.{Query}
 use Rattle.judge.specs.declared.Query.the-variants.{Meets, Serves}
 use Rattle.judge.proofs.Query as Q
-use Rattle.records.proofs.Walk.{Loan, sliceOf, lent}
-use Rattle.records.proofs.Calls.{Site, plain-call, shr-call, mut-call}
+use Rattle.walks.proofs.Walk.{Loan, sliceOf, lent}
+use Rattle.walks.proofs.Calls.{Site, plain-call, shr-call, mut-call}
 use Rattle.claims.specs.declared.granting.Served.{Served}
 use Rattle.claims.specs.Core.{searchArena, searchReply}
 use Rattle.claims.proofs.granting.Served as D

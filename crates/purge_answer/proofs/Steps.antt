@@ -1,4 +1,4 @@
--- The functions by value that the walk calls, each in one step (`Calls.antt` of `table`): place-step, count-step, for-step, at-step (over the stamps alone), rest-step, pick-step.
+-- The functions by value that the walk calls, each in one step (`walks`' Calls.antt): place-step, count-step, for-step, at-step (over the stamps alone), rest-step, pick-step.
 -- Assumes `Given`, the callee's theorem, and that the table of calls is monotone under a frame.
 use mathlib.Core.Path.{_≡_, refl, sym, _∙_, ap, subst}
 use mathlib.Core.Bool.{Bool, true, false, cond}
@@ -42,8 +42,8 @@ use Rattle.questions.specs.Purges.{purgingId, purgingChunk, purgingSweep}
 use Rattle.sweeping.specs.Going.{nextPlace}
 use Rattle.purge_answer.specs.Part.{Fit, Stays, sweepFor}
 use Rattle.purge_answer.specs.Places.{placeOf, countOf}
-use Rattle.records.proofs.Walk.{Loan, sliceOf, lent}
-use Rattle.records.proofs.Calls.{Site, plain-call, shr-call}
+use Rattle.walks.proofs.Walk.{Loan, sliceOf, lent}
+use Rattle.walks.proofs.Calls.{Site, plain-call, shr-call}
 use Rattle.purge_answer.proofs.places.place_of as place′
 use Rattle.purge_answer.proofs.places.place_of.Symbol.{name as #purge-places·place-of}
 use Rattle.purge_answer.proofs.places.count_of as count′

@@ -37,8 +37,8 @@ use denote.Triple.Clauses.{Clauses, Ended, Lasts, atExit, lasts}
 use denote.Triple.End.{Kepts}
 use denote.Triple.Entry.{Args}
 use denote.Triple.Statement.{Triple}
-use Rattle.records.proofs.Walk.{Loan, sliceOf, lent, at-list, opened}
-use Rattle.records.proofs.Calls.{Site, Con, framed}
+use Rattle.walks.proofs.Walk.{Loan, sliceOf, lent, at-list, opened}
+use Rattle.walks.proofs.Calls.{Site, Con, framed}
 
 -- the signatures
 abbrev pub mutPart : (P S : RattleType) (rest : List (Slot 1)) → Kepts rest → Ended

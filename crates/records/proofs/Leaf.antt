@@ -1,4 +1,4 @@
--- Functions that the crate above has no need of, each called in one step of a walk (`Calls.antt`):
+-- Functions that the crate above has no need of, each called in one step of a walk (`walks`' Calls.antt):
 --     load-pass (from a `&[Arena]`), store-step
 -- Assumes `Given`, the callee's theorem, and that the table of calls is monotone under a frame.
 use mathlib.Core.Path.{_≡_, refl, sym, subst}
@@ -32,8 +32,8 @@ use Rattle.records.proofs.load as load′
 use Rattle.records.proofs.load.Symbol.{name as #records·load}
 use Rattle.records.proofs.store as store′
 use Rattle.records.proofs.store.Symbol.{name as #records·store}
-use Rattle.records.proofs.Walk.{Loan, sliceOf, lent, shared}
-use Rattle.records.proofs.Calls.{Site, pass-call, mut-call}
+use Rattle.walks.proofs.Walk.{Loan, sliceOf, lent, shared}
+use Rattle.walks.proofs.Calls.{Site, pass-call, mut-call}
 
 -- the contracts that a walk cites
 module _ {M : Type 1} (𝓤 : URA M) (H : Heap 𝓤) (A : Atoms 𝓤) (mem : Memory → SProp 𝓤) (run : Routine → Fun 𝓤) where

@@ -1,9 +1,3 @@
-pub mod Big
-pub mod Walk
-pub mod Locals
-pub mod Operands
-pub mod Calls
-pub mod Frame
 pub mod Ends
 mod Leaf
 pub mod Steps
@@ -11,3 +5,4 @@ pub mod Deadline
 pub mod Fields
 pub mod Looks
 pub mod MapFields
+pub mod Callable

@@ -48,8 +48,8 @@ use denote.Triple.Entry.{Args}
 use denote.Triple.Statement.{Triple}
 use borrow.Table.OneValue.{One, part-out, part-in}
 use borrow.Struct.Apart.{apart, part-apart}
-use Rattle.records.proofs.Walk.{Loan, shared, at-list}
-use Rattle.records.proofs.Calls.{Site, Con, framed}
+use Rattle.walks.proofs.Walk.{Loan, shared, at-list}
+use Rattle.walks.proofs.Calls.{Site, Con, framed}
 use Rattle.records.proofs.Fields.{shrPart, thin}
 
 module _ {M : Type 1} (𝓤 : URA M) (H : Heap 𝓤) (A : Atoms 𝓤) (R P : RattleType) (d : ℕ) (get : R .Denot → P .Denot) where

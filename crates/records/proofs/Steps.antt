@@ -1,4 +1,4 @@
--- The functions of the crate's root, each called in one step of a walk (`Calls.antt`): a name that ends in -step is for a walk over a `&mut [Arena]`, one in -pass for a walk over a `&[Arena]`.
+-- The functions of the crate's root, each called in one step of a walk (`walks`' Calls.antt): a name that ends in -step is for a walk over a `&mut [Arena]`, one in -pass for a walk over a `&[Arena]`.
 --     blank-step, count-step, count-pass, load-or-step, load-or-pass, store-if-step
 -- Assumes `Given`, the callee's theorem, and that the table of calls is monotone under a frame.
 use mathlib.Core.Path.{_≡_, refl, sym, _∙_, ap, subst}
@@ -37,8 +37,8 @@ use Rattle.records.proofs.load_or as load′
 use Rattle.records.proofs.load_or.Symbol.{name as #records·load-or}
 use Rattle.records.proofs.store_if as store′
 use Rattle.records.proofs.store_if.Symbol.{name as #records·store-if}
-use Rattle.records.proofs.Walk.{Loan, sliceOf, lent, shared}
-use Rattle.records.proofs.Calls.{Site, plain-call, pass-call, shr-call, mut-call}
+use Rattle.walks.proofs.Walk.{Loan, sliceOf, lent, shared}
+use Rattle.walks.proofs.Calls.{Site, plain-call, pass-call, shr-call, mut-call}
 
 -- the contracts that a walk cites
 module _ {M : Type 1} (𝓤 : URA M) (H : Heap 𝓤) (A : Atoms 𝓤) (mem : Memory → SProp 𝓤) (run : Routine → Fun 𝓤) where
@@ -83,16 +83,6 @@ module _ {M : Type 1} {𝓤 : URA M} {H : Heap 𝓤} {A : Atoms 𝓤} {K : Type 
       shr-call t site T.the-row L T.the-row (plain (λ _. usize) ∷ []) (yes, tt) (load′.clauses 𝓤 H A mem run) known ys (λ _. (j, tt)) (λ _. (vint w64 j ∷ [], tt))
       (λ _. owns-make 𝓤 H A (usize ∷ []) (Ises (usize ∷ [])) (uint-makes 𝓤 H A W w64, tt) (j, tt) (vint w64 j ∷ [], tt) ((refl, fj), tt)) (λ _ _. tt) (λ _ _. id⊢ 𝓤 _)
       (λ r. r ≡ getD ys j blank) (λ _ _ r ws. id⊢ 𝓤 _) (λ h _. ops h) (λ v r is e. k v (subst (λ (o : Arena). Is T.the-row o (v ∷ [])) e is))
-
-  pub count-pass : K → Site K W Γ C E #records·count xs G after → (mem : Memory → SProp 𝓤) (run : Routine → Fun 𝓤) → Triple 𝓤 (C #records·count) (Count 𝓤 H A mem run)
-      → (L : Loan) (ys : List Arena)
-      → ((h : Item 𝓤) → Opds K W (h ∷ Γ) E xs (sliceOf L ∷ []))
-      → (length ys < 2 ^ 64 → Seq K W ((‵ (shared T.the-row L ys) ⊛ i) ∷ Γ) (after (vint w64 (length ys))))
-      → Seq K W ((‵ (shared T.the-row L ys) ⊛ i) ∷ Γ) G
-  count-pass t site mem run known L ys ops k =
-      pass-call t site T.the-row L usize ([]) tt (count′.clauses 𝓤 H A mem run) known ys (λ _. tt) (λ _. tt)
-      (λ _. id⊢ 𝓤 _) (λ _ _. tt) (λ _ _. id⊢ 𝓤 _)
-      (λ r. r ≡ length ys) (λ _ _ r ws. id⊢ 𝓤 _) (λ h _. ops h) (λ v r is e. subst (λ (u : Val). Seq K W ((‵ (shared T.the-row L ys) ⊛ i) ∷ Γ) (after u)) (sym (ap only (is .0) ∙ ap (vint w64) e)) (k (subst (λ (m : ℕ). m < 2 ^ 64) e (is .1))))
 
   pub load-or-pass : K → Site K W Γ C E #records·load-or xs G after → (mem : Memory → SProp 𝓤) (run : Routine → Fun 𝓤) → Triple 𝓤 (C #records·load-or) (LoadOr 𝓤 H A mem run)
       → (L : Loan) (ys : List Arena) → (j : ℕ) → j < 2 ^ 64

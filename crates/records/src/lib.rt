@@ -1,5 +1,4 @@
-// The lent slice of records: the few functions that read or write one of them, and what every walk over such a
-// slice needs (proofs/).
+// The lent slice of records: the few functions that read or write one of them.
 pub mod map_changes;
 pub mod maps;
 pub mod release_at;

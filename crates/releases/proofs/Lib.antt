@@ -1,3 +1,4 @@
 pub mod ReleaseLaws
 pub mod StepLaws
 pub mod HeadLaws
+pub mod Callable

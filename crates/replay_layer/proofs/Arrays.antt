@@ -34,7 +34,7 @@ use denote.Slice.{sliceVal, MutSlice, Room, finally, res-finally, codedHoleys, h
 use denote.Lend.{Held, lends-slice, slice-back}
 use denote.Index.{row, whole-out, whole-in}
 use denote.Steps.{owned}
-use Rattle.records.proofs.Walk.{Loan, ref, at-list, lent}
+use Rattle.walks.proofs.Walk.{Loan, ref, at-list, lent}
 
 abbrev pub localLoan : ℕ → GName → ℕ → ℕ → Loan
 localLoan ν γ b n = record { κ = ν ∷ []; q = fullShare; γ = γ; b = b; o = 0; n = n }

@@ -24,8 +24,8 @@ use denote.Triple.End.{Kepts, Fins}
 use denote.Triple.Entry.{Args}
 use denote.Triple.Spec.{Meets}
 use denote.Triple.Walked.{Stays, hasOf, walkOf, ends-at, walked, walk-meets}
-use Rattle.records.proofs.Calls.{plainEnded}
-use Rattle.records.proofs.Frame.{dropped, fits-none, has-none, Silents, all-go}
+use Rattle.walks.proofs.Calls.{plainEnded}
+use Rattle.walks.proofs.Frame.{dropped, fits-none, has-none, Silents, all-go}
 
 module _ {M : Type 1} (𝓤 : URA M) (H : Heap 𝓤) (A : Atoms 𝓤) (S : RattleType) (χ : S .Denot → Type 0) where
   abbrev Is-doneP : Val → S .Denot → SProp 𝓤

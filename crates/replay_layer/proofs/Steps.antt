@@ -1,4 +1,4 @@
--- The functions that a replay calls, each in one step of a walk (`records`' Calls.antt). The walks say nothing of what is replayed, so of a callee's contract they take only that it may be called; of `fewer`, that it counts down.
+-- The functions that a replay calls, each in one step of a walk (`walks`' Calls.antt). The walks say nothing of what is replayed, so of a callee's contract they take only that it may be called; of `fewer`, that it counts down.
 -- Assumes `Given`, the callee's theorem, and that the table of calls is monotone under a frame.
 use mathlib.Core.Path.{_≡_, refl, sym, ap, subst}
 use mathlib.Core.Bool.{Bool}
@@ -50,9 +50,9 @@ use Rattle.sample_session.proofs.Call as F
 use Rattle.sample_session.proofs.Call.Laws as F′
 use Rattle.sample_session.proofs.Session as S
 use Rattle.sample_session.proofs.Session.Laws as S′
-use Rattle.records.proofs.Walk.{Loan, lent, shared, sliceOf}
-use Rattle.records.proofs.Calls.{Site, plain-call, mut2-call}
-use Rattle.arena_area.proofs.Two.{ss-call}
+use Rattle.walks.proofs.Walk.{Loan, lent, shared, sliceOf}
+use Rattle.walks.proofs.Calls.{Site, plain-call, mut2-call}
+use Rattle.walks.proofs.Two.{ss-call}
 use Rattle.sample_state.proofs.hash as hash′
 use Rattle.sample_state.proofs.hash.Symbol.{name as #sample-state·hash}
 use Rattle.sample_session.proofs.state_in as state-in′

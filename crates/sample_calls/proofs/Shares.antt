@@ -9,7 +9,7 @@ use ghost.Atoms.{Atoms}
 use types.Kit.{Given, Goal, Soaks, Item, Seq, ‵, _⊛_, some, later, _$_, move, drop, use1, use2, split, join, pick, await}
 use types.Tokens.{lft-new, lft-end}
 use denote.RattleType.{RattleType}
-use Rattle.records.proofs.Walk.{Loan, ownShr, lent, shared, holdS, let-goS, OwedS, shares-out, shares-back}
+use Rattle.walks.proofs.Walk.{Loan, ownShr, lent, shared, holdS, let-goS, OwedS, shares-out, shares-back}
 
 -- the loan that a slice is while it is held as a `&` for the lifetime ν
 abbrev pub shrLoan : Loan → ℕ → GName → Loan

@@ -1,4 +1,4 @@
--- The call of each group of kinds, and of any, each in one step of a walk (`records`' Calls.antt, `arena_area`'s Two.antt).
+-- The call of each group of kinds, and of any, each in one step of a walk (`walks`' Calls.antt and Two.antt).
 -- Assumes `Given`, the callee's theorem, and that the table of calls is monotone under a frame.
 use mathlib.Core.Path.{_≡_, refl}
 use Prim.Native.Nat.{ℕ, _<_, _^_}
@@ -50,9 +50,9 @@ use Rattle.sample_calls.specs.Asking.{asking}
 use Rattle.sample_calls.specs.Calls.{callOf}
 use Rattle.sample_made.proofs.Made as X
 use Rattle.sample_made.proofs.Made.Laws as X′
-use Rattle.arena_area.proofs.Two.{ss-call}
-use Rattle.records.proofs.Walk.{Loan, lent, shared, sliceOf}
-use Rattle.records.proofs.Calls.{Site, mut2-call}
+use Rattle.walks.proofs.Two.{ss-call}
+use Rattle.walks.proofs.Walk.{Loan, lent, shared, sliceOf}
+use Rattle.walks.proofs.Calls.{Site, mut2-call}
 use Rattle.sample_calls.proofs.registers.registers as registers′
 use Rattle.sample_calls.proofs.registers.registers.Symbol.{name as #sample-registers·registers}
 use Rattle.sample_calls.proofs.claims.claims as claims′

@@ -1,4 +1,4 @@
--- The functions that the hash of the state calls, each in one step of a walk (`records`' Calls.antt). Assumes `Given`, the callee's theorem, and that the table of calls is monotone under a frame.
+-- The functions that the hash of the state calls, each in one step of a walk (`walks`' Calls.antt). Assumes `Given`, the callee's theorem, and that the table of calls is monotone under a frame.
 use mathlib.Core.Path.{_≡_, refl, sym, ap, subst}
 use Prim.Native.Nat.{ℕ, _<_, _^_}
 use mathlib.Core.List.{List, [], _∷_}
@@ -28,8 +28,8 @@ use Rattle.arena.proofs.Arena.Laws as T′
 use Rattle.layer.specs.declared.State.{State}
 use Rattle.layer.proofs.State as Z
 use Rattle.layer.proofs.State.Laws as Z′
-use Rattle.records.proofs.Walk.{Loan, shared, sliceOf}
-use Rattle.records.proofs.Calls.{Site, plain-call, pass-call}
+use Rattle.walks.proofs.Walk.{Loan, shared, sliceOf}
+use Rattle.walks.proofs.Calls.{Site, plain-call, pass-call}
 use Rattle.sample_state.specs.State.{withArena, withStamps, ofState}
 use Rattle.sample_state.proofs.count_of as count′
 use Rattle.sample_state.proofs.count_of.Symbol.{name as #sample-state·count-of}

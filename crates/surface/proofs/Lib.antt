@@ -2,4 +2,4 @@ mod Cases
 pub mod NumberLaws
 pub mod CallLaws
 pub mod Exported
-pub mod Steps
+pub mod Callable

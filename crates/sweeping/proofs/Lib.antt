@@ -1,3 +1,4 @@
 pub mod GoingLaws
 pub mod LentLaws
 pub mod Steps
+pub mod Callable

@@ -53,8 +53,8 @@ use Rattle.sweeping.proofs.next_place.Symbol.{name as #sweeping·next-p
 use Rattle.sweeping.proofs.sweep_on as on′
 use Rattle.sweeping.proofs.sweep_on.Symbol.{name as #sweeping·sweep-on}
 use Rattle.records.proofs.Looks.{field-look, look-part-call}
-use Rattle.records.proofs.Walk.{Loan, sliceOf, lent, shared}
-use Rattle.records.proofs.Calls.{Site, plain-call, pass-call, shr-call, mut2-call}
+use Rattle.walks.proofs.Walk.{Loan, sliceOf, lent, shared}
+use Rattle.walks.proofs.Calls.{Site, plain-call, pass-call, shr-call, mut2-call}
 use Rattle.sweeping.proofs.arena_left as arena′
 use Rattle.sweeping.proofs.arena_left.Symbol.{name as #sweeping·arena-left}
 use Rattle.sweeping.proofs.reply_left as reply′

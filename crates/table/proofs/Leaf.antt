@@ -1,4 +1,4 @@
--- Functions that the crate above has no need of, each called in one step of a walk (`Calls.antt`):
+-- Functions that the crate above has no need of, each called in one step of a walk (`walks`' Calls.antt):
 --     found-step, nothing-step, head-at-pass, no-head-step, run-asked-step, chunks-of-step, asks-step, hit-head-step, hits-at-pass, is-nothing-step, outside-step, meets-none-pass, no-span-step, span-step, is-at-step, range-step, unsound-step, lent-step, count-of-step, question-of-step, about-step, asked-step, question-step
 -- Assumes `Given`, the callee's theorem, and that the table of calls is monotone under a frame.
 use mathlib.Core.Path.{_≡_, refl, sym, _∙_, ap, subst}
@@ -104,8 +104,8 @@ use Rattle.judge.proofs.spans.no_span as no-span′
 use Rattle.judge.proofs.spans.no_span.Symbol.{name as #spans·no-span}
 use Rattle.judge.proofs.spans.span_with as span-with′
 use Rattle.judge.proofs.spans.span_with.Symbol.{name as #spans·span-with}
-use Rattle.records.proofs.Walk.{Loan, sliceOf, shared}
-use Rattle.records.proofs.Calls.{Site, plain-call, pass-call}
+use Rattle.walks.proofs.Walk.{Loan, sliceOf, shared}
+use Rattle.walks.proofs.Calls.{Site, plain-call, pass-call}
 
 -- the contracts that a walk cites
 module _ {M : Type 1} (𝓤 : URA M) (H : Heap 𝓤) (A : Atoms 𝓤) (mem : Memory → SProp 𝓤) (run : Routine → Fun 𝓤) where

@@ -1,3 +1,4 @@
 pub mod TableLaws
 mod Leaf
 pub mod Steps
+pub mod Callable

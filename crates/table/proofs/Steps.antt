@@ -1,5 +1,5 @@
--- The crate's functions, each called in one step of a walk (`Calls.antt`): a name that ends in -step is for a walk over a `&mut [Arena]`, one in -pass for a walk over a `&[Arena]`.
---     head-or-step, head-or-pass, scan-step, scan-pass, apart-step, apart-pass, row-step, row-pass
+-- The crate's functions, each called in one step of a walk (`walks`' Calls.antt): a name that ends in -step is for a walk over a `&mut [Arena]`, one in -pass for a walk over a `&[Arena]`.
+--     head-or-step, head-or-pass, scan-step, scan-pass, apart-pass, row-step, row-pass
 -- Assumes `Given`, the callee's theorem, and that the table of calls is monotone under a frame.
 use mathlib.Core.Path.{_≡_, refl, sym, _∙_, ap, subst}
 use mathlib.Core.Bool.{true}
@@ -53,8 +53,8 @@ use Rattle.table.proofs.apart_table as apart′
 use Rattle.table.proofs.apart_table.Symbol.{name as #table·apart-table}
 use Rattle.table.proofs.row_one as row′
 use Rattle.table.proofs.row_one.Symbol.{name as #table·row-one}
-use Rattle.records.proofs.Walk.{Loan, sliceOf, lent, shared}
-use Rattle.records.proofs.Calls.{Site, pass-call, shr-call}
+use Rattle.walks.proofs.Walk.{Loan, sliceOf, lent, shared}
+use Rattle.walks.proofs.Calls.{Site, pass-call, shr-call}
 
 -- the contracts that a walk cites
 module _ {M : Type 1} (𝓤 : URA M) (H : Heap 𝓤) (A : Atoms 𝓤) (mem : Memory → SProp 𝓤) (run : Routine → Fun 𝓤) where
@@ -80,16 +80,6 @@ module _ {M : Type 1} {𝓤 : URA M} {H : Heap 𝓤} {A : Atoms 𝓤} {K : Type 
       shr-call t site T.the-row L F.the-row (plain (λ _. usize) ∷ plain (λ _. u64) ∷ plain (λ _. Q.the-row) ∷ []) (yes, (yes, (yes, tt))) (scan′.clauses 𝓤 H A mem run) known ys (λ _. (n, (S, (q, tt)))) (λ _. (vint w64 n ∷ [], (vint w64 S ∷ [], (vq ∷ [], tt))))
       (λ _. owns-make 𝓤 H A (usize ∷ u64 ∷ Q.the-row ∷ []) (Ises (usize ∷ u64 ∷ Q.the-row ∷ [])) (uint-makes 𝓤 H A W w64, (uint-makes 𝓤 H A W w64, (EL.makes Q.the-type Q′.the-plain 𝓤 H A, tt))) (n, (S, (q, tt))) (vint w64 n ∷ [], (vint w64 S ∷ [], (vq ∷ [], tt))) ((refl, fn), ((refl, fS), (gq, tt)))) (λ _ _. tt) (λ _ _. factI 𝓤 _ (emp 𝓤) (pos, most))
       (λ r. r ≡ scanOf S ys n q) (λ _ _ r ws. id⊢ 𝓤 _) (λ h _. ops h) (λ v r is e. k v (subst (λ (o : Found). Is F.the-row o (v ∷ [])) e is))
-
-  pub apart-step : K → Site K W Γ C E #table·apart-table xs G after → (mem : Memory → SProp 𝓤) (run : Routine → Fun 𝓤) → Triple 𝓤 (C #table·apart-table) (Apart 𝓤 H A mem run)
-      → (L : Loan) (ys : List Arena) → (n : ℕ) → n < 2 ^ 64 → (S : ℕ) → S < 2 ^ 64 → 0 < S → S ≤ 4294967296 → all (λ m. soundArena S (at ys m)) 0 n ≡ true
-      → ((h : Item 𝓤) → Opds K W (h ∷ Γ) E xs (sliceOf L ∷ vint w64 n ∷ vint w64 S ∷ []))
-      → Seq K W ((‵ (lent T.the-row L ys) ⊛ i) ∷ Γ) (after (vbool (apart S ys n)))
-      → Seq K W ((‵ (lent T.the-row L ys) ⊛ i) ∷ Γ) G
-  apart-step t site mem run known L ys n fn S fS pos most sound ops k =
-      shr-call t site T.the-row L bool (plain (λ _. usize) ∷ plain (λ _. u64) ∷ []) (yes, (yes, tt)) (apart′.clauses 𝓤 H A mem run) known ys (λ _. (n, (S, tt))) (λ _. (vint w64 n ∷ [], (vint w64 S ∷ [], tt)))
-      (λ _. owns-make 𝓤 H A (usize ∷ u64 ∷ []) (Ises (usize ∷ u64 ∷ [])) (uint-makes 𝓤 H A W w64, (uint-makes 𝓤 H A W w64, tt)) (n, (S, tt)) (vint w64 n ∷ [], (vint w64 S ∷ [], tt)) ((refl, fn), ((refl, fS), tt))) (λ _ _. tt) (λ _ _. factI 𝓤 _ (emp 𝓤) (pos, most, sound))
-      (λ r. r ≡ apart S ys n) (λ _ _ r ws. id⊢ 𝓤 _) (λ h _. ops h) (λ v r is e. subst (λ (u : Val). Seq K W ((‵ (lent T.the-row L ys) ⊛ i) ∷ Γ) (after u)) (sym (ap only (bool-tells r (v ∷ []) is) ∙ ap vbool e)) k)
 
   pub row-step : K → Site K W Γ C E #table·row-one xs G after → (mem : Memory → SProp 𝓤) (run : Routine → Fun 𝓤) → Triple 𝓤 (C #table·row-one) (Row 𝓤 H A mem run)
       → (L : Loan) (ys : List Arena) → (stamps : ℕ) → stamps < 2 ^ 64 → (s : State) (vs : Val) → Is Z.the-row s (vs ∷ []) → (page : ℕ) → page < 2 ^ 64 → (S : ℕ) → S < 2 ^ 64 → 0 < S → S ≤ 4294967296

@@ -48,14 +48,14 @@ use Rattle.registers.proofs.Registering.Laws as D′
 use Rattle.entry.specs.declared.writing.Writing.{Writing}
 use Rattle.entry.proofs.writing.Writing as X
 use Rattle.entry.proofs.writing.Writing.Laws as X′
-use Rattle.records.proofs.Walk.{Loan, Known, shared, sliceOf}
-use Rattle.records.proofs.Locals.{enters, used}
-use Rattle.records.proofs.Calls.{in-seq}
+use Rattle.walks.proofs.Walk.{Loan, Known, shared, sliceOf}
+use Rattle.walks.proofs.Locals.{enters, used}
+use Rattle.walks.proofs.Calls.{in-seq}
 use Rattle.entry.proofs.EntrySteps.{Stored, stored-step}
-use Rattle.records.proofs.Frame.{DoneS, finishS, shr-meets}
+use Rattle.walks.proofs.Frame.{DoneS, finishS, shr-meets}
 use Rattle.records.proofs.Steps.{LoadOr, load-or-pass}
 use Rattle.table.proofs.Steps.{Row, Scan, row-pass, scan-pass}
-use Rattle.records.proofs.Big.{big-lit}
+use Rattle.walks.proofs.Big.{big-lit}
 use Rattle.layer.specs.Table.{soundLent}
 use Rattle.adopt_os_block.proofs.AdoptLaws.{grown-fits}
 use Rattle.adopt_os_block.proofs.Steps.{AdoptCount, AdoptCore, Adopted, BlockQuery, GrowthQuery, adopt-count-step, adopt-core-step, adopted-step, block-query-step, growth-query-step}

@@ -47,10 +47,10 @@ use Rattle.layer.proofs.Kind.Laws as J′
 use Rattle.questions.specs.Gate.{gated}
 use Rattle.questions.specs.Parts.{goesFor, ownReply}
 use Rattle.answer.specs.Call.{Answerable, answerOn}
-use Rattle.records.proofs.Walk.{Loan, Known, lent, sliceOf}
-use Rattle.records.proofs.Locals.{enters, used}
-use Rattle.records.proofs.Calls.{in-seq}
-use Rattle.records.proofs.Frame.{Done2, finish2, mut2-meets}
+use Rattle.walks.proofs.Walk.{Loan, Known, lent, sliceOf}
+use Rattle.walks.proofs.Locals.{enters, used}
+use Rattle.walks.proofs.Calls.{in-seq}
+use Rattle.walks.proofs.Frame.{Done2, finish2, mut2-meets}
 use Rattle.answer.proofs.CallLaws.{first, second, third, thirdStamps, commit-fits, purge-fits, memory-fits, comes}
 use Rattle.answer.proofs.Steps.{GoesCommit, GoesPurge, GoesMemory, CommitPart, PurgePart, MemoryPart, ReplyFor, goes-commit-step, goes-purge-step, goes-memory-step, commit-part-step, purge-part-step, memory-part-step, reply-for-step}
 use Rattle.questions.proofs.answer_parts.goes_commit.Symbol as goes-commit-def

@@ -62,15 +62,15 @@ use Rattle.claims.specs.Grants.{claimAnswer}
 use Rattle.claims.specs.Reads.{startOf, placeOf}
 use Rattle.claims.proofs.grant_parts.Grant as N
 use Rattle.claims.proofs.grant_parts.Grant.Laws as N′
-use Rattle.records.proofs.Walk.{Loan, Known, lent, sliceOf}
-use Rattle.records.proofs.Locals.{enters, used}
-use Rattle.records.proofs.Frame.{Done2, finish2, mut2-meets}
-use Rattle.records.proofs.Calls.{in-seq}
+use Rattle.walks.proofs.Walk.{Loan, Known, lent, sliceOf}
+use Rattle.walks.proofs.Locals.{enters, used}
+use Rattle.walks.proofs.Frame.{Done2, finish2, mut2-meets}
+use Rattle.walks.proofs.Calls.{in-seq}
 use Rattle.table.proofs.Steps.{Row, Scan, row-step, scan-step}
 use Rattle.layer.specs.World.{Leaves}
 use Rattle.chunk_alloc.proofs.EntryLaws.{claimed, claimed-needs, claimed-fits}
 use Rattle.entry.proofs.EntrySteps.{Page, page-step}
-use Rattle.records.proofs.Big.{big-lit}
+use Rattle.walks.proofs.Big.{big-lit}
 use Rattle.chunk_alloc.proofs.Steps.{Count, Asks, Place, GrantAt, Answers, count-step, query-step, place-step, grant-step, answer-step}
 use Rattle.entry.proofs.page_of.Symbol as page-def
 use Rattle.entry.proofs.page_of.Symbol.{name as #entry·page-of}

@@ -44,10 +44,10 @@ use Rattle.layer.specs.Answering.{commitArena, commitReply}
 use Rattle.claims.proofs.granting.Served as D
 use Rattle.claims.proofs.granting.Served.Laws as D′
 use Rattle.questions.specs.Commits.{committingId, committingStart, committingLength}
-use Rattle.records.proofs.Walk.{Loan, Known, lent, sliceOf}
-use Rattle.records.proofs.Locals.{enters, used}
-use Rattle.records.proofs.Calls.{in-seq}
-use Rattle.records.proofs.Frame.{Done, finish, mut-meets}
+use Rattle.walks.proofs.Walk.{Loan, Known, lent, sliceOf}
+use Rattle.walks.proofs.Locals.{enters, used}
+use Rattle.walks.proofs.Calls.{in-seq}
+use Rattle.walks.proofs.Frame.{Done, finish, mut-meets}
 use Rattle.records.proofs.Steps.{LoadOr, StoreIf, load-or-step, store-if-step}
 use Rattle.commit_answer.specs.Run.{runId}
 use Rattle.commit_answer.proofs.CommitLaws.{Room, room, replied, left}

@@ -29,8 +29,8 @@ use Rattle.arena.proofs.Arena as T
 use Rattle.layer.specs.declared.Reply.{Reply}
 use Rattle.layer.proofs.Reply as Y
 use Rattle.registers.specs.Core.{stampsWith}
-use Rattle.records.proofs.Walk.{Loan, sliceOf, lent}
-use Rattle.records.proofs.Calls.{Site, plain-call, mut-call, mut2-call}
+use Rattle.walks.proofs.Walk.{Loan, sliceOf, lent}
+use Rattle.walks.proofs.Calls.{Site, plain-call, mut-call, mut2-call}
 use Rattle.entry.specs.declared.writing.Writing.{Writing}
 use Rattle.entry.specs.Places.{recordPlace}
 use Rattle.entry.proofs.writing.Writing as X

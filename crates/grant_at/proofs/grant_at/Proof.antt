@@ -42,10 +42,10 @@ use Rattle.claims.specs.declared.grant_parts.Grant.{Grant}
 use Rattle.claims.specs.Reads.{startOf, grantOf}
 use Rattle.claims.proofs.grant_parts.Grant as N
 use Rattle.claims.proofs.grant_parts.Grant.Laws as N′
-use Rattle.records.proofs.Walk.{Loan, Known, lent, sliceOf}
-use Rattle.records.proofs.Locals.{enters, used, room, if-else}
-use Rattle.records.proofs.Calls.{in-seq}
-use Rattle.records.proofs.Frame.{Done, finish, mut-meets}
+use Rattle.walks.proofs.Walk.{Loan, Known, lent, sliceOf}
+use Rattle.walks.proofs.Locals.{enters, used, room, if-else}
+use Rattle.walks.proofs.Calls.{in-seq}
+use Rattle.walks.proofs.Frame.{Done, finish, mut-meets}
 use Rattle.grant_at.proofs.Steps.{GrantIn, NoGrant, grant-in-step, none-step}
 use Rattle.grant_at.proofs.grant_in.Symbol as grant-def
 use Rattle.grant_at.proofs.grant_in.Symbol.{name as #grant-at·grant-in}

@@ -49,10 +49,10 @@ use Rattle.claims.specs.declared.grant_parts.Grant.{Grant}
 use Rattle.claims.specs.Reads.{startOf, grantOf}
 use Rattle.claims.proofs.grant_parts.Grant as N
 use Rattle.claims.proofs.grant_parts.Grant.Laws as N′
-use Rattle.records.proofs.Walk.{Loan, Known, lent, sliceOf}
-use Rattle.records.proofs.Locals.{enters, used}
-use Rattle.records.proofs.Calls.{in-seq}
-use Rattle.records.proofs.Frame.{Done, finish, mut-meets}
+use Rattle.walks.proofs.Walk.{Loan, Known, lent, sliceOf}
+use Rattle.walks.proofs.Locals.{enters, used}
+use Rattle.walks.proofs.Calls.{in-seq}
+use Rattle.walks.proofs.Frame.{Done, finish, mut-meets}
 use Rattle.table.proofs.Steps.{HeadOr, head-or-step}
 use Rattle.grant_at.proofs.Steps.{Chunks, RunAt, Start, CommittedAt, FreshAt, Asks, TakeIn, GrantOf, chunks-step, run-step, start-step, committed-step, fresh-step, asks-step, take-in-step, grant-step}
 use Rattle.table.proofs.head_or.Symbol as head-def

@@ -34,10 +34,10 @@ use Rattle.arena.specs.declared.Arena.{Arena}
 use Rattle.arena.specs.Claiming.{takeRun, dirtyRun}
 use Rattle.arena.proofs.Arena as T
 use Rattle.layer.specs.World.{blank}
-use Rattle.records.proofs.Walk.{Loan, Known, lent, sliceOf}
-use Rattle.records.proofs.Locals.{enters, used, room, if-else}
-use Rattle.records.proofs.Calls.{in-seq}
-use Rattle.records.proofs.Frame.{Done, finish, mut-meets}
+use Rattle.walks.proofs.Walk.{Loan, Known, lent, sliceOf}
+use Rattle.walks.proofs.Locals.{enters, used, room, if-else}
+use Rattle.walks.proofs.Calls.{in-seq}
+use Rattle.walks.proofs.Frame.{Done, finish, mut-meets}
 use Rattle.grant_at.proofs.Steps.{Take, Dirty, take-step, dirty-step}
 use Rattle.records.proofs.map_changes.take_at.Symbol as take-def
 use Rattle.records.proofs.map_changes.take_at.Symbol.{name as #map-changes·take-at}

@@ -49,12 +49,12 @@ use Rattle.registers.proofs.Registering.Laws as D′
 use Rattle.entry.specs.declared.writing.Writing.{Writing}
 use Rattle.entry.proofs.writing.Writing as X
 use Rattle.entry.proofs.writing.Writing.Laws as X′
-use Rattle.records.proofs.Walk.{Loan, Known, shared, sliceOf}
-use Rattle.records.proofs.Locals.{enters, used}
-use Rattle.records.proofs.Calls.{in-seq}
-use Rattle.records.proofs.Frame.{DoneS, finishS, shr-meets}
+use Rattle.walks.proofs.Walk.{Loan, Known, shared, sliceOf}
+use Rattle.walks.proofs.Locals.{enters, used}
+use Rattle.walks.proofs.Calls.{in-seq}
+use Rattle.walks.proofs.Frame.{DoneS, finishS, shr-meets}
 use Rattle.table.proofs.Steps.{Row, Scan, row-pass, scan-pass}
-use Rattle.records.proofs.Big.{big-lit}
+use Rattle.walks.proofs.Big.{big-lit}
 use Rattle.layer.specs.Table.{soundLent}
 use Rattle.manage_os_memory.proofs.Steps.{ManageCount, ManageCore, Managed, ManageQuery, manage-count-step, manage-core-step, managed-step, manage-query-step}
 use Rattle.judge.specs.Scan.{scanOf}

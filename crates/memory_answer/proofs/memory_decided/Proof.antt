@@ -47,10 +47,10 @@ use Rattle.memory.specs.Given.{memoryBytes}
 use Rattle.memory.proofs.Memory as X
 use Rattle.memory.proofs.Memory.Laws as X′
 use Rattle.memory_answer.specs.Part.{reservingOf, scanCount, metOf, Decides}
-use Rattle.records.proofs.Walk.{Loan, Known, shared, sliceOf}
-use Rattle.records.proofs.Locals.{enters, used}
-use Rattle.records.proofs.Calls.{in-seq}
-use Rattle.records.proofs.Frame.{DoneS, finishS, shr-meets}
+use Rattle.walks.proofs.Walk.{Loan, Known, shared, sliceOf}
+use Rattle.walks.proofs.Locals.{enters, used}
+use Rattle.walks.proofs.Calls.{in-seq}
+use Rattle.walks.proofs.Frame.{DoneS, finishS, shr-meets}
 use Rattle.table.proofs.Steps.{Scan, scan-pass}
 use Rattle.memory_answer.proofs.Steps.{ScanCount, RangeQuery, Decide, scan-count-step, range-query-step, decide-step}
 use Rattle.memory_answer.proofs.scan_count.Symbol as scan-count-def

@@ -48,10 +48,10 @@ use Rattle.entry.proofs.writing.Writing.Laws as Y′
 use Rattle.entry.proofs.writing.WriteSteps.{Write, write-step}
 use Rattle.memory_answer.specs.Parts.{writingOf}
 use Rattle.memory_answer.specs.Part.{foundOf, againReply, againRecords, Reservable, memoryLeft}
-use Rattle.records.proofs.Walk.{Loan, Known, lent, sliceOf}
-use Rattle.records.proofs.Locals.{enters, used}
-use Rattle.records.proofs.Calls.{in-seq}
-use Rattle.records.proofs.Frame.{Done2, finish2, mut2-meets}
+use Rattle.walks.proofs.Walk.{Loan, Known, lent, sliceOf}
+use Rattle.walks.proofs.Locals.{enters, used}
+use Rattle.walks.proofs.Calls.{in-seq}
+use Rattle.walks.proofs.Frame.{Done2, finish2, mut2-meets}
 use Rattle.memory_answer.proofs.PartLaws.{stamps-long, written, looked-sound, comes}
 use Rattle.memory_answer.proofs.Steps.{MemoryDecided, AsWritten, SearchAgain, memory-decided-step, as-written-step, search-again-step}
 use Rattle.memory_answer.proofs.memory_decided.Symbol as memory-decided-def

@@ -54,10 +54,10 @@ use Rattle.memory.specs.declared.Memory.{Memory as Made}
 use Rattle.memory.proofs.Memory as X
 use Rattle.memory.proofs.Memory.Laws as X′
 use Rattle.memory_answer.specs.Part.{foundOf, foundArena, againReply, againRecords}
-use Rattle.records.proofs.Walk.{Loan, Known, lent, sliceOf}
-use Rattle.records.proofs.Locals.{enters, used}
-use Rattle.records.proofs.Calls.{in-seq}
-use Rattle.records.proofs.Frame.{Done, finish, mut-meets}
+use Rattle.walks.proofs.Walk.{Loan, Known, lent, sliceOf}
+use Rattle.walks.proofs.Locals.{enters, used}
+use Rattle.walks.proofs.Calls.{in-seq}
+use Rattle.walks.proofs.Frame.{Done, finish, mut-meets}
 use Rattle.records.proofs.Steps.{LoadOr, StoreIf, load-or-step, store-if-step}
 use Rattle.table.proofs.Steps.{Scan, scan-step}
 use Rattle.entry.proofs.EntrySteps.{Stored, stored-step}

@@ -45,10 +45,10 @@ use Rattle.layer.proofs.Reply as P
 use Rattle.layer.proofs.Reply.Laws as P′
 use Rattle.sweeps.proofs.Stay as Y
 use Rattle.sweeps.proofs.Stay.Laws as Y′
-use Rattle.records.proofs.Walk.{Loan, lent, sliceOf}
-use Rattle.records.proofs.Locals.{enters, used}
-use Rattle.records.proofs.Calls.{in-seq, swaps}
-use Rattle.records.proofs.Frame.{Done2, finish2, mut2-meets}
+use Rattle.walks.proofs.Walk.{Loan, lent, sliceOf}
+use Rattle.walks.proofs.Locals.{enters, used}
+use Rattle.walks.proofs.Calls.{in-seq, swaps}
+use Rattle.walks.proofs.Frame.{Done2, finish2, mut2-meets}
 use Rattle.records.proofs.Steps.{LoadOr, StoreIf, load-or-step, store-if-step}
 use Rattle.records.proofs.load_or.Symbol as load-def
 use Rattle.records.proofs.load_or.Symbol.{name as #records·load-or}

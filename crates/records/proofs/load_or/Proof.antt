@@ -36,10 +36,10 @@ use Rattle.arena.specs.declared.Arena.{Arena}
 use Rattle.layer.specs.World.{blank}
 use Rattle.arena.proofs.Arena as T
 use Rattle.arena.proofs.Arena.Laws as T′
-use Rattle.records.proofs.Walk.{Loan, Known, shared, sliceOf}
-use Rattle.records.proofs.Locals.{enters, used, if-else}
-use Rattle.records.proofs.Calls.{in-seq}
-use Rattle.records.proofs.Frame.{DoneS, finishS, shr-meets}
+use Rattle.walks.proofs.Walk.{Loan, Known, shared, sliceOf}
+use Rattle.walks.proofs.Locals.{enters, used, if-else}
+use Rattle.walks.proofs.Calls.{in-seq}
+use Rattle.walks.proofs.Frame.{DoneS, finishS, shr-meets}
 use Rattle.records.proofs.Ends.{past}
 use Rattle.records.proofs.Leaf.{Load, load-pass}
 use Rattle.records.proofs.Steps.{Blank, blank-step}

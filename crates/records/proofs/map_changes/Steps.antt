@@ -30,8 +30,8 @@ use Rattle.rows.proofs.clear_row.Symbol.{name as #rows·clear-row}
 use Rattle.arena.specs.declared.Arena.{Arena}
 use Rattle.arena.proofs.Arena as T
 use Rattle.layer.specs.World.{blank}
-use Rattle.records.proofs.Walk.{Loan, lent}
-use Rattle.records.proofs.Calls.{Site}
+use Rattle.walks.proofs.Walk.{Loan, lent}
+use Rattle.walks.proofs.Calls.{Site}
 use Rattle.records.proofs.Fields.{Cut, mut-part-call}
 use Rattle.records.proofs.MapFields.{Row}
 

@@ -30,8 +30,8 @@ use Rattle.arena.specs.Claiming.{findRun}
 use Rattle.arena.proofs.Arena as T
 use Rattle.lookup.specs.Soundness.{clearPastAll}
 use Rattle.layer.specs.World.{blank}
-use Rattle.records.proofs.Walk.{Loan, sliceOf, shared}
-use Rattle.records.proofs.Calls.{Site, pass-call}
+use Rattle.walks.proofs.Walk.{Loan, sliceOf, shared}
+use Rattle.walks.proofs.Calls.{Site, pass-call}
 use Rattle.records.proofs.maps.run_at as run′
 use Rattle.records.proofs.maps.run_at.Symbol.{name as #maps·run-at}
 use Rattle.records.proofs.maps.tails_clear_at as tails′

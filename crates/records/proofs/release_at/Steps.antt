@@ -1,9 +1,9 @@
 -- Functions on the lent table, each called in one step of a walk.
 --     give-back-step, pend-step, tell-step, arm-step, due-step     what `release_at` calls
---     release-step, release-if-step                                for a walk over a `&mut [Arena]`
+--     release-step                                                 for a walk over a `&mut [Arena]`
 -- Assumes `Given`, the callee's theorem, and that the table of calls is monotone under a frame.
 use mathlib.Core.Path.{_≡_, refl, sym, _∙_, ap, subst}
-use mathlib.Core.Bool.{Bool, true, cond}
+use mathlib.Core.Bool.{Bool}
 use Prim.Native.Nat.{ℕ, _+_, _<_, _≤_, _^_}
 use mathlib.Core.List.{List, [], _∷_}
 use lib.ListN.{length, getD, set}
@@ -40,8 +40,8 @@ use Rattle.arena.specs.Record.{withPending, withDeadline}
 use Rattle.arena.specs.Claiming.{giveBackRun}
 use Rattle.arena.specs.Releasing.{tellRun, releaseRun}
 use Rattle.layer.specs.World.{blank}
-use Rattle.records.proofs.Walk.{Loan, sliceOf, lent}
-use Rattle.records.proofs.Calls.{Site, plain-call, mut-call}
+use Rattle.walks.proofs.Walk.{Loan, sliceOf, lent}
+use Rattle.walks.proofs.Calls.{Site, plain-call, mut-call}
 use Rattle.records.proofs.map_changes.give_back_at as give′
 use Rattle.records.proofs.map_changes.give_back_at.Symbol.{name as #map-changes·give-back-at}
 use Rattle.records.proofs.map_changes.pend_at as pend′
@@ -52,8 +52,6 @@ use Rattle.records.proofs.release_rows.tell_at as tell′
 use Rattle.records.proofs.release_rows.tell_at.Symbol.{name as #release-rows·tell-at}
 use Rattle.records.proofs.release_at.release_at as release′
 use Rattle.records.proofs.release_at.release_at.Symbol.{name as #release-at·release-at}
-use Rattle.records.proofs.release_at.release_if as release-if′
-use Rattle.records.proofs.release_at.release_if.Symbol.{name as #release-at·release-if}
 
 -- the contracts that a walk cites
 module _ {M : Type 1} (𝓤 : URA M) (H : Heap 𝓤) (A : Atoms 𝓤) (mem : Memory → SProp 𝓤) (run : Routine → Fun 𝓤) where
@@ -74,9 +72,6 @@ module _ {M : Type 1} (𝓤 : URA M) (H : Heap 𝓤) (A : Atoms 𝓤) (mem : Mem
 
   abbrev pub Release : Contract 𝓤
   Release = tripleOf 𝓤 H A release′.signature (release′.spec 𝓤 H A mem run)
-
-  abbrev pub ReleaseIf : Contract 𝓤
-  ReleaseIf = tripleOf 𝓤 H A release-if′.signature (release-if′.spec 𝓤 H A mem run)
 
 module _ {M : Type 1} {𝓤 : URA M} {H : Heap 𝓤} {A : Atoms 𝓤} {K : Type 0} {W : Given 𝓤 H A} {Γ : List (Item 𝓤)} {C : Calls 𝓤 H} {E : Env 𝓤 H} {xs : List Operand} {G : Goal 𝓤 H} {after : Val → Goal 𝓤 H} {i : Item 𝓤} where
   pub give-back-step : K → Site K W Γ C E #map-changes·give-back-at xs G after → (mem : Memory → SProp 𝓤) (run : Routine → Fun 𝓤) → Triple 𝓤 (C #map-changes·give-back-at) (GiveBack 𝓤 H A mem run)
@@ -138,13 +133,3 @@ module _ {M : Type 1} {𝓤 : URA M} {H : Heap 𝓤} {A : Atoms 𝓤} {K : Type 
       mut-call t site T.the-row L Nothing (plain (λ _. usize) ∷ plain (λ _. usize) ∷ plain (λ _. usize) ∷ plain (λ _. D.the-row) ∷ plain (λ _. bool) ∷ plain (λ _. u32) ∷ plain (λ _. u32) ∷ []) (yes, (yes, (yes, (yes, (yes, (yes, (yes, tt))))))) (release′.clauses 𝓤 H A mem run) known ys (λ _. (j, (s, (n, (told, (pending, (ms, (delay, tt)))))))) (λ _. (vint w64 j ∷ [], (vint w64 s ∷ [], (vint w64 n ∷ [], (vtold ∷ [], (vbool pending ∷ [], (vint w32 ms ∷ [], (vint w32 delay ∷ [], tt))))))))
       (λ _. owns-make 𝓤 H A (usize ∷ usize ∷ usize ∷ D.the-row ∷ bool ∷ u32 ∷ u32 ∷ []) (Ises (usize ∷ usize ∷ usize ∷ D.the-row ∷ bool ∷ u32 ∷ u32 ∷ [])) (uint-makes 𝓤 H A W w64, (uint-makes 𝓤 H A W w64, (uint-makes 𝓤 H A W w64, (EL.makes D.the-type D′.the-plain 𝓤 H A, (bool-makes 𝓤 H A W, (uint-makes 𝓤 H A W w32, (uint-makes 𝓤 H A W w32, tt))))))) (j, (s, (n, (told, (pending, (ms, (delay, tt))))))) (vint w64 j ∷ [], (vint w64 s ∷ [], (vint w64 n ∷ [], (vtold ∷ [], (vbool pending ∷ [], (vint w32 ms ∷ [], (vint w32 delay ∷ [], tt))))))) ((refl, fj), ((refl, fs), ((refl, fn), (gtold, (refl, ((refl, fms), ((refl, fdelay), tt)))))))) (λ _ _. tt) (λ _ _. factI 𝓤 _ (emp 𝓤) (inb, few))
       (λ r zs. zs ≡ set ys j (releaseRun (getD ys j blank) s n told pending ms delay)) (λ _ _ r ws. id⊢ 𝓤 _) (λ h _. ops h) (λ v r zs is e _. subst (λ (us : List Arena). Seq K W ((‵ (lent T.the-row L us) ⊛ i) ∷ Γ) (after v)) (sym e) (k v is))
-
-  pub release-if-step : K → Site K W Γ C E #release-at·release-if xs G after → (mem : Memory → SProp 𝓤) (run : Routine → Fun 𝓤) → Triple 𝓤 (C #release-at·release-if) (ReleaseIf 𝓤 H A mem run)
-      → (L : Loan) (ys : List Arena) → (on : Bool) → (j : ℕ) → j < 2 ^ 64 → (s : ℕ) → s < 2 ^ 64 → (n : ℕ) → n < 2 ^ 64 → (told : Commitment) (vtold : Val) → Is D.the-row told (vtold ∷ []) → (pending : Bool) → (ms : ℕ) → ms < 2 ^ 32 → (delay : ℕ) → delay < 2 ^ 32 → (on ≡ true → (j < length ys) × (s + n ≤ 1024))
-      → ((h : Item 𝓤) → Opds K W (h ∷ Γ) E xs (sliceOf L ∷ vbool on ∷ vint w64 j ∷ vint w64 s ∷ vint w64 n ∷ vtold ∷ vbool pending ∷ vint w32 ms ∷ vint w32 delay ∷ []))
-      → ((v : Val) → Is Nothing tt (v ∷ []) → Seq K W ((‵ (lent T.the-row L (cond on (set ys j (releaseRun (getD ys j blank) s n told pending ms delay)) ys)) ⊛ i) ∷ Γ) (after v))
-      → Seq K W ((‵ (lent T.the-row L ys) ⊛ i) ∷ Γ) G
-  release-if-step t site mem run known L ys on j fj s fs n fn told vtold gtold pending ms fms delay fdelay fine ops k =
-      mut-call t site T.the-row L Nothing (plain (λ _. bool) ∷ plain (λ _. usize) ∷ plain (λ _. usize) ∷ plain (λ _. usize) ∷ plain (λ _. D.the-row) ∷ plain (λ _. bool) ∷ plain (λ _. u32) ∷ plain (λ _. u32) ∷ []) (yes, (yes, (yes, (yes, (yes, (yes, (yes, (yes, tt)))))))) (release-if′.clauses 𝓤 H A mem run) known ys (λ _. (on, (j, (s, (n, (told, (pending, (ms, (delay, tt))))))))) (λ _. (vbool on ∷ [], (vint w64 j ∷ [], (vint w64 s ∷ [], (vint w64 n ∷ [], (vtold ∷ [], (vbool pending ∷ [], (vint w32 ms ∷ [], (vint w32 delay ∷ [], tt)))))))))
-      (λ _. owns-make 𝓤 H A (bool ∷ usize ∷ usize ∷ usize ∷ D.the-row ∷ bool ∷ u32 ∷ u32 ∷ []) (Ises (bool ∷ usize ∷ usize ∷ usize ∷ D.the-row ∷ bool ∷ u32 ∷ u32 ∷ [])) (bool-makes 𝓤 H A W, (uint-makes 𝓤 H A W w64, (uint-makes 𝓤 H A W w64, (uint-makes 𝓤 H A W w64, (EL.makes D.the-type D′.the-plain 𝓤 H A, (bool-makes 𝓤 H A W, (uint-makes 𝓤 H A W w32, (uint-makes 𝓤 H A W w32, tt)))))))) (on, (j, (s, (n, (told, (pending, (ms, (delay, tt)))))))) (vbool on ∷ [], (vint w64 j ∷ [], (vint w64 s ∷ [], (vint w64 n ∷ [], (vtold ∷ [], (vbool pending ∷ [], (vint w32 ms ∷ [], (vint w32 delay ∷ [], tt)))))))) (refl, ((refl, fj), ((refl, fs), ((refl, fn), (gtold, (refl, ((refl, fms), ((refl, fdelay), tt))))))))) (λ _ _. tt) (λ _ _. factI 𝓤 _ (emp 𝓤) fine)
-      (λ r zs. zs ≡ cond on (set ys j (releaseRun (getD ys j blank) s n told pending ms delay)) ys) (λ _ _ r ws. id⊢ 𝓤 _) (λ h _. ops h) (λ v r zs is e _. subst (λ (us : List Arena). Seq K W ((‵ (lent T.the-row L us) ⊛ i) ∷ Γ) (after v)) (sym e) (k v is))

@@ -31,8 +31,8 @@ use Rattle.arena.specs.declared.Commitment.{Commitment}
 use Rattle.arena.proofs.Commitment as D
 use Rattle.arena.proofs.Commitment.Laws as D′
 use Rattle.layer.specs.World.{blank}
-use Rattle.records.proofs.Walk.{Loan, lent}
-use Rattle.records.proofs.Calls.{Site}
+use Rattle.walks.proofs.Walk.{Loan, lent}
+use Rattle.walks.proofs.Calls.{Site}
 use Rattle.records.proofs.Fields.{Cut, mut-part-call}
 use Rattle.records.proofs.MapFields.{Row}
 use Rattle.records.specs.Rows.{tellRow}

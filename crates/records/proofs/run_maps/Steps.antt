@@ -32,8 +32,8 @@ use Rattle.arena.specs.declared.Arena.{Arena}
 use Rattle.arena.proofs.Arena as T
 use Rattle.arena.proofs.Arena.Laws as T′
 use Rattle.layer.specs.World.{blank}
-use Rattle.records.proofs.Walk.{Loan, lent, shared}
-use Rattle.records.proofs.Calls.{Site}
+use Rattle.walks.proofs.Walk.{Loan, lent, shared}
+use Rattle.walks.proofs.Calls.{Site}
 use Rattle.records.proofs.Looks.{Look, look-part-call}
 use Rattle.records.proofs.MapFields.{Row}
 

@@ -39,10 +39,10 @@ use denote.Triple.Table.{entered, cited}
 use Rattle.arena.specs.declared.Arena.{Arena}
 use Rattle.arena.proofs.Arena as T
 use Rattle.arena.proofs.Arena.Laws as T′
-use Rattle.records.proofs.Walk.{Loan, Known, lent, sliceOf}
-use Rattle.records.proofs.Locals.{envOf, enters, used, room, if-else}
-use Rattle.records.proofs.Calls.{at-end}
-use Rattle.records.proofs.Frame.{Done, finish, loanOf, mut-meets}
+use Rattle.walks.proofs.Walk.{Loan, Known, lent, sliceOf}
+use Rattle.walks.proofs.Locals.{envOf, enters, used, room, if-else}
+use Rattle.walks.proofs.Calls.{at-end}
+use Rattle.walks.proofs.Frame.{Done, finish, loanOf, mut-meets}
 use Rattle.records.proofs.Leaf.{Store, store-step}
 use Rattle.records.proofs.store.Symbol as store-def
 use Rattle.records.proofs.store.Symbol.{name as #records·store}

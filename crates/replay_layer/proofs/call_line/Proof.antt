@@ -36,10 +36,10 @@ use Rattle.samples.proofs.lines.Line.Laws as N′
 use Rattle.sample_session.specs.declared.Session.{Session}
 use Rattle.sample_session.proofs.Session as S
 use Rattle.sample_session.proofs.Session.Laws as S′
-use Rattle.records.proofs.Walk.{Loan, Known, lent, sliceOf}
-use Rattle.records.proofs.Locals.{enters, used}
-use Rattle.records.proofs.Calls.{in-seq}
-use Rattle.records.proofs.Frame.{Done2, finish2, mut2-meets}
+use Rattle.walks.proofs.Walk.{Loan, Known, lent, sliceOf}
+use Rattle.walks.proofs.Locals.{enters, used}
+use Rattle.walks.proofs.Calls.{in-seq}
+use Rattle.walks.proofs.Frame.{Done2, finish2, mut2-meets}
 use Rattle.replay_layer.proofs.Steps.{ReplyLine, Called, reply-line-step, called-step}
 use Rattle.replay_layer.proofs.reply_line.Symbol as reply-line-def
 use Rattle.replay_layer.proofs.reply_line.Symbol.{name as #replay-layer·reply-line}

@@ -35,10 +35,10 @@ use Rattle.samples.proofs.lines.Line.Laws as N′
 use Rattle.sample_session.specs.declared.Session.{Session}
 use Rattle.sample_session.proofs.Session as S
 use Rattle.sample_session.proofs.Session.Laws as S′
-use Rattle.records.proofs.Walk.{Loan, Known, shared, sliceOf}
-use Rattle.records.proofs.Locals.{enters, used}
-use Rattle.records.proofs.Calls.{in-seq}
-use Rattle.arena_area.proofs.Two.{Done, finish, meets}
+use Rattle.walks.proofs.Walk.{Loan, Known, shared, sliceOf}
+use Rattle.walks.proofs.Locals.{enters, used}
+use Rattle.walks.proofs.Calls.{in-seq}
+use Rattle.walks.proofs.Two.{Done, finish, meets}
 use Rattle.replay_layer.proofs.Steps.{StateOf, Hash, Hashed, state-of-step, hash-step, hashed-step}
 use Rattle.sample_session.proofs.state_of.Symbol as state-of-def
 use Rattle.sample_session.proofs.state_of.Symbol.{name as #sample-session·state-of}

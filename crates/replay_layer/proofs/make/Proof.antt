@@ -46,10 +46,10 @@ use Rattle.sample_session.specs.declared.Call.{Call}
 use Rattle.sample_session.proofs.Call as F
 use Rattle.sample_session.proofs.Call.Laws as F′
 use Rattle.sample_calls.proofs.Steps.{Call as CallMade, call-step}
-use Rattle.records.proofs.Walk.{Loan, Known, lent, sliceOf}
-use Rattle.records.proofs.Locals.{enters, used}
-use Rattle.records.proofs.Calls.{in-seq}
-use Rattle.records.proofs.Frame.{Done2, finish2, mut2-meets}
+use Rattle.walks.proofs.Walk.{Loan, Known, lent, sliceOf}
+use Rattle.walks.proofs.Locals.{enters, used}
+use Rattle.walks.proofs.Calls.{in-seq}
+use Rattle.walks.proofs.Frame.{Done2, finish2, mut2-meets}
 use Rattle.replay_layer.proofs.Steps.{StateIn, NsIn, SettingsIn, ToldIn, QuestionIn, MadeIn, state-in-step, ns-in-step, settings-in-step, told-in-step, question-in-step, made-in-step}
 use Rattle.sample_session.proofs.state_in.Symbol as state-in-def
 use Rattle.sample_session.proofs.state_in.Symbol.{name as #sample-session·state-in}

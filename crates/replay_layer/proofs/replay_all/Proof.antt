@@ -37,10 +37,10 @@ use Rattle.layer.specs.World.{blank}
 use Rattle.samples.specs.declared.lines.Line.{Line}
 use Rattle.samples.proofs.lines.Line as N
 use Rattle.samples.proofs.lines.Line.Laws as N′
-use Rattle.records.proofs.Big.{big-lit}
-use Rattle.records.proofs.Walk.{Loan, lent}
-use Rattle.records.proofs.Locals.{Blocks, envOf, rooms, enters, used, room, tests, whiles}
-use Rattle.records.proofs.Calls.{in-seq, at-end}
+use Rattle.walks.proofs.Big.{big-lit}
+use Rattle.walks.proofs.Walk.{Loan, lent}
+use Rattle.walks.proofs.Locals.{Blocks, envOf, rooms, enters, used, room, tests, whiles}
+use Rattle.walks.proofs.Calls.{in-seq, at-end}
 use Rattle.records.proofs.Steps.{Blank, blank-step}
 use Rattle.records.proofs.blank_arena.Symbol as blank-def
 use Rattle.records.proofs.blank_arena.Symbol.{name as #records·blank-arena}

@@ -35,10 +35,10 @@ use Rattle.sample_session.specs.declared.Session.{Session}
 use Rattle.sample_session.proofs.Session as S
 use Rattle.sample_session.proofs.Session.Laws as S′
 use Rattle.sample_calls.proofs.Shares.{shrLoan, shares-both, unshares-both}
-use Rattle.records.proofs.Walk.{Loan, Known, lent, sliceOf}
-use Rattle.records.proofs.Locals.{enters, used, room, if-else}
-use Rattle.records.proofs.Calls.{in-seq}
-use Rattle.records.proofs.Frame.{Done2, finish2, mut2-meets}
+use Rattle.walks.proofs.Walk.{Loan, Known, lent, sliceOf}
+use Rattle.walks.proofs.Locals.{enters, used, room, if-else}
+use Rattle.walks.proofs.Calls.{in-seq}
+use Rattle.walks.proofs.Frame.{Done2, finish2, mut2-meets}
 use Rattle.replay_layer.proofs.Steps.{IsCall, CallLine, IsHash, HashLine, Noted, is-call-step, call-line-step, is-hash-step, hash-line-step, noted-step}
 use Rattle.sample_session.proofs.is_call.Symbol as is-call-def
 use Rattle.sample_session.proofs.is_call.Symbol.{name as #sample-session·is-call}

@@ -39,10 +39,10 @@ use Rattle.sample_session.proofs.Call.Laws as F′
 use Rattle.sample_session.specs.declared.Session.{Session}
 use Rattle.sample_session.proofs.Session as S
 use Rattle.sample_session.proofs.Session.Laws as S′
-use Rattle.records.proofs.Walk.{Loan, Known, lent, sliceOf}
-use Rattle.records.proofs.Locals.{enters, used}
-use Rattle.records.proofs.Calls.{in-seq}
-use Rattle.records.proofs.Frame.{Done2, finish2, mut2-meets}
+use Rattle.walks.proofs.Walk.{Loan, Known, lent, sliceOf}
+use Rattle.walks.proofs.Locals.{enters, used}
+use Rattle.walks.proofs.Calls.{in-seq}
+use Rattle.walks.proofs.Frame.{Done2, finish2, mut2-meets}
 use Rattle.replay_layer.proofs.Steps.{CallOf, Make, call-of-step, make-step}
 use Rattle.sample_session.proofs.call_of.Symbol as call-of-def
 use Rattle.sample_session.proofs.call_of.Symbol.{name as #sample-session·call-of}

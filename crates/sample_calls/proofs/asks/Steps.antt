@@ -36,9 +36,9 @@ use Rattle.layer.proofs.Settings as Y
 use Rattle.layer.proofs.Settings.Laws as Y′
 use Rattle.layer.proofs.Reply as P
 use Rattle.layer.specs.Step.{owns, area, step, query}
-use Rattle.arena_area.proofs.Two.{ss-call}
-use Rattle.records.proofs.Walk.{Loan, lent, shared, sliceOf}
-use Rattle.records.proofs.Calls.{Site}
+use Rattle.walks.proofs.Two.{ss-call}
+use Rattle.walks.proofs.Walk.{Loan, lent, shared, sliceOf}
+use Rattle.walks.proofs.Calls.{Site}
 use Rattle.arena_area.proofs.owns as owns′
 use Rattle.arena_area.proofs.owns.Symbol.{name as #arena-area·owns}
 use Rattle.arena_area.proofs.arena_area as area′

@@ -1,4 +1,4 @@
--- The entry points that release, sweep and answer, each in one step of a walk (`records`' Calls.antt).
+-- The entry points that release, sweep and answer, each in one step of a walk (`walks`' Calls.antt).
 -- Assumes `Given`, the callee's theorem, and that the table of calls is monotone under a frame.
 use mathlib.Core.Path.{_≡_, refl}
 use mathlib.Core.Bool.{Bool}
@@ -43,8 +43,8 @@ use Rattle.layer.proofs.Settings as Y
 use Rattle.layer.proofs.Settings.Laws as Y′
 use Rattle.layer.proofs.Reply as P
 use Rattle.layer.specs.Step.{release, sweep, answer, owns, area, step, act}
-use Rattle.records.proofs.Walk.{Loan, lent, sliceOf}
-use Rattle.records.proofs.Calls.{Site, mut2-call}
+use Rattle.walks.proofs.Walk.{Loan, lent, sliceOf}
+use Rattle.walks.proofs.Calls.{Site, mut2-call}
 use Rattle.chunk_release.proofs.chunk_release as release′
 use Rattle.chunk_release.proofs.chunk_release.Symbol.{name as #chunk-release·chunk-release}
 use Rattle.purge_due.proofs.purge_due as sweep′

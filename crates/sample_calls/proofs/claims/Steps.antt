@@ -1,4 +1,4 @@
--- The entry points that claim, each in one step of a walk (`records`' Calls.antt).
+-- The entry points that claim, each in one step of a walk (`walks`' Calls.antt).
 -- Assumes `Given`, the callee's theorem, and that the table of calls is monotone under a frame.
 use mathlib.Core.Path.{_≡_, refl}
 use mathlib.Core.Bool.{true, false}
@@ -38,8 +38,8 @@ use Rattle.layer.proofs.Settings as Y
 use Rattle.layer.proofs.Settings.Laws as Y′
 use Rattle.layer.proofs.Reply as P
 use Rattle.layer.specs.Step.{claim, owns, area, step, act}
-use Rattle.records.proofs.Walk.{Loan, lent, sliceOf}
-use Rattle.records.proofs.Calls.{Site, mut2-call}
+use Rattle.walks.proofs.Walk.{Loan, lent, sliceOf}
+use Rattle.walks.proofs.Calls.{Site, mut2-call}
 use Rattle.chunk_alloc.proofs.chunk_alloc as alloc′
 use Rattle.chunk_alloc.proofs.chunk_alloc.Symbol.{name as #chunk-alloc·chunk-alloc}
 use Rattle.chunk_alloc.proofs.chunk_claim as chunk-claim′

@@ -1,4 +1,4 @@
--- The entry points that register memory, each in one step of a walk (`records`' Calls.antt).
+-- The entry points that register memory, each in one step of a walk (`walks`' Calls.antt).
 -- Assumes `Given`, the callee's theorem, and that the table of calls is monotone under a frame.
 use mathlib.Core.Path.{_≡_, refl}
 use mathlib.Core.Bool.{Bool}
@@ -38,8 +38,8 @@ use Rattle.layer.proofs.Settings as Y
 use Rattle.layer.proofs.Settings.Laws as Y′
 use Rattle.layer.proofs.Reply as P
 use Rattle.layer.specs.Step.{reserve, manage, adopt, owns, area, step, act}
-use Rattle.records.proofs.Walk.{Loan, lent, sliceOf}
-use Rattle.records.proofs.Calls.{Site, mut2-call}
+use Rattle.walks.proofs.Walk.{Loan, lent, sliceOf}
+use Rattle.walks.proofs.Calls.{Site, mut2-call}
 use Rattle.reserve_os_memory.proofs.reserve_os_memory_ex as reserve′
 use Rattle.reserve_os_memory.proofs.reserve_os_memory_ex.Symbol.{name as #reserve-os-memory·reserve-os-memory-ex}
 use Rattle.manage_os_memory.proofs.manage_os_memory_ex as manage′

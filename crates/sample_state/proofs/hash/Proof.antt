@@ -40,11 +40,11 @@ use Rattle.layer.specs.declared.State.{State}
 use Rattle.layer.specs.World.{blank}
 use Rattle.layer.proofs.State as Z
 use Rattle.layer.proofs.State.Laws as Z′
-use Rattle.records.proofs.Walk.{Loan, Known, shared, sliceOf}
-use Rattle.records.proofs.Locals.{Blocks, envOf, rooms, enters, used, room, tests, whiles}
-use Rattle.records.proofs.Calls.{in-seq, swaps}
+use Rattle.walks.proofs.Walk.{Loan, Known, shared, sliceOf}
+use Rattle.walks.proofs.Locals.{Blocks, envOf, rooms, enters, used, room, tests, whiles}
+use Rattle.walks.proofs.Calls.{in-seq, swaps}
 use Rattle.records.proofs.Steps.{LoadOr, load-or-pass}
-use Rattle.arena_area.proofs.Two.{Done, finish, meets}
+use Rattle.walks.proofs.Two.{Done, finish, meets}
 use Rattle.sample_state.specs.State.{withArena, withStamps, ofState, withArenas, hashOf}
 use Rattle.sample_state.proofs.Steps.{CountOf, OfState, WithArena, WithStamps, count-of-step, of-state-step, with-arena-step, with-stamps-pass}
 use Rattle.records.proofs.load_or.Symbol as load-def

@@ -38,10 +38,10 @@ use Rattle.layer.specs.declared.Sweep.{Sweep}
 use Rattle.layer.specs.Table.{at}
 use Rattle.layer.proofs.Sweep as X
 use Rattle.layer.proofs.Sweep.Laws as X′
-use Rattle.records.proofs.Walk.{Loan, Known, shared, sliceOf}
-use Rattle.records.proofs.Locals.{enters, used, room}
-use Rattle.records.proofs.Calls.{in-seq}
-use Rattle.records.proofs.Frame.{DoneS, finishS, shr-meets}
+use Rattle.walks.proofs.Walk.{Loan, Known, shared, sliceOf}
+use Rattle.walks.proofs.Locals.{enters, used, room}
+use Rattle.walks.proofs.Calls.{in-seq}
+use Rattle.walks.proofs.Frame.{DoneS, finishS, shr-meets}
 use Rattle.sweeping.specs.Going.{passes}
 use Rattle.sweeping.proofs.Steps.{PassesBy, passes-by-at}
 use Rattle.sweeping.proofs.passes_by.Symbol as by-def

@@ -38,10 +38,10 @@ use Rattle.layer.specs.World.{blank}
 use Rattle.layer.specs.Table.{at}
 use Rattle.layer.proofs.Sweep as X
 use Rattle.layer.proofs.Sweep.Laws as X′
-use Rattle.records.proofs.Walk.{Loan, Known, shared, sliceOf}
-use Rattle.records.proofs.Locals.{enters, used, if-else}
-use Rattle.records.proofs.Calls.{in-seq}
-use Rattle.records.proofs.Frame.{DoneS, finishS, shr-meets}
+use Rattle.walks.proofs.Walk.{Loan, Known, shared, sliceOf}
+use Rattle.walks.proofs.Locals.{enters, used, if-else}
+use Rattle.walks.proofs.Calls.{in-seq}
+use Rattle.walks.proofs.Frame.{DoneS, finishS, shr-meets}
 use Rattle.records.proofs.Ends.{past}
 use Rattle.sweeping.specs.Going.{passes}
 use Rattle.sweeping.proofs.Steps.{PassesAt, passes-at-pass}

@@ -47,10 +47,10 @@ use Rattle.layer.proofs.Sweep.Laws as X′
 use Rattle.layer.proofs.Reply as P
 use Rattle.layer.proofs.Reply.Laws as P′
 use Rattle.sweeps.specs.Core.{arriveArena}
-use Rattle.records.proofs.Walk.{Loan, lent, sliceOf}
-use Rattle.records.proofs.Locals.{Blocks, envOf, rooms, enters, used, room, tests, whiles}
-use Rattle.records.proofs.Calls.{in-seq, at-end}
-use Rattle.records.proofs.Frame.{Done2, finish2, mut2-meets}
+use Rattle.walks.proofs.Walk.{Loan, lent, sliceOf}
+use Rattle.walks.proofs.Locals.{Blocks, envOf, rooms, enters, used, room, tests, whiles}
+use Rattle.walks.proofs.Calls.{in-seq, at-end}
+use Rattle.walks.proofs.Frame.{Done2, finish2, mut2-meets}
 use Rattle.sweeps.proofs.swept_reply.Symbol as swept-def
 use Rattle.sweeps.proofs.swept_reply.Symbol.{name as #sweeps·swept-reply}
 use Rattle.sweeps.proofs.swept_reply.Met as swept-thm

@@ -48,10 +48,10 @@ use Rattle.layer.proofs.Sweep.Laws as X′
 use Rattle.sweeps.specs.Core.{isAsked, arrives, arriveFound, arriveArena, arriveReply}
 use Rattle.sweeps.proofs.Stay as Y
 use Rattle.sweeps.proofs.Stay.Laws as Y′
-use Rattle.records.proofs.Walk.{Loan, Known, lent, sliceOf}
-use Rattle.records.proofs.Locals.{enters, used, room, if-else}
-use Rattle.records.proofs.Calls.{in-seq, swaps}
-use Rattle.records.proofs.Frame.{Done2, finish2, mut2-meets}
+use Rattle.walks.proofs.Walk.{Loan, Known, lent, sliceOf}
+use Rattle.walks.proofs.Locals.{enters, used, room, if-else}
+use Rattle.walks.proofs.Calls.{in-seq, swaps}
+use Rattle.walks.proofs.Frame.{Done2, finish2, mut2-meets}
 use Rattle.records.proofs.Steps.{LoadOr, StoreIf, load-or-step, store-if-step}
 use Rattle.sweeping.specs.declared.Visit.{Visit}
 use Rattle.sweeping.specs.Going.{passes, visitOf}

@@ -47,11 +47,11 @@ use Rattle.judge.proofs.Head as D
 use Rattle.judge.proofs.Head.Laws as D′
 use Rattle.judge.proofs.spans.Span as P
 use Rattle.judge.proofs.spans.Span.Laws as P′
-use Rattle.records.proofs.Walk.{Loan, Known, shared, sliceOf}
-use Rattle.records.proofs.Locals.{Blocks, envOf, rooms, enters, used, room, if-else, tests, whiles}
-use Rattle.records.proofs.Operands.{arg, arg-fits}
-use Rattle.records.proofs.Calls.{in-seq}
-use Rattle.records.proofs.Frame.{DoneS, finishS, shr-meets}
+use Rattle.walks.proofs.Walk.{Loan, Known, shared, sliceOf}
+use Rattle.walks.proofs.Locals.{Blocks, envOf, rooms, enters, used, room, if-else, tests, whiles}
+use Rattle.walks.proofs.Operands.{arg, arg-fits}
+use Rattle.walks.proofs.Calls.{in-seq}
+use Rattle.walks.proofs.Frame.{DoneS, finishS, shr-meets}
 use Rattle.table.proofs.TableLaws.{ends-at, alone, apart-is, covers-none, covers-more}
 use Rattle.table.proofs.Leaf.{NoSpan, MeetsNone, SpanWith, no-span-step, meets-none-pass, span-step}
 use Rattle.table.proofs.Steps.{HeadOr, head-or-pass}

@@ -49,10 +49,10 @@ use Rattle.judge.proofs.Query as Q
 use Rattle.judge.proofs.Query.Laws as Q′
 use Rattle.judge.proofs.Head as D
 use Rattle.judge.proofs.Head.Laws as D′
-use Rattle.records.proofs.Walk.{Loan, Known, shared, sliceOf}
-use Rattle.records.proofs.Locals.{enters, used, room, if-else}
-use Rattle.records.proofs.Calls.{in-seq}
-use Rattle.records.proofs.Frame.{DoneS, finishS, shr-meets}
+use Rattle.walks.proofs.Walk.{Loan, Known, shared, sliceOf}
+use Rattle.walks.proofs.Locals.{enters, used, room, if-else}
+use Rattle.walks.proofs.Calls.{in-seq}
+use Rattle.walks.proofs.Frame.{DoneS, finishS, shr-meets}
 use Rattle.table.proofs.Leaf.{RunAsked, ChunksOf, IsAt, AsksTails, HitHead, run-asked-step, chunks-of-step, is-at-step, asks-step, hit-head-step}
 use Rattle.table.proofs.Steps.{HeadOr, head-or-pass}
 use Rattle.table.proofs.TableLaws.{is-lent}

@@ -49,10 +49,10 @@ use Rattle.judge.proofs.Head as D
 use Rattle.judge.proofs.Head.Laws as D′
 use Rattle.judge.proofs.spans.Span as P
 use Rattle.judge.proofs.spans.Span.Laws as P′
-use Rattle.records.proofs.Walk.{Loan, Known, shared, sliceOf}
-use Rattle.records.proofs.Locals.{enters, used, room, if-else}
-use Rattle.records.proofs.Calls.{in-seq}
-use Rattle.records.proofs.Frame.{DoneS, finishS, shr-meets}
+use Rattle.walks.proofs.Walk.{Loan, Known, shared, sliceOf}
+use Rattle.walks.proofs.Locals.{enters, used, room, if-else}
+use Rattle.walks.proofs.Calls.{in-seq}
+use Rattle.walks.proofs.Frame.{DoneS, finishS, shr-meets}
 use Rattle.table.proofs.TableLaws.{outside-alone, scan-overlaps}
 use Rattle.table.proofs.Leaf.{Outside, Range, IsNothing, outside-step, range-step, is-nothing-step}
 use Rattle.table.proofs.Steps.{Scan, scan-pass}

@@ -40,9 +40,9 @@ use Rattle.arena.proofs.Arena as T
 use Rattle.arena.proofs.Arena.Laws as T′
 use Rattle.judge.proofs.Query as Q
 use Rattle.judge.proofs.Query.Laws as Q′
-use Rattle.records.proofs.Walk.{Loan, Known, shared, sliceOf}
-use Rattle.records.proofs.Calls.{in-seq}
-use Rattle.records.proofs.Frame.{DoneS, finishS, shr-meets}
+use Rattle.walks.proofs.Walk.{Loan, Known, shared, sliceOf}
+use Rattle.walks.proofs.Calls.{in-seq}
+use Rattle.walks.proofs.Frame.{DoneS, finishS, shr-meets}
 use Rattle.records.proofs.load_or.Symbol as load-def
 use Rattle.records.proofs.load_or.Symbol.{name as #records·load-or}
 use Rattle.records.proofs.load_or.Met as load-thm
@@ -64,7 +64,7 @@ use Rattle.layer.proofs.Question as N
 use Rattle.layer.proofs.Question.Laws as N′
 use Rattle.judge.specs.declared.Query.the-variants.{Unsound}
 use Rattle.judge.specs.Scan.{scanOf}
-use Rattle.records.proofs.Locals.{enters, used, room, if-else}
+use Rattle.walks.proofs.Locals.{enters, used, room, if-else}
 use Rattle.table.proofs.TableLaws.{sounds-scan, few-at, row-is}
 use Rattle.table.proofs.Leaf.{IsAt, Unsounds, Lent, CountOf, QuestionOf, About, Asked, Questions, is-at-step, unsound-step, lent-step, count-of-step, question-of-step, about-step, asked-step, question-step}
 use Rattle.records.proofs.Steps.{LoadOr, load-or-pass}

@@ -46,11 +46,11 @@ use Rattle.judge.specs.declared.Query.{Query}
 use Rattle.judge.specs.Scan.{hit, scanOf}
 use Rattle.judge.proofs.Query as Q
 use Rattle.judge.proofs.Query.Laws as Q′
-use Rattle.records.proofs.Walk.{Loan, Known, shared, sliceOf}
-use Rattle.records.proofs.Locals.{Blocks, envOf, rooms, enters, used, room, if-else, tests, whiles}
-use Rattle.records.proofs.Operands.{arg, arg-fits}
-use Rattle.records.proofs.Calls.{in-seq}
-use Rattle.records.proofs.Frame.{DoneS, finishS, shr-meets}
+use Rattle.walks.proofs.Walk.{Loan, Known, shared, sliceOf}
+use Rattle.walks.proofs.Locals.{Blocks, envOf, rooms, enters, used, room, if-else, tests, whiles}
+use Rattle.walks.proofs.Operands.{arg, arg-fits}
+use Rattle.walks.proofs.Calls.{in-seq}
+use Rattle.walks.proofs.Frame.{DoneS, finishS, shr-meets}
 use Rattle.table.proofs.Leaf.{Find, Miss, HitsAt, found-step, nothing-step, hits-at-pass}
 use Rattle.table.proofs.hits_at.Symbol as hits-def
 use Rattle.table.proofs.hits_at.Symbol.{name as #table·hits-at}

@@ -37,10 +37,10 @@ use Rattle.layer.proofs.Reply.Laws as Y′
 use Rattle.entry.specs.declared.writing.Writing.{Writing}
 use Rattle.entry.proofs.writing.Writing as X
 use Rattle.entry.proofs.writing.Writing.Laws as X′
-use Rattle.records.proofs.Walk.{Loan, Known, lent, sliceOf}
-use Rattle.records.proofs.Locals.{enters, used}
-use Rattle.records.proofs.Calls.{in-seq, swaps}
-use Rattle.records.proofs.Frame.{Done2, finish2, mut2-meets}
+use Rattle.walks.proofs.Walk.{Loan, Known, lent, sliceOf}
+use Rattle.walks.proofs.Locals.{enters, used}
+use Rattle.walks.proofs.Calls.{in-seq, swaps}
+use Rattle.walks.proofs.Frame.{Done2, finish2, mut2-meets}
 use Rattle.records.proofs.Steps.{StoreIf, store-if-step}
 use Rattle.entry.proofs.writing.WriteSteps.{RecordPlace, RecordOf, StampedOf, ReplyOf, ZeroStamps, record-place-step, record-of-step, stamped-of-step, reply-of-step, zero-stamps-step}
 use Rattle.registers.specs.Core.{stampsWith}

@@ -37,10 +37,10 @@ use Rattle.arena.specs.Claiming.{dirtyRun}
 use Rattle.arena.specs.Record.{withDirty}
 use Rattle.arena.proofs.Arena as T
 use Rattle.layer.specs.World.{blank}
-use Rattle.records.proofs.Walk.{Loan, Known, lent, sliceOf}
-use Rattle.records.proofs.Locals.{enters, used}
-use Rattle.records.proofs.Calls.{in-seq}
-use Rattle.records.proofs.Frame.{Done, finish, mut-meets}
+use Rattle.walks.proofs.Walk.{Loan, Known, lent, sliceOf}
+use Rattle.walks.proofs.Locals.{enters, used}
+use Rattle.walks.proofs.Calls.{in-seq}
+use Rattle.walks.proofs.Frame.{Done, finish, mut-meets}
 use Rattle.records.proofs.MapFields.{dirty-cut}
 use Rattle.records.proofs.map_changes.Steps.{SetRow, set-row-at}
 use Rattle.records.proofs.map_changes.dirty_at.Key.{name as #map-changes·dirty-at}

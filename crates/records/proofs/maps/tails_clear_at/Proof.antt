@@ -38,10 +38,10 @@ use Rattle.lookup.proofs.soundness.tail_is_clear.Met as callee-thm
 use Rattle.arena.specs.declared.Arena.{Arena}
 use Rattle.arena.proofs.Arena as T
 use Rattle.layer.specs.World.{blank}
-use Rattle.records.proofs.Walk.{Loan, Known, shared, sliceOf}
-use Rattle.records.proofs.Locals.{enters, used, room, if-else}
-use Rattle.records.proofs.Calls.{in-seq}
-use Rattle.records.proofs.Frame.{DoneS, finishS, shr-meets}
+use Rattle.walks.proofs.Walk.{Loan, Known, shared, sliceOf}
+use Rattle.walks.proofs.Locals.{enters, used, room, if-else}
+use Rattle.walks.proofs.Calls.{in-seq}
+use Rattle.walks.proofs.Frame.{DoneS, finishS, shr-meets}
 use Rattle.records.proofs.MapFields.{used-look, dirty-look, committed-look, pending-look}
 use Rattle.records.proofs.maps.Steps.{TailClear, tail-clear-at}
 use Rattle.records.proofs.maps.tails_clear_at.Key.{name as #maps·tails-clear-at}

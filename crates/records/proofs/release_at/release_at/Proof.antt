@@ -42,10 +42,10 @@ use Rattle.arena.proofs.Commitment as D
 use Rattle.arena.proofs.Commitment.Laws as D′
 use Rattle.arena.specs.Releasing.{releaseRun}
 use Rattle.layer.specs.World.{blank}
-use Rattle.records.proofs.Walk.{Loan, Known, lent, sliceOf}
-use Rattle.records.proofs.Locals.{envOf, enters, used, room, if-else}
-use Rattle.records.proofs.Calls.{in-seq, at-end}
-use Rattle.records.proofs.Frame.{Done, finish, mut-meets}
+use Rattle.walks.proofs.Walk.{Loan, Known, lent, sliceOf}
+use Rattle.walks.proofs.Locals.{envOf, enters, used, room, if-else}
+use Rattle.walks.proofs.Calls.{in-seq, at-end}
+use Rattle.walks.proofs.Frame.{Done, finish, mut-meets}
 use Rattle.records.proofs.map_changes.give_back_at.Symbol as give-def
 use Rattle.records.proofs.map_changes.give_back_at.Symbol.{name as #map-changes·give-back-at}
 use Rattle.records.proofs.map_changes.give_back_at.Met as give-thm

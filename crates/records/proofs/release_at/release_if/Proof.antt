@@ -38,10 +38,10 @@ use Rattle.arena.proofs.Commitment as D
 use Rattle.arena.proofs.Commitment.Laws as D′
 use Rattle.arena.specs.Releasing.{releaseRun}
 use Rattle.layer.specs.World.{blank}
-use Rattle.records.proofs.Walk.{Loan, Known, lent, sliceOf}
-use Rattle.records.proofs.Locals.{envOf, enters, used, room, if-else}
-use Rattle.records.proofs.Calls.{at-end}
-use Rattle.records.proofs.Frame.{Done, finish, mut-meets}
+use Rattle.walks.proofs.Walk.{Loan, Known, lent, sliceOf}
+use Rattle.walks.proofs.Locals.{envOf, enters, used, room, if-else}
+use Rattle.walks.proofs.Calls.{at-end}
+use Rattle.walks.proofs.Frame.{Done, finish, mut-meets}
 use Rattle.records.proofs.release_at.release_at.Symbol as release-def
 use Rattle.records.proofs.release_at.release_at.Symbol.{name as #release-at·release-at}
 use Rattle.records.proofs.release_at.release_at.Met as release-thm

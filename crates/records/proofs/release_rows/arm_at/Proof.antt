@@ -34,10 +34,10 @@ use Rattle.arena.specs.declared.Arena.{Arena}
 use Rattle.arena.specs.Record.{withDeadline}
 use Rattle.arena.proofs.Arena as T
 use Rattle.layer.specs.World.{blank}
-use Rattle.records.proofs.Walk.{Loan, Known, lent, sliceOf}
-use Rattle.records.proofs.Locals.{enters, used}
-use Rattle.records.proofs.Calls.{in-seq}
-use Rattle.records.proofs.Frame.{Done, finish, mut-meets}
+use Rattle.walks.proofs.Walk.{Loan, Known, lent, sliceOf}
+use Rattle.walks.proofs.Locals.{enters, used}
+use Rattle.walks.proofs.Calls.{in-seq}
+use Rattle.walks.proofs.Frame.{Done, finish, mut-meets}
 use Rattle.records.proofs.Deadline.{deadline-cut}
 use Rattle.records.proofs.release_rows.Steps.{ArmIn, arm-in-at}
 use Rattle.records.proofs.release_rows.arm_in.Symbol as arm-in-def

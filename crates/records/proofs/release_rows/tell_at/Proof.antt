@@ -39,10 +39,10 @@ use Rattle.arena.specs.Releasing.{tellRun}
 use Rattle.arena.specs.Record.{withCommitted}
 use Rattle.arena.proofs.Arena as T
 use Rattle.layer.specs.World.{blank}
-use Rattle.records.proofs.Walk.{Loan, Known, lent, sliceOf}
-use Rattle.records.proofs.Locals.{enters, used}
-use Rattle.records.proofs.Calls.{in-seq}
-use Rattle.records.proofs.Frame.{Done, finish, mut-meets}
+use Rattle.walks.proofs.Walk.{Loan, Known, lent, sliceOf}
+use Rattle.walks.proofs.Locals.{enters, used}
+use Rattle.walks.proofs.Calls.{in-seq}
+use Rattle.walks.proofs.Frame.{Done, finish, mut-meets}
 use Rattle.records.proofs.MapFields.{committed-cut}
 use Rattle.records.specs.Rows.{tellRow}
 use Rattle.records.proofs.release_rows.RowLaws.{told-row}

@@ -37,10 +37,10 @@ use Rattle.arena.specs.declared.Arena.{Arena}
 use Rattle.arena.specs.Claiming.{runFresh}
 use Rattle.arena.proofs.Arena as T
 use Rattle.layer.specs.World.{blank}
-use Rattle.records.proofs.Walk.{Loan, Known, shared, sliceOf}
-use Rattle.records.proofs.Locals.{enters, used}
-use Rattle.records.proofs.Calls.{in-seq}
-use Rattle.records.proofs.Frame.{DoneS, finishS, shr-meets}
+use Rattle.walks.proofs.Walk.{Loan, Known, shared, sliceOf}
+use Rattle.walks.proofs.Locals.{enters, used}
+use Rattle.walks.proofs.Calls.{in-seq}
+use Rattle.walks.proofs.Frame.{DoneS, finishS, shr-meets}
 use Rattle.records.proofs.MapFields.{dirty-look}
 use Rattle.records.proofs.run_maps.Steps.{RowFree, row-free-at}
 use Rattle.records.proofs.run_maps.fresh_at.Key.{name as #run-maps·fresh-at}

@@ -42,10 +42,10 @@ use Rattle.layer.proofs.Settings as Y
 use Rattle.layer.proofs.Settings.Laws as Y′
 use Rattle.layer.proofs.Reply as P
 use Rattle.layer.proofs.Reply.Laws as P′
-use Rattle.records.proofs.Walk.{Loan, Known, shared, sliceOf}
-use Rattle.records.proofs.Locals.{enters, used, room, if-else}
-use Rattle.records.proofs.Calls.{in-seq}
-use Rattle.arena_area.proofs.Two.{Done, finish, meets}
+use Rattle.walks.proofs.Walk.{Loan, Known, shared, sliceOf}
+use Rattle.walks.proofs.Locals.{enters, used, room, if-else}
+use Rattle.walks.proofs.Calls.{in-seq}
+use Rattle.walks.proofs.Two.{Done, finish, meets}
 use Rattle.sample_made.specs.declared.Made.{Made}
 use Rattle.sample_calls.specs.Asking.{asking}
 use Rattle.sample_made.proofs.Made as X

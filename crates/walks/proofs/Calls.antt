@@ -35,7 +35,7 @@ use denote.Triple.End.{Kepts}
 use denote.Triple.Entry.{Args}
 use denote.Triple.Spec.{tripleOf}
 use denote.Triple.Statement.{Contract, Triple}
-use Rattle.records.proofs.Walk.{Loan, ref, sliceOf, lent, ownMut, ownShr, shared, holdS, let-goS, Owed, OwedS, lends, backs, shares-out, shares-back}
+use Rattle.walks.proofs.Walk.{Loan, ref, sliceOf, lent, ownMut, ownShr, shared, holdS, let-goS, Owed, OwedS, lends, backs, shares-out, shares-back}
 
 -- ---- the signatures
 abbrev pub plainEnded : (S : RattleType) (rest : List (Slot 0)) → Kepts rest → Ended

@@ -30,8 +30,8 @@ use denote.Triple.End.{Kepts, Fins}
 use denote.Triple.Entry.{Args}
 use denote.Triple.Spec.{Meets, tripleOf}
 use denote.Triple.Walked.{says, Stays, stay-slice, stay-none-slice, stay-dropped, fitsOf, hasOf, walkOf, Silent, AllGo, goes-slice, goes-none-slice, goes-dropped, ends-at, walked, walked-at, walk-meets, walk-meets-at}
-use Rattle.records.proofs.Walk.{Loan, Known, ref, sliceOf, lent, shared, ownMut, ownShr, hold, let-go, holdS, let-goS}
-use Rattle.records.proofs.Calls.{mutEnded, shrEnded, mut2Ended}
+use Rattle.walks.proofs.Walk.{Loan, Known, ref, sliceOf, lent, shared, ownMut, ownShr, hold, let-go, holdS, let-goS}
+use Rattle.walks.proofs.Calls.{mutEnded, shrEnded, mut2Ended}
 
 module _ {n : ℕ} where
   -- nothing is had of any

@@ -30,9 +30,9 @@ use denote.Triple.Entry.{Args}
 use denote.Triple.Spec.{Meets}
 use denote.Triple.Statement.{Triple}
 use denote.Triple.Walked.{Stays, stay-slice, stay-none-slice, hasOf, walkOf, goes-slice, goes-none-slice, ends-at, walked, walk-meets}
-use Rattle.records.proofs.Walk.{Loan, Known, ref, sliceOf, lent, shared, ownMut, ownShr, hold, let-go, holdS, let-goS, Owed, lends, backs}
-use Rattle.records.proofs.Calls.{Site, Con}
-use Rattle.records.proofs.Frame.{dropped, fits-none, has-none, Silents, all-go}
+use Rattle.walks.proofs.Walk.{Loan, Known, ref, sliceOf, lent, shared, ownMut, ownShr, hold, let-go, holdS, let-goS, Owed, lends, backs}
+use Rattle.walks.proofs.Calls.{Site, Con}
+use Rattle.walks.proofs.Frame.{dropped, fits-none, has-none, Silents, all-go}
 
 abbrev pub ssEnded : (R0 R1 S : RattleType) (rest : List (Slot 2)) → Kepts rest → Ended
 ssEnded R0 R1 S rest ks = record { signature = record { lifetimes = 2; outlives = []; params = shrSlice 0 tt (λ _. R0) ∷ shrSlice 1 tt (λ _. R1) ∷ rest; result = plain (λ _. S) }; kept = (yes, (yes, ks)) }

@@ -24,7 +24,7 @@ use types.Kit.{Given, Item, nth, del, push, pop, pull, unpull, mean, Goal, Post,
 use types.Run.{Opd, lit, true-lit, false-lit, well-typed}
 use denote.Laws.{Is}
 use denote.Signed.{SInt}
-use Rattle.records.proofs.Locals.{in-local}
+use Rattle.walks.proofs.Locals.{in-local}
 
 -- what a cell holds
 abbrev valueIn : Fml → Val

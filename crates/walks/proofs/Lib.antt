@@ -1,0 +1,8 @@
+pub mod Big
+pub mod Walk
+pub mod Locals
+pub mod Operands
+pub mod Calls
+pub mod Frame
+pub mod Two
+pub mod Walking

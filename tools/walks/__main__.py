@@ -1,0 +1,252 @@
+"""Writes the proofs of walked functions: those over lent records, which the borrow checker does not cover.
+
+A walk goes through a function's MIR step by step. What it says beside the code is little: why what a callee requires holds, and why
+what the function leaves is what its contract says. That stands in crates/NAME/walks/FUNCTION.walk; all else follows from the MIR and the
+contracts, and is written here:
+
+    crates/NAME/proofs/Callable.antt             a step lemma for each function of NAME that a walk calls
+    crates/NAME/proofs/FUNCTION/Proof.antt       the walk, with its frame and its citations
+    crates/walks/proofs/Walking.antt             the names of the libraries that these use, passed on
+
+A .walk file begins with the sentence of the proof's head. Then come, in any order,
+
+    use MODULE.{names}                  what the terms below cite
+    requires CALLEE: TERM               of what CALLEE requires; `CALLEE 2` for its second call in the code
+    returns: TERM                       of the contract, a line for each return in the code
+    unfolding NAMES                     under the walk's signature
+    found CALLEES                       only the numbers that these are passed are found in the code, and others are named: for a long
+                                        function, where finding each takes too many steps
+
+A term may go on in lines that are set in. In it stand for themselves: the parameters, a slice as the list that it holds at the entry; each
+local of the code that has a name; `known-SLICE`, what is known of a lent slice; `need`, what the function requires; `h1`, `h2` .. what
+the tests on the way have shown, in the order of the code; and for a call whose contract is no equation, of a local x, `x-says` and
+the lists `SLICE-1`, `SLICE-2` .. that it leaves.
+
+Usage: python3 tools/walks            writes them all
+       python3 tools/walks --check    says which of them are not as they would be written, and fails if any is not
+
+It reads the MIR by `rt mir`, which proves first what a crate stands on.
+"""
+import re
+import sys
+
+sys.dont_write_bytecode = True
+from kinds import Function, chain, nest, substituted
+from lemmas import bound, element, held, step_lemma
+from reading import CRATES, ROOT, Mir, Script, functions
+from uses import FRAMES, LIBRARY, Uses, seen_from
+from walk import DONE, MEETS, Walk
+
+
+MADE = "Written by tools/walks."
+GIVEN = "{M : Type 1} (𝓤 : URA M) (H : Heap 𝓤) (A : Atoms 𝓤)"
+
+
+def walking_file():
+    """The names of the libraries, passed on."""
+    lines = []
+    for line in LIBRARY.strip().split("\n"):
+        module, names = line.split(": ")
+        names = ["Opd as Operand" if n == "Operand" else n for n in names.split()]
+        word = "unfoldable pub use" if "tablesOf" in names else "pub use"
+        lines.append(f"{word} {seen_from(module, 'walks')}.{{{', '.join(names)}}}")
+    return f"-- What walks use of the libraries, passed on by one name. {MADE}\n" + "\n".join(lines) + "\n"
+
+
+def steps_file(crate, called):
+    """The step lemmas of a crate's functions."""
+    uses, lemmas, contracts, cites = Uses(crate), [], [], []
+    for f, shared in called:
+        for _, kind in f.plain:
+            uses.kind(kind)
+        for _, s in f.slices:
+            uses.kind(s.element)
+        uses.kind(f.result)
+        text = uses.clause(f.source, step_lemma(f, shared))
+        lemmas.append(text)
+    for f in {f.source.path: f for f, _ in called}.values():
+        contracts.append(f"  abbrev pub {f.contract} : Contract 𝓤\n  {f.contract} = tripleOf 𝓤 H A {f.word}′.signature ({f.word}′.spec 𝓤 H A mem run)\n")
+        cites += [f"use {f.module(crate)} as {f.word}′", f"use {f.module(crate)}.Symbol.{{name as {f.key}}}"]
+    if any(f.shape == "ss" for f, _ in called):
+        cites.append(f"use {seen_from('Rattle.walks.proofs.Two', crate)}.{{ss-call}}")
+    names = ", ".join(re.match(r"  pub (\S+)", lemma)[1] for lemma in lemmas)
+    head = f"-- Functions of `{crate}` that a walk calls, each in one step: {names}. {MADE}\n-- Assumes `Given`, the callee's theorem, and that the table of calls is monotone under a frame.\n"
+    body = f"""
+-- the contracts that a walk cites
+module _ {GIVEN} (mem : Memory → SProp 𝓤) (run : Routine → Fun 𝓤) where
+""" + "\n".join(contracts) + """
+module _ {M : Type 1} {𝓤 : URA M} {H : Heap 𝓤} {A : Atoms 𝓤} {K : Type 0} {W : Given 𝓤 H A} {Γ : List (Item 𝓤)} {C : Calls 𝓤 H} {E : Env 𝓤 H} {xs : List Operand} {G : Goal 𝓤 H} {after : Val → Goal 𝓤 H} {more : Item 𝓤} where
+""" + "\n".join(lemmas)
+    return head + uses.lines(body, cites) + "\n" + body
+
+
+def proof_file(f, script, walk):
+    """A walked function's proof."""
+    own, uses = f.source.crate, walk.uses
+    for _, kind in f.plain:
+        uses.kind(kind)
+    for _, s in f.slices:
+        uses.kind(s.element)
+    uses.kind(f.result)
+    said = uses.clause(f.source, f.says()[0])
+    needs = uses.clause(f.source, f.needs()) if f.needs() else None
+    text = "\n".join(walk.text())
+    for callee, _ in walk.called.values():
+        uses.kind(callee.result)
+    slices, plain, kind = f.slices, f.plain, f.result
+    count = len(slices)
+    signed = [n for n, k in plain if k.form == "signed"]
+    at = {n: "(x" + " .1" * (count + i) + " .0)" for i, (n, _) in enumerate(plain)} | {n: "(x" + " .1" * i + " .0 .now)" for i, (n, _) in enumerate(slices)}
+    are = {n: "(are" + " .1" * i + " .0" + (" .1" if k.form in ("number", "signed") else "") + ")" for i, (n, k) in enumerate(plain)}
+    groups = [f"({' '.join(f'{w}-{n}' for n, _ in slices)} : {ty})" for w, ty in (("κ", "Lft"), ("q", "Share"), ("γ", "GName"), ("b", "ℕ"), ("o", "ℕ"))]
+    binders = groups + [f"({n} : List {element(s)})" for n, s in slices] + [f"({'bits-' + n} : ℕ)" if k.form == "signed" else f"({n} : {k.denot})" for n, k in plain]
+    lifetimes = ["(κs" + " .1" * i + " .0)" for i in range(count)] if count > 1 else ["κ"]
+    shares = [f"q{i}" for i in range(count)]
+    place_at = lambda i, part: "(x" + " .1" * i + f" .0 {part})"
+    instance = lifetimes + shares + [place_at(i, part) for part in (".name", ".ptr .0", ".ptr .1") for i in range(count)]
+    instance += [at[n] for n, _ in slices] + [f"(ofZ w32 {at[n]})" if k.form == "signed" else at[n] for n, k in plain]
+    out = []
+    out.append(f"module _ {GIVEN} (W : Given 𝓤 H A) (mem : Memory → SProp 𝓤) (run : Routine → Fun 𝓤) (𝓣 : Tables 𝓤 H)")
+    out += [f"    (known-{c.word} : Triple 𝓤 (𝓣 .C {c.key}) ({c.contract} 𝓤 H A mem run))" for c, _ in walk.called.values()]
+    out[-1] += " where"
+    out.append(f"  module _ {' '.join(binders)} where")
+    for n, _ in slices:
+        out += [f"    abbrev L-{n} : Loan", f"    L-{n} = record {{ κ = κ-{n}; q = q-{n}; γ = γ-{n}; b = b-{n}; o = o-{n}; n = length {n} }}", ""]
+    for n, k in plain:
+        if k.form == "signed":
+            out += [f"    abbrev {n} : ℤ", f"    {n} = toZ w32 bits-{n}", ""]
+        elif k.form == "named":
+            out += [f"    abbrev v-{n} : Val", f"    v-{n} = {k.laws}.val T-{k.alias}.the-type L-{k.alias}.the-laws {n}", ""]
+    changed = [(n, s) for n, s in slices if s.changes]
+    arrows = " → ".join([kind.denot, *(f"List {element(s)}" for _, s in changed), "Type 0"])
+    ends_ = " ".join(["out", *(f"{n}-exit" for n, _ in changed)])
+    out += [f"    abbrev χ : {arrows}", f"    χ {ends_} = {said}", ""]
+    rows = " ".join(s.element.row for _, s in slices)
+    loans = " ".join(f"L-{n}" for n, _ in slices)
+    lists = " ".join(n for n, _ in slices)
+    machine = chain([f"sliceOf L-{n}" for n, _ in slices] + [f"vint w32 bits-{n}" if k.form == "signed" else bound(n, k)[2] for n, k in plain])
+    head = held([(n, s, not s.changes) for n, s in slices], [n for n, _ in slices], "‵ ftrue")
+    out += [f"    abbrev Shown : ({arrows}) → Type 1", f"    Shown says = Sq W ({head} ∷ []) (prop (WpFn 𝓤 H (𝓣 .C) (𝓣 .Λ) code.function ({machine}) ({DONE[f.shape]} 𝓤 H A {rows} {loans} {kind.row} {lists} says)))", ""]
+    out += ["    abbrev Post : Val → SProp 𝓤", f"    Post = {DONE[f.shape]} 𝓤 H A {rows} {loans} {kind.row} {lists} χ", ""]
+    for n, denot, term in walk.defined:
+        out += [f"    abbrev {n} : {denot}", f"    {n} = {term}", ""]
+    facts, names = [f"Known {s.element.row} L-{n} {n}" for n, s in slices], [f"known-{n}" for n, _ in slices]
+    given = [f"known{i}" for i in range(count)]
+    for n, k in plain:
+        if k.form == "number":
+            facts.append(f"{n} < 2 ^ {k.width}")
+            names.append(f"f-{n}")
+            given.append(are[n])
+        elif k.form == "signed":
+            facts.append(f"Fits w32 bits-{n}")
+            names.append(f"f-{n}")
+            given.append(f"(ofZ-fits w32 {at[n]} (record {{ sfits = {are[n]} }}))")
+        elif k.form == "named":
+            facts.append(f"Is {k.row} {n} (v-{n} ∷ [])")
+            names.append(f"g-{n}")
+            given.append(are[n])
+    if needs:
+        facts.append(f"({needs})")
+        names.append("need")
+        given.append("l")
+    out += [f"    walk : {' → '.join(facts)} → Shown χ"] + ([f"    unfolding {script.unfolding}"] if script.unfolding else []) + [f"    walk {' '.join(names)} =", text, ""]
+    projected = lambda words, skip=(): substituted(words, {n: p for n, p in at.items() if n not in skip})
+    shown = projected(said)
+    contract = f"(λ κs x g {ends_}. {shown})"
+    walked = f"walk {' '.join(instance)} {' '.join(given)}"
+    for n in signed:
+        once = substituted(projected(said, [n]), {n: "z"})
+        walked = f"subst (λ (z : ℤ). Shown {' '.join(instance)} (λ {ends_}. {once})) (toZ-ofZ w32 {at[n]} (record {{ sfits = {are[n]} }})) ({walked})"
+    slots, yeses = chain([f"plain (λ _. {k.row})" for _, k in plain]), nest(["yes"] * len(plain))
+    params = " ".join((["κs"] if count > 1 else ["κ"]) + shares + ["x", "g"] + [f"known{i}" for i in range(count)] + ["are", "l"])
+    fact = (f"(λ κs x g. {projected(needs)})", "(λ κs x g. id⊢ 𝓤 _)") if needs else ("(λ κs x g. Unit {0})", "(λ κs x g. factI 𝓤 (Unit {0}) _ tt)")
+    out += [
+        f"  {f.word}-meets : Meets 𝓤 H A {f.word}′.signature (WpFn 𝓤 H (𝓣 .C) (𝓣 .Λ) code.function) ({f.word}′.spec 𝓤 H A mem run)",
+        f"  {f.word}-meets = {MEETS[f.shape]} 𝓤 H A W {rows} {kind.row} ({slots}) {yeses} ({f.word}′.clauses 𝓤 H A mem run)",
+        f"      (λ κs. {nest([k.vals() for _, k in plain])}) (λ κs a. {nest(['tt'] * len(plain))})",
+        f"      {fact[0]} {contract}",
+        f"      ({kind.makes()}) {nest(['(λ κs x f. refl)'] * len(plain))} (λ κs. {nest([k.tells() for _, k in plain])})",
+        f"      {fact[1]} (λ κs x g {ends_} e. factI 𝓤 _ (emp 𝓤) e) code.function 𝓣",
+        f"      (λ {params}. {walked})",
+        "",
+        f"pub {f.word}-spec : {{M : Type 1}} → stated.statement M",
+        "unfolding code.routine tablesOf",
+        f"{f.word}-spec 𝓤 H 𝓜 𝓖 𝓡 =",
+        f"    entered 𝓤 H (tripleOf 𝓤 H (𝓖 .A) {f.word}′.signature ({f.word}′.spec 𝓤 H (𝓖 .A) (𝓜 .mem) (𝓡 .run)))",
+        f"    (tables 𝓤 H 𝓜 𝓡 code.env .C) (tables 𝓤 H 𝓜 𝓡 code.env .Λ) {f.key} code.function (code.unfolded 𝓤 H 𝓜 𝓡)",
+        f"    ({f.word}-meets 𝓤 H (𝓖 .A) (givenOf 𝓤 H 𝓜 𝓖) (𝓜 .mem) (𝓡 .run) (tablesOf 𝓤 H 𝓜 (tables 𝓤 H 𝓜 𝓡 code.env))",
+    ]
+    cites = []
+    for c, shared in walk.called.values():
+        path = "·".join([c.source.crate, *c.source.module, c.source.name]).replace("_", "-")
+        out.append(f"    (cited 𝓤 H ({c.contract} 𝓤 H (𝓖 .A) (𝓜 .mem) (𝓡 .run)) 𝓜 𝓡 code.env {c.key} {c.word}-def.routine code.calls-{path} ({c.word}-thm.met 𝓤 H 𝓜 𝓖 𝓡))")
+        module = c.module(own)
+        cites += [f"use {module}.Symbol as {c.word}-def", f"use {module}.Symbol.{{name as {c.key}}}", f"use {module}.Met as {c.word}-thm"]
+    by_crate = {}
+    for c, shared in walk.called.values():
+        by_crate.setdefault(c.source.crate, []).append((c, shared))
+    for crate, found in by_crate.items():
+        names = [c.contract for c, _ in found] + [f"{c.word}-{'pass' if shared else 'step'}" for c, shared in found]
+        cites.append(f"use {seen_from(f'Rattle.{crate}.proofs.Callable', own)}.{{{', '.join(dict.fromkeys(names))}}}")
+    out[-1] += ")"
+    mine = f.module(own)
+    cites += [f"use {mine}.Key.{{name as {f.key}}}", f"use {mine} as {f.word}′", f"use {mine}.Statement as stated", f"use {mine}.Code as code"]
+    body = "\n" + "\n".join(out) + "\n"
+    path = "::".join([own, *f.source.module, f.source.name])
+    top = f"-- `{path}` meets its contract: a walk of its MIR. {script.head}\n-- {MADE} Assumes nothing.\n"
+    return top + uses.lines(body, [*script.uses, f"use {FRAMES[f.shape].replace('Rattle·' + own + '.', 'Rattle·' + own + '·proofs.')}", *cites]) + "\n" + body
+
+
+def all_files():
+    """Each file that is written here, with its text."""
+    files = {CRATES / "walks" / "proofs" / "Walking.antt": walking_file()}
+    called, sources, mirs, made = {}, {}, {}, {}
+    for crate in sorted(p.parent.name for p in CRATES.glob("*/walks")):
+        mirs[crate] = Mir(crate)
+
+        def find(path, crate=crate):
+            home = path.split("::")[0]
+            sources.setdefault(home, functions(home))
+            return made.setdefault((crate, path), Function(sources[home][path], mirs[crate]))
+
+        for path in sorted((CRATES / crate / "walks").glob("*.walk")):
+            f = find("::".join([crate, *path.stem.split(".")]))
+            script = Script(path)
+            walk = Walk(f, script, find, Uses(crate))
+            text = proof_file(f, script, walk)
+            files[CRATES / crate / "proofs" / "/".join([*f.source.module, f.source.name]) / "Proof.antt"] = text
+            for callee, shared in walk.called.values():
+                called.setdefault(callee.source.crate, {})[callee.source.path, shared] = callee
+    for crate, found in called.items():
+        order = sorted(found)
+        files[CRATES / crate / "proofs" / "Callable.antt"] = steps_file(crate, [(found[key], key[1]) for key in order])
+    return files
+
+
+def declare(path):
+    """Names a module of laws in its crate's list."""
+    if path.name == "Proof.antt":
+        return
+    listed = path.parent / "Lib.antt"
+    text = listed.read_text() if listed.is_file() else ""
+    if f"pub mod {path.stem}\n" not in text:
+        listed.write_text(text + f"pub mod {path.stem}\n")
+
+
+def main():
+    check = sys.argv[1:] == ["--check"]
+    bad = []
+    for path, text in all_files().items():
+        if check:
+            if not path.is_file() or path.read_text() != text:
+                bad.append(str(path.relative_to(ROOT)))
+        else:
+            path.parent.mkdir(parents=True, exist_ok=True)
+            path.write_text(text)
+            declare(path)
+    if bad:
+        sys.exit("not as tools/walks writes them: " + ", ".join(bad))
+
+
+if __name__ == "__main__":
+    main()

@@ -13,9 +13,21 @@ below=$(for crate in $crates; do sed -n "s/^$crate: *//p" crates.txt; done)
 # shellcheck disable=SC2086
 rt check $below 2>&1 | terse
 
+# The code is many small functions in many crates, of which LLVM by default leaves too many as calls: it is told to inline
+# more (docs/DECISIONS.md). `rt` takes no word for its clang, but its kit from RATTLE_HOME: one of links to the kit
+# installed, with a clang that passes the word on.
+rm -rf target/rooms
+home=${RATTLE_HOME:-$(dirname "$(dirname "$(readlink -f "$(command -v rt)")")")}
+clang=on/$(uname -m)/toolchain/bin/clang
+mkdir -p target/rooms
+cp -rs "$home" target/rooms/kit
+rm "target/rooms/kit/$clang"
+printf '#!/bin/sh\nexec "%s" "$@" -mllvm -inline-threshold=5000\n' "$home/$clang" >"target/rooms/kit/$clang"
+chmod +x "target/rooms/kit/$clang"
+export RATTLE_HOME=$PWD/target/rooms/kit
+
 # `rt` keeps its notes in target/, so two of it want two of those: each crate is built in a room of its own, over links
 # to what is proved.
-rm -rf target/rooms
 build() {
     local room=target/rooms/$1
     mkdir -p "$room/target"

@@ -1,12 +1,14 @@
 #!/usr/bin/env bash
-# Instructions per operation of each row of `bench`, on the Rust and on ours, as callgrind counts them:
-# the difference of two runs with another number of operations, so that what is done once cancels out.
+# Instructions per operation of each row of `bench`, on each side, as callgrind counts them: the difference of
+# two runs with another number of operations, so that what is done once cancels out.
 # Usage: rust/callgrind.sh [TABLE [SEED]]    (table 1: slice pool, 2: arena layer, the default)
 set -euo pipefail
 cd "$(dirname "$0")"
 cargo build --offline --release --quiet --bin bench
 table=${1:-2}
 seed=${2:-20261115}
+names=(ours Rust C)
+[ "$table" != 1 ] || names=(ours Rust) # the reference in C has no slice pool
 
 # Sets `line` to what the program prints, `count` to the instructions.
 run() {
@@ -25,14 +27,14 @@ per_operation() {
 
 errors=$(mktemp)
 trap 'rm -f "$errors"' EXIT
-echo "| case | n | Rust instructions/op | ours instructions/op | Rust/ours |"
-echo "|---|---:|---:|---:|---:|"
+echo "| case | n |$(printf ' %s instructions/op |' "${names[@]}")$(printf ' ours/%s |' "${names[@]:1}")"
+echo "|---|---:|$(printf -- '---:|%.0s' "${names[@]}" "${names[@]:1}")"
 for ((row = 1; ; row++)); do
     line=$(target/release/bench --seed "$seed" --table "$table" --row "$row" --side 1 --times 1)
     [ -n "$line" ] || break
     IFS='|' read -r _ name n <<<"$line"
-    rust=$(per_operation "$row" 1)
-    ours=$(per_operation "$row" 2)
-    ratio=$(awk -v a="$rust" -v b="$ours" 'BEGIN { printf "%.2f", a / b }')
-    echo "| $name | $n | $rust | $ours | $ratio |"
+    counts=()
+    for ((side = 1; side <= ${#names[@]}; side++)); do counts+=("$(per_operation "$row" "$side")"); done
+    ratios=$(awk 'BEGIN { for (i = 2; i < ARGC; i++) printf " %.2f |", ARGV[1] / ARGV[i] }' "${counts[@]}")
+    echo "| $name | $n |$(printf ' %s |' "${counts[@]}")$ratios"
 done

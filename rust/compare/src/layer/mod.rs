@@ -4,6 +4,7 @@ pub mod counts;
 pub mod document;
 pub mod draw;
 pub mod pair;
+pub mod reference;
 pub mod smallest;
 pub mod table;
 

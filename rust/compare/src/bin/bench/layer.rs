@@ -3,10 +3,10 @@
 use crate::{Case, Side};
 use compare_common::layer::document::arenas;
 use compare_common::layer::pair::Pair;
-use compare_common::layer::{inside, CHUNK, QUIET};
+use compare_common::layer::{inside, reference, CHUNK, QUIET};
 use compare_common::rng::Rng;
 use oracle::layer as rust;
-use sirqobal::lent::{self, Arena, Call, Reply, State, QUESTION, RECORDS, STAMPS};
+use sirqobal::lent::{self, Arena, Call, Reply, Settings, State, QUESTION, RECORDS, STAMPS};
 use sirqobal::Layer;
 use std::hint::black_box;
 use std::ptr;
@@ -23,6 +23,8 @@ enum Work {
     Release,
     /// A pending release of a run and a forced sweep that purges it.
     Sweep,
+    /// The same, counted by its questions: one for each chunk.
+    Questions,
     /// A sweep that is not due anywhere.
     NotDue,
     /// `owns`.
@@ -52,11 +54,11 @@ impl Case for Row {
         let reply = self.first_call(&mut self.table.clone());
         let answer = match (self.work, reply.number) {
             (Work::One | Work::Run, 0) => {
-                let count = arenas(&self.table).len();
-                let at = |id: usize| self.table.records()[id].base;
-                let id = (0..count).rev().find(|id| at(*id) <= reply.address);
-                let start = id.map_or(0, |id| (reply.address - at(id)) / CHUNK);
-                format!("{} in {}", start, id.unwrap_or(0))
+                let chunk = |arena: &Arena| reply.address.wrapping_sub(arena.base) / CHUNK;
+                let mut arenas = arenas(&self.table).iter().enumerate();
+                let inside = arenas.find(|(_, arena)| chunk(arena) < arena.chunks as u64);
+                let (id, arena) = inside.expect("it was granted in an arena");
+                format!("{} in {id}", chunk(arena))
             }
             (Work::Find, 0) => reply.owns.to_string(),
             (_, 0) => "granted".into(),
@@ -66,7 +68,8 @@ impl Case for Row {
         [self.n.to_string(), answer]
     }
 
-    /// One operation on both sides, answers and all state compared.
+    /// One operation on ours and the original, and one on ours and the reference: answers and all
+    /// state compared.
     fn check(&self) {
         let mut pair = Pair::holding(&self.table);
         let mut yes = vec![YES; self.n].into_iter();
@@ -77,26 +80,36 @@ impl Case for Row {
                 pair.call(QUIET, release, &mut yes).expect(&self.name);
             }
         }
-        if let Work::Sweep = self.work {
+        if let Work::Sweep | Work::Questions = self.work {
             let sweep = Call::PurgeDue { force: true };
             let swept = pair.call(QUIET, sweep, &mut yes).expect(&self.name);
             assert_eq!(swept.reply.count, self.n);
         }
+        let [mut ours, mut c] = [OURS, C].map(|make| Lent::holding(&self.table, make));
+        self.operate(|call| {
+            let reply = ours.call(call);
+            assert_eq!(reply, c.call(call), "{}: {call:?}", self.name);
+            assert!(ours.is(&c), "{}: {call:?}: tables", self.name);
+            reply
+        });
     }
 
     fn run(&self, side: Side, times: usize) -> (Duration, usize) {
+        let each = match self.work {
+            Work::Questions => self.n,
+            _ => 1,
+        };
+        let times = times.div_ceil(each);
         let spent = match side {
+            Side::Ours => self.time_lent(OURS, times),
             Side::Rust => {
                 drop(Pair::holding(&self.table));
                 rust::carry(rust::Script::NONE, 4_096);
                 self.time(times, || self.rust())
             }
-            Side::Ours => {
-                let mut ours = Ours::holding(&self.table);
-                self.time(times, || self.ours(&mut ours))
-            }
+            Side::C => self.time_lent(C, times),
         };
-        (spent, times)
+        (spent, times * each)
     }
 }
 
@@ -115,6 +128,11 @@ impl Row {
         start.elapsed()
     }
 
+    fn time_lent(&self, make: Make, times: usize) -> Duration {
+        let mut lent = Lent::holding(&self.table, make);
+        self.time(times, || self.operate(|call| lent.call(call)))
+    }
+
     /// The first call of an operation.
     fn call(&self) -> Call {
         match self.work {
@@ -124,7 +142,7 @@ impl Row {
                 n: self.n,
             },
             Work::Release => self.release(self.address, false),
-            Work::Sweep => self.release(self.address, true),
+            Work::Sweep | Work::Questions => self.release(self.address, true),
             Work::NotDue => Call::PurgeDue { force: false },
             Work::Find => Call::Owns {
                 address: self.address,
@@ -164,7 +182,7 @@ impl Row {
             Work::Release => {
                 black_box(arena::chunk_free_n(at(self.address), n));
             }
-            Work::Sweep => {
+            Work::Sweep | Work::Questions => {
                 arena::chunk_release(at(self.address), n, None, true);
                 black_box(rust::purge_due(&mut Yes, true));
             }
@@ -180,16 +198,17 @@ impl Row {
         }
     }
 
-    fn ours(&self, ours: &mut Ours) {
-        let reply = ours.call(black_box(self.call()));
+    /// One operation over a lent table.
+    fn operate(&self, mut make: impl FnMut(Call) -> Reply) {
+        let reply = make(black_box(self.call()));
         match self.work {
             Work::One | Work::Run if reply.number == 0 => {
-                ours.call(self.release(black_box(reply.address), false));
+                make(self.release(black_box(reply.address), false));
             }
-            Work::Sweep => {
-                let mut reply = ours.call(Call::PurgeDue { force: true });
+            Work::Sweep | Work::Questions => {
+                let mut reply = make(Call::PurgeDue { force: true });
                 while reply.number == QUESTION {
-                    reply = ours.call(Call::Answer {
+                    reply = make(Call::Answer {
                         kind: reply.kind,
                         yes: true,
                         base: 0,
@@ -209,28 +228,40 @@ impl rust::Host for Yes {
     }
 }
 
-/// A table as a C program keeps it.
-struct Ours {
+/// Makes a call on a lent table.
+type Make = fn(&mut [Arena], &mut [u32], State, u64, Settings, Call) -> Reply;
+
+const OURS: Make = lent::call;
+const C: Make = reference::call;
+
+/// A table as a C program keeps it, and whose calls are made on it.
+struct Lent {
     records: Vec<Arena>,
     stamps: Vec<u32>,
     state: State,
+    make: Make,
 }
 
-impl Ours {
-    fn holding(layer: &Layer) -> Ours {
-        Ours {
+impl Lent {
+    fn holding(layer: &Layer, make: Make) -> Lent {
+        Lent {
             records: layer.records().to_vec(),
             stamps: layer.stamps().to_vec(),
             state: layer.state(),
+            make,
         }
     }
 
     fn call(&mut self, call: Call) -> Reply {
         let settings = QUIET.settings();
         let (records, stamps) = (&mut self.records, &mut self.stamps);
-        let reply = lent::call(records, stamps, self.state, QUIET.ns, settings, call);
+        let reply = (self.make)(records, stamps, self.state, QUIET.ns, settings, call);
         self.state = reply.state;
         black_box(reply)
+    }
+
+    fn is(&self, other: &Lent) -> bool {
+        self.records == other.records && self.stamps == other.stamps
     }
 }
 
@@ -268,6 +299,19 @@ fn table(count: usize, chunks: usize, used: impl Fn(usize, usize) -> bool) -> La
     Layer::from_table(&records, &[0; STAMPS], state)
 }
 
+/// The same arenas, their addresses in any order.
+fn shuffled(layer: &Layer, rng: &mut Rng) -> Layer {
+    let mut records = *layer.records();
+    let count = layer.state().count;
+    for id in (1..count).rev() {
+        let other = rng.below(id as u64 + 1) as usize;
+        let base = records[id].base;
+        records[id].base = records[other].base;
+        records[other].base = base;
+    }
+    Layer::from_table(&records, layer.stamps(), layer.state())
+}
+
 pub fn cases(rng: &mut Rng) -> Vec<Box<dyn Case>> {
     let half: Vec<bool> = (0..1_024).map(|_| rng.percent(50)).collect();
     let mut rows = Vec::new();
@@ -287,6 +331,7 @@ pub fn cases(rng: &mut Rng) -> Vec<Box<dyn Case>> {
     let nearly = table(1, 1_024, |_, chunk| chunk < 1_016);
     let some = table(8, 1_024, |_, _| false);
     let many = table(32, 1_024, |_, _| false);
+    let mixed = shuffled(&many, rng);
     let behind = table(32, 1_024, |id, _| id < 31);
     for (name, table) in [
         ("pair, 1 empty arena of 32", &small),
@@ -294,6 +339,7 @@ pub fn cases(rng: &mut Rng) -> Vec<Box<dyn Case>> {
         ("pair, 1,016 of 1,024 used", &nearly),
         ("pair, 8 empty arenas", &some),
         ("pair, 32 empty arenas", &many),
+        ("pair, 32 empty arenas in any order", &mixed),
         ("pair, behind 31 full arenas", &behind),
     ] {
         row(name, Work::One, 1, -1, 0, table);
@@ -355,6 +401,14 @@ pub fn cases(rng: &mut Rng) -> Vec<Box<dyn Case>> {
         );
     }
     row(
+        "the same, for each question",
+        Work::Questions,
+        1_024,
+        0,
+        BASE,
+        &empty,
+    );
+    row(
         "release and sweep, last of 32 arenas",
         Work::Sweep,
         32,
@@ -386,6 +440,14 @@ pub fn cases(rng: &mut Rng) -> Vec<Box<dyn Case>> {
         5,
         &many,
     );
+    row(
+        "find an address, 32 arenas in any order",
+        Work::Find,
+        1,
+        0,
+        mixed.records()[31].base + 5,
+        &mixed,
+    );
     for (count, chunks) in [
         (0, 1),
         (1, 1),
@@ -405,5 +467,13 @@ pub fn cases(rng: &mut Rng) -> Vec<Box<dyn Case>> {
             &table(count, chunks, |_, _| false),
         );
     }
+    row(
+        "area: row 1 alone, 32 arenas in any order",
+        Work::Look,
+        1,
+        0,
+        0,
+        &mixed,
+    );
     rows
 }

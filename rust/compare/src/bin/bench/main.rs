@@ -1,10 +1,10 @@
-//! Times both sides in one run: the same calls from the same states, ours through the C ABI as users
-//! call it, the original called directly. A number is the smallest of the means of several rounds;
-//! the rounds of the two sides take turns.
+//! Times the sides in one run: the same calls from the same states, ours through the C ABI as users
+//! call it, the original called directly, and for the layer the reference in plain C, called as ours
+//! is. A number is the smallest of the means of several rounds; the rounds of the sides take turns.
 //!
 //! `--table T` prints only the slice pool's table (1) or the layer's (2). With `--row R --side S --times
-//! N` it makes only the operations of one row, N times, on the original (1) or on ours (2), and times
-//! nothing: for counting instructions (rust/callgrind.sh).
+//! N` it makes only the operations of one row, N times, on ours (1), the original (2) or the reference
+//! (3), and times nothing: for counting instructions (rust/callgrind.sh).
 
 mod layer;
 mod pool;
@@ -22,8 +22,20 @@ const ROUND: Duration = Duration::from_micros(400);
 
 #[derive(Clone, Copy, PartialEq, Eq)]
 pub enum Side {
-    Rust,
     Ours,
+    Rust,
+    /// The reference in plain C.
+    C,
+}
+
+impl Side {
+    fn name(self) -> &'static str {
+        match self {
+            Side::Ours => "ours",
+            Side::Rust => "Rust",
+            Side::C => "C",
+        }
+    }
 }
 
 /// A row of the table.
@@ -37,10 +49,26 @@ pub trait Case {
     fn run(&self, side: Side, times: usize) -> (Duration, usize);
 }
 
-/// The rows of a table, made from a seed.
-type Cases = fn(&mut Rng) -> Vec<Box<dyn Case>>;
+struct Table {
+    title: &'static str,
+    /// Ours first: the others are what it is compared with.
+    sides: &'static [Side],
+    /// The rows, made from a seed.
+    cases: fn(&mut Rng) -> Vec<Box<dyn Case>>,
+}
 
-const TABLES: [(&str, Cases); 2] = [("Slice pool", pool::cases), ("Arena layer", layer::cases)];
+const TABLES: [Table; 2] = [
+    Table {
+        title: "Slice pool",
+        sides: &[Side::Ours, Side::Rust],
+        cases: pool::cases,
+    },
+    Table {
+        title: "Arena layer",
+        sides: &[Side::Ours, Side::Rust, Side::C],
+        cases: layer::cases,
+    },
+];
 
 fn main() {
     let [seed, table, row, side, times] = args::read(
@@ -48,61 +76,51 @@ fn main() {
         [SEED, 0, 0, 0, 0],
     );
     if row != 0 {
-        let (_, cases) = TABLES[usize::from(table != 1)];
-        return one(
-            &cases(&mut Rng::new(seed)),
-            row as usize,
-            side,
-            times as usize,
-        );
+        return one(&TABLES[usize::from(table != 1)], seed, row, side, times);
     }
     println!("{}, seed {seed}", cpu_model());
-    for (number, (title, cases)) in (1..).zip(TABLES) {
-        if table != 0 && table != number {
-            continue;
-        }
-        println!("\n{title}\n");
-        print([
-            "case",
-            "n",
-            "first answer",
-            "Rust ns/op",
-            "ours ns/op",
-            "Rust/ours",
-        ]);
-        let lines = [43, 7, 14, 11, 11, 11].map(|width| "-".repeat(width));
-        println!("|{}:|", lines.join(":|").replacen(':', "", 1));
-        for case in cases(&mut Rng::new(seed)) {
-            case.check();
-            time(case.as_ref());
+    for (number, shown) in (1..).zip(&TABLES) {
+        if table == 0 || table == number {
+            println!("\n{}\n", shown.title);
+            head(shown.sides);
+            for case in (shown.cases)(&mut Rng::new(seed)) {
+                case.check();
+                time(case.as_ref(), shown.sides);
+            }
         }
     }
 }
 
-/// The operations of one row on one side, untimed; nothing if there is no such row.
-fn one(cases: &[Box<dyn Case>], row: usize, side: u64, times: usize) {
-    if let Some(case) = cases.get(row - 1) {
-        let side = if side == 1 { Side::Rust } else { Side::Ours };
-        let (_, operations) = case.run(side, times);
+/// The operations of one row on one side, untimed; nothing if there is no such row or side.
+fn one(table: &Table, seed: u64, row: u64, side: u64, times: u64) {
+    let cases = (table.cases)(&mut Rng::new(seed));
+    let case = cases.get(row as usize - 1);
+    let side = table.sides.get((side as usize).wrapping_sub(1));
+    if let (Some(case), Some(side)) = (case, side) {
+        let (_, operations) = case.run(*side, times as usize);
         let [n, _] = case.detail();
         println!("{operations}|{}|{n}", case.name());
     }
 }
 
-fn time(case: &dyn Case) {
-    let times = [Side::Rust, Side::Ours].map(|side| (side, enough(case, side)));
-    let mut best = [f64::MAX; 2];
+fn time(case: &dyn Case, sides: &[Side]) {
+    let times: Vec<usize> = sides.iter().map(|side| enough(case, *side)).collect();
+    let mut best = vec![f64::MAX; sides.len()];
     for _ in 0..ROUNDS {
-        for (best, (side, times)) in best.iter_mut().zip(times) {
-            let (spent, operations) = case.run(side, times);
+        for (best, (side, times)) in best.iter_mut().zip(sides.iter().zip(&times)) {
+            let (spent, operations) = case.run(*side, *times);
             *best = best.min(spent.as_nanos() as f64 / operations as f64);
         }
     }
-    let [rust, ours] = best;
+    let ratios = best[1..].iter().map(|other| best[0] / other);
+    let numbers = best.iter().copied().chain(ratios);
     let [n, answer] = case.detail();
-    let numbers = [rust, ours, rust / ours].map(|number| format!("{number:.2}"));
-    let [rust, ours, ratio] = numbers.each_ref().map(String::as_str);
-    print([&case.name(), &n, &answer, rust, ours, ratio]);
+    print(
+        &case.name(),
+        &n,
+        &answer,
+        numbers.map(|number| format!("{number:.2}")),
+    );
 }
 
 /// So many operations that they take a round.
@@ -117,8 +135,25 @@ fn enough(case: &dyn Case, side: Side) -> usize {
     }
 }
 
-fn print([name, n, answer, rust, ours, ratio]: [&str; 6]) {
-    println!("| {name:<41} | {n:>6} | {answer:>13} | {rust:>10} | {ours:>10} | {ratio:>10} |");
+/// The names of the columns: a time for each side, then ours over each other one.
+fn head(sides: &[Side]) {
+    let times = sides.iter().map(|side| format!("{} ns/op", side.name()));
+    let ratios = sides[1..]
+        .iter()
+        .map(|side| format!("ours/{}", side.name()));
+    print("case", "n", "first answer", times.chain(ratios));
+    let numbers = vec![12; 2 * sides.len() - 1];
+    let lines = [43, 8, 15].into_iter().chain(numbers).zip(0..);
+    let line = |(width, column)| match column {
+        0 => "-".repeat(width),
+        _ => "-".repeat(width - 1) + ":",
+    };
+    println!("|{}|", lines.map(line).collect::<Vec<_>>().join("|"));
+}
+
+fn print(name: &str, n: &str, answer: &str, numbers: impl Iterator<Item = String>) {
+    let numbers: String = numbers.map(|number| format!(" {number:>10} |")).collect();
+    println!("| {name:<41} | {n:>6} | {answer:>13} |{numbers}");
 }
 
 fn cpu_model() -> String {

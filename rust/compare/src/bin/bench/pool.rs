@@ -96,8 +96,9 @@ impl Case for Row {
 
     fn run(&self, side: Side, times: usize) -> (Duration, usize) {
         match side {
-            Side::Rust => self.run_on(&mut Rust, times),
             Side::Ours => self.run_on(&mut SlicePool::new(), times),
+            Side::Rust => self.run_on(&mut Rust, times),
+            Side::C => unreachable!("the reference has no slice pool"),
         }
     }
 }

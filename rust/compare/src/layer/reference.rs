@@ -1,0 +1,233 @@
+//! The layer's calls in plain C (c/reference.c): a yardstick for the benchmark, over lent tables as
+//! ours are. Its answers are held against ours by the tests here.
+
+use sirqobal::lent::{Arena, Call, Reply, Settings, State};
+
+/// Declares calls of the reference, all of which begin with what is lent and carried.
+macro_rules! calls {
+    ($($name:ident($($number:ident: $type:ty),*);)*) => {
+        extern "C" {
+            $(fn $name(
+                records: *mut Arena,
+                record_count: usize,
+                stamps: *mut u32,
+                stamp_count: usize,
+                state: State,
+                ns: u64,
+                settings: Settings,
+                $($number: $type),*
+            ) -> Reply;)*
+        }
+    };
+}
+
+calls! {
+    reference_owns(address: u64);
+    reference_arena_area(id: i32);
+    reference_chunk_alloc(id: i32);
+    reference_chunk_claim(id: i32);
+    reference_chunk_alloc_n(id: i32, n: usize);
+    reference_chunk_release(address: u64, n: usize, told: i32, pending: bool);
+    reference_purge_due(force: bool);
+    reference_answer(kind: u32, yes: bool, base: u64);
+}
+
+/// Whether the reference has this call. It registers nothing, and answers no question about memory.
+pub fn has(call: &Call, state: &State) -> bool {
+    match call {
+        Call::ReserveOsMemory { .. } | Call::ManageOsMemory { .. } | Call::AdoptOsBlock { .. } => {
+            false
+        }
+        Call::Answer { kind, .. } => !(matches!(kind, 3 | 4) && state.question == *kind),
+        _ => true,
+    }
+}
+
+/// Makes one call on a lent table, as `sirqobal::lent::call` does on ours.
+pub fn call(
+    records: &mut [Arena],
+    stamps: &mut [u32],
+    state: State,
+    ns: u64,
+    settings: Settings,
+    call: Call,
+) -> Reply {
+    macro_rules! make {
+        ($name:ident($($number:expr),*)) => {
+            // SAFETY: pointers and lengths are those of two slices, lent for the call; with other
+            // lengths than a table's the reference looks at nothing of them.
+            unsafe {
+                $name(
+                    records.as_mut_ptr(),
+                    records.len(),
+                    stamps.as_mut_ptr(),
+                    stamps.len(),
+                    state,
+                    ns,
+                    settings,
+                    $($number),*
+                )
+            }
+        };
+    }
+    match call {
+        Call::Owns { address } => make!(reference_owns(address)),
+        Call::ArenaArea { id } => make!(reference_arena_area(id)),
+        Call::ChunkAlloc { id } => make!(reference_chunk_alloc(id)),
+        Call::ChunkClaim { id } => make!(reference_chunk_claim(id)),
+        Call::ChunkAllocN { id, n } => make!(reference_chunk_alloc_n(id, n)),
+        Call::ChunkRelease {
+            address,
+            n,
+            told,
+            pending,
+        } => make!(reference_chunk_release(address, n, told, pending)),
+        Call::PurgeDue { force } => make!(reference_purge_due(force)),
+        Call::Answer { kind, yes, base } => make!(reference_answer(kind, yes, base)),
+        Call::ReserveOsMemory { .. } | Call::ManageOsMemory { .. } | Call::AdoptOsBlock { .. } => {
+            unreachable!("the reference registers nothing")
+        }
+    }
+}
+
+#[cfg(test)]
+mod tests {
+    use super::*;
+    use crate::layer::draw::Player;
+    use crate::layer::{inside, Moment, CHUNK};
+    use crate::rng::Rng;
+    use crate::SEED;
+    use sirqobal::lent::{self, RECORDS};
+    use sirqobal::Layer;
+    use std::collections::BTreeSet;
+
+    #[derive(Clone, PartialEq)]
+    struct Table {
+        records: Vec<Arena>,
+        stamps: Vec<u32>,
+        state: State,
+    }
+
+    impl Table {
+        fn of(layer: &Layer) -> Table {
+            Table {
+                records: layer.records().to_vec(),
+                stamps: layer.stamps().to_vec(),
+                state: layer.state(),
+            }
+        }
+
+        /// Makes the call on both, each on a table of its own: the number that both answer.
+        fn same(&self, moment: Moment, made: Call) -> u32 {
+            let [c, ours] = [call, lent::call].map(|side| {
+                let mut table = self.clone();
+                let (records, stamps) = (&mut table.records, &mut table.stamps);
+                let settings = moment.settings();
+                let reply = side(records, stamps, self.state, moment.ns, settings, made);
+                (reply, table)
+            });
+            assert_eq!(c.0, ours.0, "{made:?} on {:?}", self.state);
+            assert!(c.1 == ours.1, "{made:?} on {:?}: tables", self.state);
+            c.0.number
+        }
+
+        /// One thing in it is changed, so that row 1 mostly turns it down.
+        fn damage(&mut self, rng: &mut Rng) {
+            let arena = rng.below(self.state.count.clamp(1, RECORDS) as u64) as usize;
+            let other = self.records[rng.below(RECORDS as u64) as usize].base;
+            let (record, state) = (&mut self.records[arena], &mut self.state);
+            let (number, small) = (rng.number(), rng.below(40));
+            let bit = 1 << rng.below(32);
+            let word = rng.below(32) as usize;
+            match rng.below(27) {
+                0 => record.base = rng.pick(&[0, other, other.wrapping_add(CHUNK), number]),
+                1 => record.base = record.base.wrapping_add(rng.pick(&[1, CHUNK / 2, CHUNK])),
+                2 => record.base = u64::MAX - (record.chunks as u64 + small) * CHUNK + 1,
+                3 => record.chunks = rng.pick(&[0, 1_024, 1_025, number]) as usize,
+                4 => record.used[word] ^= bit,
+                5 => record.dirty[word] ^= bit,
+                6 => record.committed[word] ^= bit,
+                7 => record.pending[word] ^= bit,
+                8 => self.records.truncate(31),
+                9 => self.stamps.push(0),
+                10 => state.count = rng.pick(&[small, 33, number]) as usize,
+                11 => state.mark = small as u32,
+                12 => state.question = small as u32 / 4,
+                13 => state.id = rng.pick(&[small, number]) as usize,
+                14 => state.start = rng.pick(&[small, number]) as usize,
+                15 => state.n = rng.pick(&[small, number]) as usize,
+                16 => state.chunks = small,
+                17 => state.bytes = small,
+                18 => state.commit = small as u32 / 10,
+                19 => state.exclusive = small as u32 / 10,
+                20 => state.waiting = small as u32 / 10,
+                21 => state.commits = small as u32 / 10,
+                22 => state.cause = small as u32 / 2,
+                23 => state.force = small as u32 / 10,
+                24 => state.decommit = small as u32 / 10,
+                25 => (state.now, state.delay) = (small as u32, number as u32),
+                _ => state.purged = rng.pick(&[small, number]) as usize,
+            }
+        }
+    }
+
+    /// The empty table, one with anything in it, or such a one whose arenas are all used.
+    fn start(rng: &mut Rng, player: &Player) -> Layer {
+        let any = player.any_table(rng);
+        match rng.below(4) {
+            0 => Layer::new(),
+            1 => {
+                let mut records: [Arena; RECORDS] = *any.records();
+                for arena in records.iter_mut().take(any.state().count) {
+                    arena.used = std::array::from_fn(|word| inside(arena.chunks, word));
+                }
+                Layer::from_table(&records, any.stamps(), any.state())
+            }
+            _ => any,
+        }
+    }
+
+    /// Mostly the answer to the question that is open, or else any call.
+    fn next(rng: &mut Rng, player: &mut Player, layer: &Layer) -> (Moment, Call) {
+        let (moment, drawn) = player.call(rng, layer);
+        let kind = layer.state().question;
+        let answer = Call::Answer {
+            kind,
+            yes: rng.percent(75),
+            base: CHUNK * rng.between(1, 1 << 30),
+        };
+        match kind {
+            1.. if rng.percent(80) => (moment, answer),
+            _ => (moment, drawn),
+        }
+    }
+
+    // What is timed has to do the work: the same replies and tables as ours, which is proved.
+    #[test]
+    fn answers_as_ours_do() {
+        let mut rng = Rng::new(SEED);
+        let mut numbers = BTreeSet::new();
+        let mut made = 0;
+        for _ in 0..200 {
+            let mut player = Player::new(&mut rng);
+            let mut layer = start(&mut rng, &player);
+            for _ in 0..50 {
+                let (moment, call) = next(&mut rng, &mut player, &layer);
+                if has(&call, &layer.state()) {
+                    let table = Table::of(&layer);
+                    numbers.insert(table.same(moment, call));
+                    let mut damaged = table;
+                    damaged.damage(&mut rng);
+                    if has(&call, &damaged.state) {
+                        numbers.insert(damaged.same(moment, call));
+                    }
+                    made += 1;
+                }
+                layer.call(moment, call);
+            }
+        }
+        assert!(made > 5_000, "{made} calls");
+        let all = [0, 1, 2, 3, 4, 5, 7, 8, 9, 10, 11, lent::QUESTION];
+        assert_eq!(numbers, BTreeSet::from(all));
+    }
+}

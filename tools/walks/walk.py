@@ -112,7 +112,7 @@ class Walk:
                 opened.append(f"arg-fits ! {len(callee.slices) + k} refl (λ {fits}.")
                 args += ["_", f"({fits} .fits)" if kind.form == "number" else fits]
             elif kind.form == "number":
-                args += [x[2], "(lit< tt)"]
+                args += ["_", "(lit< tt)"]
             elif kind.form == "bool":
                 args += ["_"]
             else:

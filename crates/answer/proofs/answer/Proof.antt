@@ -87,7 +87,7 @@ module _ {M : Type 1} (𝓤 : URA M) (H : Heap 𝓤) (A : Atoms 𝓤) (W : Given
         assigns ! (agg ! (and-then ! (in-local ! refl) (and-then ! (load ! (from ! (fld ! refl (stop !))) (look-in ! 3 (sub ! 1 refl (whole !)))) (no-more !)))) (from ! (stop !)) (init ! 25 refl (tt, (tt, (record { fits = known-records .1 .0 }, tt)))) $
         assigns ! (of-opd ! (load ! (from ! (fld ! refl (stop !))) (look-in ! 5 (sub ! 1 refl (whole !))))) (from ! (stop !)) (init ! 27 refl (tt, record { fits = known-stamps .1 .0 })) $
         arg-fits ! 1 refl (λ f10-1. arg-fits ! 3 refl (λ f10-3.
-        row-one-step ! (in-seq ! (fmOf 𝓤 H (W .laws) 𝓣)) mem run known-row-one L-records records _ (f10-1 .fits) state v-state g-state _ (f10-3 .fits) 33554432 (lit< tt) ((lit< tt, lit≤ tt))
+        row-one-step ! (in-seq ! (fmOf 𝓤 H (W .laws) 𝓣)) mem run known-row-one L-records records _ (f10-1 .fits) state v-state g-state _ (f10-3 .fits) _ (lit< tt) ((lit< tt, lit≤ tt))
         (λ _. and-then ! (arg ! refl) (and-then ! (arg ! refl) (and-then ! (arg ! refl) (and-then ! (arg ! refl) (and-then ! (big-lit ! (record { fits = lit< tt })) (no-more !)))))) (
         land ! (from ! (stop !)) (init ! 21 refl (tt, tt)) $
         assigns ! (addr ! (from ! (fld ! refl (hop ! (look-in ! 3 (sub ! 0 refl (whole !))) (stop !))))) (from ! (stop !)) (init ! 29 refl (tt, tt)) $
@@ -95,7 +95,7 @@ module _ {M : Type 1} (𝓤 : URA M) (H : Heap 𝓤) (A : Atoms 𝓤) (W : Given
         assigns ! (addr ! (from ! (fld ! refl (hop ! (look-in ! 5 (sub ! 0 refl (whole !))) (stop !))))) (from ! (stop !)) (init ! 33 refl (tt, tt)) $
         assigns ! (agg ! (and-then ! (in-local ! refl) (and-then ! (load ! (from ! (fld ! refl (stop !))) (look-in ! 5 (sub ! 1 refl (whole !)))) (no-more !)))) (from ! (stop !)) (init ! 35 refl (tt, (tt, (record { fits = known-stamps .1 .0 }, tt)))) $
         arg-fits ! 6 refl (λ f0-5.
-        answer-on-step ! (in-seq ! (fmOf 𝓤 H (W .laws) 𝓣)) mem run known-answer-on L-records records L-stamps stamps _ state v-state g-state kind v-kind g-kind _ _ (f0-5 .fits) 33554432 (lit< tt) ((lit< tt, lit≤ tt, sound-answerable 33554432 records stamps state (settings .page)))
+        answer-on-step ! (in-seq ! (fmOf 𝓤 H (W .laws) 𝓣)) mem run known-answer-on L-records records L-stamps stamps _ state v-state g-state kind v-kind g-kind _ _ (f0-5 .fits) _ (lit< tt) ((lit< tt, lit≤ tt, sound-answerable 33554432 records stamps state (settings .page)))
         (λ _. and-then ! (arg ! refl) (and-then ! (arg ! refl) (and-then ! (arg ! refl) (and-then ! (arg ! refl) (and-then ! (arg ! refl) (and-then ! (arg ! refl) (and-then ! (arg ! refl) (and-then ! (big-lit ! (record { fits = lit< tt })) (no-more !))))))))) (λ v-result result records-1 stamps-1 g-result result-says l-records-1 l-stamps-1.
         land ! (from ! (stop !)) (init ! 1 refl (LL.lawful T-Reply.the-type L-Reply.the-laws 𝓤 H A W .typed result (v-result ∷ []) g-result .0)) $
         returns ! (look ! 1 refl) $ used ! $ used ! $ used ! $ used ! $ used ! $ used ! $ used ! $ used ! $ used ! $ used ! $ used ! $ used ! $ used ! $ used ! $ used ! $ used ! $ used ! $ used ! $ free0 ! $

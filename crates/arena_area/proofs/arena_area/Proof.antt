@@ -100,7 +100,7 @@ module _ {M : Type 1} (𝓤 : URA M) (H : Heap 𝓤) (A : Atoms 𝓤) (W : Given
         land ! (from ! (stop !)) (init ! 15 refl (tt, record { fits = f-page })) $
         assigns ! (of-opd ! (load ! (from ! (fld ! refl (stop !))) (look-in ! 5 (sub ! 1 refl (whole !))))) (from ! (stop !)) (init ! 23 refl (tt, record { fits = known-stamps .1 .0 })) $
         arg-fits ! 1 refl (λ f8-1. arg-fits ! 3 refl (λ f8-3.
-        row-one-pass ! (in-seq ! (fmOf 𝓤 H (W .laws) 𝓣)) mem run known-row-one L-records records _ (f8-1 .fits) state v-state g-state _ (f8-3 .fits) 33554432 (lit< tt) ((lit< tt, lit≤ tt))
+        row-one-pass ! (in-seq ! (fmOf 𝓤 H (W .laws) 𝓣)) mem run known-row-one L-records records _ (f8-1 .fits) state v-state g-state _ (f8-3 .fits) _ (lit< tt) ((lit< tt, lit≤ tt))
         (λ _. and-then ! (arg ! refl) (and-then ! (arg ! refl) (and-then ! (arg ! refl) (and-then ! (arg ! refl) (and-then ! (big-lit ! (record { fits = lit< tt })) (no-more !)))))) (
         land ! (from ! (stop !)) (init ! 17 refl (tt, tt)) $
         arg-fits ! 0 refl (λ f9-1.
@@ -112,7 +112,7 @@ module _ {M : Type 1} (𝓤 : URA M) (H : Heap 𝓤) (A : Atoms 𝓤) (W : Given
         (λ _. and-then ! (arg ! refl) (and-then ! (arg ! refl) (no-more !))) (λ v-a g-a.
         land ! (from ! (stop !)) (init ! 21 refl (LL.lawful T-Arena.the-type L-Arena.the-laws 𝓤 H A W .typed a (v-a ∷ []) g-a .0)) $
         arg-fits ! 2 refl (λ f0-3.
-        area-reply-step ! (in-seq ! (fmOf 𝓤 H (W .laws) 𝓣)) mem run known-area-reply _ state v-state g-state _ (f0-3 .fits) a v-a g-a 33554432 (lit< tt) (((λ e l. few 33554432 records stamps state ns settings e _ l), lit≤ tt))
+        area-reply-step ! (in-seq ! (fmOf 𝓤 H (W .laws) 𝓣)) mem run known-area-reply _ state v-state g-state _ (f0-3 .fits) a v-a g-a _ (lit< tt) (((λ e l. few 33554432 records stamps state ns settings e _ l), lit≤ tt))
         (λ _. and-then ! (arg ! refl) (and-then ! (arg ! refl) (and-then ! (arg ! refl) (and-then ! (arg ! refl) (and-then ! (big-lit ! (record { fits = lit< tt })) (no-more !)))))) (λ v-result g-result.
         land ! (from ! (stop !)) (init ! 1 refl (LL.lawful T-Reply.the-type L-Reply.the-laws 𝓤 H A W .typed result (v-result ∷ []) g-result .0)) $
         returns ! (look ! 1 refl) $ used ! $ used ! $ used ! $ used ! $ used ! $ used ! $ used ! $ used ! $ used ! $ used ! $ used ! $ used ! $ free0 ! $

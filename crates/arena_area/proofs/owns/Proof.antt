@@ -111,7 +111,7 @@ module _ {M : Type 1} (𝓤 : URA M) (H : Heap 𝓤) (A : Atoms 𝓤) (W : Given
         land ! (from ! (stop !)) (init ! 15 refl (tt, record { fits = f-page })) $
         assigns ! (of-opd ! (load ! (from ! (fld ! refl (stop !))) (look-in ! 5 (sub ! 1 refl (whole !))))) (from ! (stop !)) (init ! 25 refl (tt, record { fits = known-stamps .1 .0 })) $
         arg-fits ! 1 refl (λ f8-1. arg-fits ! 3 refl (λ f8-3.
-        row-one-pass ! (in-seq ! (fmOf 𝓤 H (W .laws) 𝓣)) mem run known-row-one L-records records _ (f8-1 .fits) state v-state g-state _ (f8-3 .fits) 33554432 (lit< tt) ((lit< tt, lit≤ tt))
+        row-one-pass ! (in-seq ! (fmOf 𝓤 H (W .laws) 𝓣)) mem run known-row-one L-records records _ (f8-1 .fits) state v-state g-state _ (f8-3 .fits) _ (lit< tt) ((lit< tt, lit≤ tt))
         (λ _. and-then ! (arg ! refl) (and-then ! (arg ! refl) (and-then ! (arg ! refl) (and-then ! (arg ! refl) (and-then ! (big-lit ! (record { fits = lit< tt })) (no-more !)))))) (
         land ! (from ! (stop !)) (init ! 17 refl (tt, tt)) $
         looked-at-step ! (in-seq ! (fmOf 𝓤 H (W .laws) 𝓣)) mem run known-looked-at _ state v-state g-state
@@ -122,7 +122,7 @@ module _ {M : Type 1} (𝓤 : URA M) (H : Heap 𝓤) (A : Atoms 𝓤) (W : Given
         (λ _. and-then ! (arg ! refl) (no-more !)) (λ v-q g-q.
         land ! (from ! (stop !)) (init ! 21 refl (EL.lawful T-Query.the-type L-Query.the-laws 𝓤 H A W tt .typed q (v-q ∷ []) g-q .0)) $
         arg-fits ! 1 refl (λ f11-1.
-        scan-pass ! (in-seq ! (fmOf 𝓤 H (W .laws) 𝓣)) mem run known-scan L-records records _ (f11-1 .fits) 33554432 (lit< tt) q v-q g-q ((lit< tt, lit≤ tt))
+        scan-pass ! (in-seq ! (fmOf 𝓤 H (W .laws) 𝓣)) mem run known-scan L-records records _ (f11-1 .fits) _ (lit< tt) q v-q g-q ((lit< tt, lit≤ tt))
         (λ _. and-then ! (arg ! refl) (and-then ! (arg ! refl) (and-then ! (big-lit ! (record { fits = lit< tt })) (and-then ! (arg ! refl) (no-more !))))) (λ v-f g-f.
         land ! (from ! (stop !)) (init ! 23 refl (EL.lawful T-Found.the-type L-Found.the-laws 𝓤 H A W tt .typed f (v-f ∷ []) g-f .0)) $
         owns-reply-step ! (in-seq ! (fmOf 𝓤 H (W .laws) 𝓣)) mem run known-owns-reply _ state v-state g-state f v-f g-f

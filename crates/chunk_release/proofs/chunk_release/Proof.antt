@@ -185,7 +185,7 @@ module _ {M : Type 1} (𝓤 : URA M) (H : Heap 𝓤) (A : Atoms 𝓤) (W : Given
         page-of-step ! (in-seq ! (fmOf 𝓤 H (W .laws) 𝓣)) mem run known-page-of settings v-settings g-settings
         (λ _. and-then ! (arg ! refl) (no-more !)) (λ f-t22.
         land ! (from ! (stop !)) (init ! 45 refl (tt, record { fits = f-t22 })) $
-        row-one-step ! (in-seq ! (fmOf 𝓤 H (W .laws) 𝓣)) mem run known-row-one L-records records (length stamps) (known-stamps .1 .0) state v-state g-state t22 f-t22 33554432 (lit< tt) ((lit< tt, lit≤ tt))
+        row-one-step ! (in-seq ! (fmOf 𝓤 H (W .laws) 𝓣)) mem run known-row-one L-records records (length stamps) (known-stamps .1 .0) state v-state g-state t22 f-t22 _ (lit< tt) ((lit< tt, lit≤ tt))
         (λ _. and-then ! (arg ! refl) (and-then ! (arg ! refl) (and-then ! (arg ! refl) (and-then ! (arg ! refl) (and-then ! (big-lit ! (record { fits = lit< tt })) (no-more !)))))) (
         land ! (from ! (stop !)) (init ! 21 refl (tt, tt)) $
         release-count-step ! (in-seq ! (fmOf 𝓤 H (W .laws) 𝓣)) mem run known-release-count _ state v-state g-state n f-n
@@ -196,7 +196,7 @@ module _ {M : Type 1} (𝓤 : URA M) (H : Heap 𝓤) (A : Atoms 𝓤) (W : Given
         holds-query-step ! (in-seq ! (fmOf 𝓤 H (W .laws) 𝓣)) mem run known-holds-query address f-address
         (λ _. and-then ! (arg ! refl) (no-more !)) (λ v-t25 g-t25.
         land ! (from ! (stop !)) (init ! 51 refl (EL.lawful T-Query.the-type L-Query.the-laws 𝓤 H A W tt .typed t25 (v-t25 ∷ []) g-t25 .0)) $
-        scan-step ! (in-seq ! (fmOf 𝓤 H (W .laws) 𝓣)) mem run known-scan L-records records k f-k 33554432 (lit< tt) t25 v-t25 g-t25 ((lit< tt, lit≤ tt))
+        scan-step ! (in-seq ! (fmOf 𝓤 H (W .laws) 𝓣)) mem run known-scan L-records records k f-k _ (lit< tt) t25 v-t25 g-t25 ((lit< tt, lit≤ tt))
         (λ _. and-then ! (arg ! refl) (and-then ! (arg ! refl) (and-then ! (big-lit ! (record { fits = lit< tt })) (and-then ! (arg ! refl) (no-more !))))) (λ v-f g-f.
         land ! (from ! (stop !)) (init ! 25 refl (EL.lawful T-Found.the-type L-Found.the-laws 𝓤 H A W tt .typed f (v-f ∷ []) g-f .0)) $
         stored-at-step ! (in-seq ! (fmOf 𝓤 H (W .laws) 𝓣)) mem run known-stored-at f v-f g-f
@@ -207,10 +207,10 @@ module _ {M : Type 1} (𝓤 : URA M) (H : Heap 𝓤) (A : Atoms 𝓤) (W : Given
         head-or-step ! (in-seq ! (fmOf 𝓤 H (W .laws) 𝓣)) mem run known-head-or L-records records i f-i
         (λ _. and-then ! (arg ! refl) (and-then ! (arg ! refl) (no-more !))) (λ v-h g-h.
         land ! (from ! (stop !)) (init ! 29 refl (LL.lawful T-Head.the-type L-Head.the-laws 𝓤 H A W .typed h (v-h ∷ []) g-h .0)) $
-        is-granted-step ! (in-seq ! (fmOf 𝓤 H (W .laws) 𝓣)) mem run known-is-granted h v-h g-h address f-address n f-n f v-f g-f 33554432 (lit< tt) (lit< tt)
+        is-granted-step ! (in-seq ! (fmOf 𝓤 H (W .laws) 𝓣)) mem run known-is-granted h v-h g-h address f-address n f-n f v-f g-f _ (lit< tt) (lit< tt)
         (λ _. and-then ! (arg ! refl) (and-then ! (arg ! refl) (and-then ! (arg ! refl) (and-then ! (arg ! refl) (and-then ! (big-lit ! (record { fits = lit< tt })) (no-more !)))))) (
         land ! (from ! (stop !)) (init ! 31 refl (tt, tt)) $
-        start-of-step ! (in-seq ! (fmOf 𝓤 H (W .laws) 𝓣)) mem run known-start-of h v-h g-h address f-address 33554432 (lit< tt) (lit< tt)
+        start-of-step ! (in-seq ! (fmOf 𝓤 H (W .laws) 𝓣)) mem run known-start-of h v-h g-h address f-address _ (lit< tt) (lit< tt)
         (λ _. and-then ! (arg ! refl) (and-then ! (arg ! refl) (and-then ! (big-lit ! (record { fits = lit< tt })) (no-more !)))) (λ f-s.
         land ! (from ! (stop !)) (init ! 33 refl (tt, record { fits = f-s })) $
         release-ms-step ! (in-seq ! (fmOf 𝓤 H (W .laws) 𝓣)) mem run known-release-ms ns f-ns
@@ -228,11 +228,11 @@ module _ {M : Type 1} (𝓤 : URA M) (H : Heap 𝓤) (A : Atoms 𝓤) (W : Given
         assigns ! (addr ! (from ! (fld ! refl (hop ! (look-in ! 5 (sub ! 0 refl (whole !))) (stop !))))) (from ! (stop !)) (init ! 63 refl (tt, tt)) $
         assigns ! (agg ! (and-then ! (in-local ! refl) (and-then ! (load ! (from ! (fld ! refl (stop !))) (look-in ! 5 (sub ! 1 refl (whole !)))) (no-more !)))) (from ! (stop !)) (init ! 65 refl (tt, (tt, (record { fits = known-stamps .1 .0 }, tt)))) $
         swaps ! $ arg-fits ! 1 refl (λ f28-1. arg-fits ! 2 refl (λ f28-2. arg-fits ! 4 refl (λ f28-4.
-        release-stamps-step ! (in-seq ! (fmOf 𝓤 H (W .laws) 𝓣)) mem run known-release-stamps L-stamps stamps _ (f28-1 .fits) _ (f28-2 .fits) _ _ (f28-4 .fits) f v-f g-f h v-h g-h 33554432 (lit< tt) ((lit< tt, found-in 33554432 records stamps state settings address n))
+        release-stamps-step ! (in-seq ! (fmOf 𝓤 H (W .laws) 𝓣)) mem run known-release-stamps L-stamps stamps _ (f28-1 .fits) _ (f28-2 .fits) _ _ (f28-4 .fits) f v-f g-f h v-h g-h _ (lit< tt) ((lit< tt, found-in 33554432 records stamps state settings address n))
         (λ _. and-then ! (arg ! refl) (and-then ! (arg ! refl) (and-then ! (arg ! refl) (and-then ! (arg ! refl) (and-then ! (arg ! refl) (and-then ! (arg ! refl) (and-then ! (arg ! refl) (and-then ! (big-lit ! (record { fits = lit< tt })) (no-more !))))))))) (λ v-t28 g-t28 l-stamps-1.
         swaps ! $
         land ! (from ! (stop !)) (store ! 57 refl (nothing-lawful 𝓤 H A W .typed tt (v-t28 ∷ []) g-t28 .0)) $
-        release-answer-step ! (in-seq ! (fmOf 𝓤 H (W .laws) 𝓣)) mem run known-release-answer _ state v-state g-state address f-address n f-n f v-f g-f h v-h g-h 33554432 (lit< tt) (lit< tt)
+        release-answer-step ! (in-seq ! (fmOf 𝓤 H (W .laws) 𝓣)) mem run known-release-answer _ state v-state g-state address f-address n f-n f v-f g-f h v-h g-h _ (lit< tt) (lit< tt)
         (λ _. and-then ! (arg ! refl) (and-then ! (arg ! refl) (and-then ! (arg ! refl) (and-then ! (arg ! refl) (and-then ! (arg ! refl) (and-then ! (arg ! refl) (and-then ! (big-lit ! (record { fits = lit< tt })) (no-more !)))))))) (λ v-result g-result.
         land ! (from ! (stop !)) (init ! 1 refl (LL.lawful T-Reply.the-type L-Reply.the-laws 𝓤 H A W .typed result (v-result ∷ []) g-result .0)) $
         returns ! (look ! 1 refl) $ used ! $ used ! $ used ! $ used ! $ used ! $ used ! $ used ! $ used ! $ used ! $ used ! $ used ! $ used ! $ used ! $ used ! $ used ! $ used ! $ used ! $ used ! $ used ! $ used ! $ used ! $ used ! $ used ! $ used ! $ used ! $ used ! $ used ! $ used ! $ used ! $ used ! $ used ! $ used ! $ used ! $ free0 ! $

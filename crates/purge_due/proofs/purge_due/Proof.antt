@@ -125,7 +125,7 @@ module _ {M : Type 1} (𝓤 : URA M) (H : Heap 𝓤) (A : Atoms 𝓤) (W : Given
         assigns ! (agg ! (and-then ! (in-local ! refl) (and-then ! (load ! (from ! (fld ! refl (stop !))) (look-in ! 3 (sub ! 1 refl (whole !)))) (no-more !)))) (from ! (stop !)) (init ! 29 refl (tt, (tt, (record { fits = known-records .1 .0 }, tt)))) $
         assigns ! (of-opd ! (load ! (from ! (fld ! refl (stop !))) (look-in ! 5 (sub ! 1 refl (whole !))))) (from ! (stop !)) (init ! 31 refl (tt, record { fits = known-stamps .1 .0 })) $
         arg-fits ! 1 refl (λ f8-1. arg-fits ! 3 refl (λ f8-3.
-        row-one-step ! (in-seq ! (fmOf 𝓤 H (W .laws) 𝓣)) mem run known-row-one L-records records _ (f8-1 .fits) state v-state g-state _ (f8-3 .fits) 33554432 (lit< tt) ((lit< tt, lit≤ tt))
+        row-one-step ! (in-seq ! (fmOf 𝓤 H (W .laws) 𝓣)) mem run known-row-one L-records records _ (f8-1 .fits) state v-state g-state _ (f8-3 .fits) _ (lit< tt) ((lit< tt, lit≤ tt))
         (λ _. and-then ! (arg ! refl) (and-then ! (arg ! refl) (and-then ! (arg ! refl) (and-then ! (arg ! refl) (and-then ! (big-lit ! (record { fits = lit< tt })) (no-more !)))))) (
         land ! (from ! (stop !)) (init ! 17 refl (tt, tt)) $
         sweep-count-step ! (in-seq ! (fmOf 𝓤 H (W .laws) 𝓣)) mem run known-sweep-count _ state v-state g-state
@@ -143,7 +143,7 @@ module _ {M : Type 1} (𝓤 : URA M) (H : Heap 𝓤) (A : Atoms 𝓤) (W : Given
         assigns ! (addr ! (from ! (fld ! refl (hop ! (look-in ! 5 (sub ! 0 refl (whole !))) (stop !))))) (from ! (stop !)) (init ! 37 refl (tt, tt)) $
         assigns ! (agg ! (and-then ! (in-local ! refl) (and-then ! (load ! (from ! (fld ! refl (stop !))) (look-in ! 5 (sub ! 1 refl (whole !)))) (no-more !)))) (from ! (stop !)) (init ! 39 refl (tt, (tt, (record { fits = known-stamps .1 .0 }, tt)))) $
         arg-fits ! 2 refl (λ f12-1. arg-fits ! 3 refl (λ f12-2.
-        sweep-on-step ! (in-seq ! (fmOf 𝓤 H (W .laws) 𝓣)) mem run known-sweep-on L-records records L-stamps stamps _ (f12-1 .fits) _ (f12-2 .fits) _ w v-w g-w 33554432 (lit< tt) (let facts = sweepable 33554432 records stamps state (settings .page) in (lit≤ tt, facts .0, facts .1, facts .2))
+        sweep-on-step ! (in-seq ! (fmOf 𝓤 H (W .laws) 𝓣)) mem run known-sweep-on L-records records L-stamps stamps _ (f12-1 .fits) _ (f12-2 .fits) _ w v-w g-w _ (lit< tt) (let facts = sweepable 33554432 records stamps state (settings .page) in (lit≤ tt, facts .0, facts .1, facts .2))
         (λ _. and-then ! (arg ! refl) (and-then ! (arg ! refl) (and-then ! (arg ! refl) (and-then ! (arg ! refl) (and-then ! (arg ! refl) (and-then ! (arg ! refl) (and-then ! (big-lit ! (record { fits = lit< tt })) (no-more !)))))))) (λ v-own g-own l-records-1 l-stamps-1.
         land ! (from ! (stop !)) (init ! 25 refl (LL.lawful T-Reply.the-type L-Reply.the-laws 𝓤 H A W .typed own (v-own ∷ []) g-own .0)) $
         gate-step ! (in-seq ! (fmOf 𝓤 H (W .laws) 𝓣)) mem run known-gate _ state v-state g-state own v-own g-own

@@ -84,11 +84,11 @@ module _ {M : Type 1} (𝓤 : URA M) (H : Heap 𝓤) (A : Atoms 𝓤) (W : Given
         assigns ! (agg ! (and-then ! (in-local ! refl) (and-then ! (load ! (from ! (fld ! refl (stop !))) (look-in ! 3 (sub ! 1 refl (whole !)))) (no-more !)))) (from ! (stop !)) (init ! 27 refl (tt, (tt, (record { fits = known-records .1 .0 }, tt)))) $
         assigns ! (of-opd ! (load ! (from ! (fld ! refl (stop !))) (look-in ! 5 (sub ! 1 refl (whole !))))) (from ! (stop !)) (init ! 29 refl (tt, record { fits = known-stamps .1 .0 })) $
         arg-fits ! 1 refl (λ f11-1. arg-fits ! 3 refl (λ f11-3.
-        row-one-step ! (in-seq ! (fmOf 𝓤 H (W .laws) 𝓣)) mem run known-row-one L-records records _ (f11-1 .fits) state v-state g-state _ (f11-3 .fits) 33554432 (lit< tt) ((lit< tt, lit≤ tt))
+        row-one-step ! (in-seq ! (fmOf 𝓤 H (W .laws) 𝓣)) mem run known-row-one L-records records _ (f11-1 .fits) state v-state g-state _ (f11-3 .fits) _ (lit< tt) ((lit< tt, lit≤ tt))
         (λ _. and-then ! (arg ! refl) (and-then ! (arg ! refl) (and-then ! (arg ! refl) (and-then ! (arg ! refl) (and-then ! (big-lit ! (record { fits = lit< tt })) (no-more !)))))) (
         land ! (from ! (stop !)) (init ! 23 refl (tt, tt)) $
         arg-fits ! 2 refl (λ f0-3. arg-fits ! 6 refl (λ f0-7.
-        reserve-core-step ! (in-seq ! (fmOf 𝓤 H (W .laws) 𝓣)) mem run known-reserve-core _ state v-state g-state _ (f0-3 .fits) _ _ _ _ (f0-7 .fits) 33554432 (lit< tt) ((lit< tt, lit≤ tt))
+        reserve-core-step ! (in-seq ! (fmOf 𝓤 H (W .laws) 𝓣)) mem run known-reserve-core _ state v-state g-state _ (f0-3 .fits) _ _ _ _ (f0-7 .fits) _ (lit< tt) ((lit< tt, lit≤ tt))
         (λ _. and-then ! (arg ! refl) (and-then ! (arg ! refl) (and-then ! (arg ! refl) (and-then ! (arg ! refl) (and-then ! (arg ! refl) (and-then ! (arg ! refl) (and-then ! (arg ! refl) (and-then ! (big-lit ! (record { fits = lit< tt })) (no-more !))))))))) (λ v-result g-result.
         land ! (from ! (stop !)) (init ! 1 refl (LL.lawful T-Reply.the-type L-Reply.the-laws 𝓤 H A W .typed result (v-result ∷ []) g-result .0)) $
         returns ! (look ! 1 refl) $ used ! $ used ! $ used ! $ used ! $ used ! $ used ! $ used ! $ used ! $ used ! $ used ! $ used ! $ used ! $ used ! $ used ! $ used ! $ free0 ! $

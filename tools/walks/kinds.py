@@ -122,7 +122,7 @@ class Function:
         equal = {}
         for part in split_top(text, " × "):
             sides = split_top(bare(part), " ≡ ")
-            if len(sides) != 2 or " → " in "".join(split_top(bare(part), " → ")[1:]) or len(split_top(bare(part), " → ")) > 1:
+            if len(sides) != 2 or len(split_top(bare(part), " → ")) > 1:
                 return text, None
             equal[sides[0].strip()] = sides[1].strip()
         wanted = ({"out"} if self.result.form != "unit" else set()) | {f"{n}-exit" for n, s in self.slices if s.changes}

@@ -106,7 +106,7 @@ def element(s):
 
 
 def handed(f, equal, left, lists, changed):
-    """How the rest of the walk, k, is given what the call rule gives."""
+    """How the rest of the walk is given what the call rule gives."""
     kind = f.result
     lengths = [f"l-{n}" for n in changed]
     if equal is None:

@@ -26,7 +26,6 @@ class Walk:
         self.name |= {i: f"t{i}" for i in range(len(f.locals)) if i not in self.name}
         self.kind = {i + 1: dict(f.plain).get(n) for i, n in enumerate(f.names)}
         self.slice = {i + 1: n for i, n in enumerate(f.names) if n in dict(f.slices)}
-        self.length = {}
         self.lists = {n: n for n, _ in f.slices}
         self.kept = {n: "refl" for n, s in f.slices if s.changes}
         self.versions = {n: 0 for n, _ in f.slices}

@@ -25,7 +25,7 @@ the lists `SLICE-1`, `SLICE-2` .. that it leaves.
 Usage: python3 tools/walks            writes them all
        python3 tools/walks --check    says which of them are not as they would be written, and fails if any is not
 
-It reads the MIR by `rt mir`, which proves first what a crate stands on.
+It reads the MIR from the sources alone, so that nothing need be proved to write a walk anew.
 """
 import re
 import sys

@@ -1,7 +1,9 @@
 """Reads what the proofs are written from: the functions' sources, their MIR, and the .walk files."""
+import platform
 import re
 import subprocess
 import sys
+import tempfile
 from pathlib import Path
 
 ROOT = Path(__file__).resolve().parent.parent.parent
@@ -130,13 +132,40 @@ def functions(crate):
     return found
 
 
+def stood_on():
+    """What each crate of crates.txt stands on, in the order of the file."""
+    found = {}
+    for line in (ROOT / "crates.txt").read_text().split("\n"):
+        name, colon, rest = line.partition(":")
+        if colon and not line.startswith("#"):
+            found[name.strip()] = rest.split()
+    return found
+
+
 class Mir:
     """The functions of a crate and of what it stands on, in MIR, and which types are enums."""
 
+    KIT = Path(subprocess.run(["rt", "doc"], capture_output=True, text=True).stdout.strip()).parent.parent
+    CRATES = stood_on()
+
     def __init__(self, crate):
-        said = subprocess.run(["rt", "mir", crate], capture_output=True, text=True, cwd=ROOT)
+        wanted, below = {crate}, [crate]
+        while below:
+            for name in self.CRATES.get(below.pop(), []):
+                if name not in wanted:
+                    wanted.add(name)
+                    below.append(name)
+        libs = ["--lib", f"std={self.KIT}/libs/std/src/lib.rt"]
+        for name in self.CRATES:
+            if name in wanted:
+                libs += ["--lib", f"{name}={CRATES / name}/src/lib.rt"]
+        with tempfile.TemporaryDirectory() as scratch:
+            main = Path(scratch) / "main.rt"
+            main.write_text("fn main() {}\n")
+            printer = self.KIT / "on" / platform.machine() / "bin" / "rattle-print-mir"
+            said = subprocess.run([printer, main, "--crate-name", "none", *libs], capture_output=True, text=True)
         if said.returncode:
-            sys.exit(f"rt mir {crate}: {said.stdout[-500:]}{said.stderr[-2000:]}")
+            sys.exit(f"the MIR of {crate}: {said.stdout[-500:]}{said.stderr[-2000:]}")
         text = said.stdout[said.stdout.index("program (") :]
         self.enums = set(re.findall(r'\(pair "([^"]+)" \(variants ', text))
         self.functions = {f[1].strip('"'): f[2] for f in items(sexp(text)[1])}

@@ -87,9 +87,8 @@ class Uses:
         module = seen_from(module, self.own)
         if name in self.library and not module.startswith("Rattle·"):
             return text
-        other = next((m for m, n in self.names if n == name and m != module), None)
         here = name
-        if other is not None:
+        if name in self.library or any(n == name and m != module for m, n in self.names):
             here = f"{name}-{re.match(r'Rattle·([a-z_]+)', module)[1].replace('_', '-')}"
             text = re.sub(rf"(?<![\w-]){re.escape(name)}(?![\w-])", here, text)
         self.names[module, name] = here

@@ -154,6 +154,7 @@ struct sirqobal_reply {
     bool decommit;     /* purge */
     bool commit;       /* memory */
     bool large;        /* memory */
+    uint16_t spare;    /* always 0 */
     struct sirqobal_state state;
 };
 

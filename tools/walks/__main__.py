@@ -4,7 +4,8 @@ A walk goes through a function's MIR step by step. What it says beside the code 
 what the function leaves is what its contract says. That stands in crates/NAME/walks/FUNCTION.walk; all else follows from the MIR and the
 contracts, and is written here:
 
-    crates/NAME/proofs/Callable.antt             a step lemma for each function of NAME that a walk calls
+    crates/NAME/proofs/Callable.antt             a step lemma for each function of NAME that a walk calls; those of functions that are private
+                                                 to a module of the code stand in proofs/MODULE/Callable.antt
     crates/NAME/proofs/FUNCTION/Proof.antt       the walk, with its frame and its citations
     crates/walks/proofs/Walking.antt             the names of the libraries that these use, passed on
 
@@ -19,8 +20,20 @@ A .walk file begins with the sentence of the proof's head. Then come, in any ord
 
 A term may go on in lines that are set in. In it stand for themselves: the parameters, a slice as the list that it holds at the entry; each
 local of the code that has a name; `known-SLICE`, what is known of a lent slice; `need`, what the function requires; `h1`, `h2` .. what
-the tests on the way have shown, in the order of the code; and for a call whose contract is no equation, of a local x, `x-says` and
-the lists `SLICE-1`, `SLICE-2` .. that it leaves.
+the tests on the way have shown, in the order of the code, and `e1`, `e2` .. the same as equations (`b ≡ true` or `b ≡ false`); for a call whose contract is no equation, of a local x, `x-says` and
+the lists `SLICE-1`, `SLICE-2` .. that it leaves; and for a local x that is an i32, `s-x`, that it fits: a callee is passed its bits, and says what it says of `toZ w32 (ofZ w32 x)`.
+
+A loop is taken in the one form `while i < k { .. i = i + 1; }`, in a function that is lent one slice by a `&`. Its .walk file has three lines more,
+
+    invariant: TYPE                     what is known before each turn, of the counter and of the locals that are set before the loop
+    starts: TERM                        why it holds at the first turn
+    again: TERM                         why it holds after a turn; a local x that the turn sets is x-next in it
+
+and in a turn stand for themselves `lt`, that the counter is below its bound, and `inv`, the invariant; behind the loop `inv-end`, the
+invariant at the bound.
+
+A walk with another loop is written by hand. For the step lemmas of its callees a file crates/NAME/walks/FUNCTION.steps names them, one in a
+line, with `shared` behind those that are lent a slice which the walk itself has by a `&`.
 
 Usage: python3 tools/walks            writes them all
        python3 tools/walks --check    says which of them are not as they would be written, and fails if any is not
@@ -31,9 +44,10 @@ import re
 import sys
 
 sys.dont_write_bytecode = True
+import loops
 from kinds import Function, chain, nest, substituted
 from lemmas import bound, element, held, step_lemma
-from reading import CRATES, ROOT, Mir, Script, functions
+from reading import CRATES, ROOT, Mir, Script, Unread, functions
 from uses import FRAMES, LIBRARY, Uses, seen_from
 from walk import DONE, MEETS, Walk
 
@@ -67,8 +81,10 @@ def steps_file(crate, called):
     for f in {f.source.path: f for f, _ in called}.values():
         contracts.append(f"  abbrev pub {f.contract} : Contract 𝓤\n  {f.contract} = tripleOf 𝓤 H A {f.word}′.signature ({f.word}′.spec 𝓤 H A mem run)\n")
         cites += [f"use {f.module(crate)} as {f.word}′", f"use {f.module(crate)}.Symbol.{{name as {f.key}}}"]
-    if any(f.shape == "ss" for f, _ in called):
+    if any(f.shape == "ss" and shared for f, shared in called):
         cites.append(f"use {seen_from('Rattle.walks.proofs.Two', crate)}.{{ss-call}}")
+    if any(f.shape == "ss" and not shared for f, shared in called):
+        cites.append(f"use {seen_from('Rattle.walks.proofs.Shares', crate)}.{{shr2-call}}")
     names = ", ".join(re.match(r"  pub (\S+)", lemma)[1] for lemma in lemmas)
     head = f"-- Functions of `{crate}` that a walk calls, each in one step: {names}. {MADE}\n-- Assumes `Given`, the callee's theorem, and that the table of calls is monotone under a frame.\n"
     body = f"""
@@ -149,6 +165,9 @@ def proof_file(f, script, walk):
         facts.append(f"({needs})")
         names.append("need")
         given.append("l")
+    if walk.loop:
+        out += walk.loop.module([(n, ty) for n, ty in zip(names, facts)])
+        text = text.replace("@FACTS@", " ".join(names))
     out += [f"    walk : {' → '.join(facts)} → Shown χ"] + ([f"    unfolding {script.unfolding}"] if script.unfolding else []) + [f"    walk {' '.join(names)} =", text, ""]
     projected = lambda words, skip=(): substituted(words, {n: p for n, p in at.items() if n not in skip})
     shown = projected(said)
@@ -182,27 +201,36 @@ def proof_file(f, script, walk):
         out.append(f"    (cited 𝓤 H ({c.contract} 𝓤 H (𝓖 .A) (𝓜 .mem) (𝓡 .run)) 𝓜 𝓡 code.env {c.key} {c.word}-def.routine code.calls-{path} ({c.word}-thm.met 𝓤 H 𝓜 𝓖 𝓡))")
         module = c.module(own)
         cites += [f"use {module}.Symbol as {c.word}-def", f"use {module}.Symbol.{{name as {c.key}}}", f"use {module}.Met as {c.word}-thm"]
-    by_crate = {}
+    by_home = {}
     for c, shared in walk.called.values():
-        by_crate.setdefault(c.source.crate, []).append((c, shared))
-    for crate, found in by_crate.items():
+        by_home.setdefault((c.source.crate, c.source.steps), []).append((c, shared))
+    for (crate, module), found in by_home.items():
         names = [c.contract for c, _ in found] + [f"{c.word}-{'pass' if shared else 'step'}" for c, shared in found]
-        cites.append(f"use {seen_from(f'Rattle.{crate}.proofs.Callable', own)}.{{{', '.join(dict.fromkeys(names))}}}")
+        home = ".".join([*module, "Callable"])
+        cites.append(f"use {seen_from(f'Rattle.{crate}.proofs.{home}', own)}.{{{', '.join(dict.fromkeys(names))}}}")
     out[-1] += ")"
     mine = f.module(own)
     cites += [f"use {mine}.Key.{{name as {f.key}}}", f"use {mine} as {f.word}′", f"use {mine}.Statement as stated", f"use {mine}.Code as code"]
     body = "\n" + "\n".join(out) + "\n"
+    if walk.loop:
+        cites += uses.only(loops.LIBRARY, body) + [f"use {mine}.Code.Mir.{{turn-1, t-{walk.loop.number}}}"]
     path = "::".join([own, *f.source.module, f.source.name])
     top = f"-- `{path}` meets its contract: a walk of its MIR. {script.head}\n-- {MADE} Assumes nothing.\n"
     return top + uses.lines(body, [*script.uses, f"use {FRAMES[f.shape].replace('Rattle·' + own + '.', 'Rattle·' + own + '·proofs.')}", *cites]) + "\n" + body
 
 
-def all_files():
-    """Each file that is written here, with its text."""
+def all_files(check):
+    """Each file that is written here, with its text. A crate whose sources do not compile is left as it is, unless they are checked."""
     files = {CRATES / "walks" / "proofs" / "Walking.antt": walking_file()}
     called, sources, mirs, made = {}, {}, {}, {}
     for crate in sorted(p.parent.name for p in CRATES.glob("*/walks")):
-        mirs[crate] = Mir(crate)
+        try:
+            mirs[crate] = Mir(crate)
+        except Unread as why:
+            if check:
+                sys.exit(str(why))
+            print(f"left as it is: {why}", file=sys.stderr)
+            continue
 
         def find(path, crate=crate):
             home = path.split("::")[0]
@@ -216,10 +244,16 @@ def all_files():
             text = proof_file(f, script, walk)
             files[CRATES / crate / "proofs" / "/".join([*f.source.module, f.source.name]) / "Proof.antt"] = text
             for callee, shared in walk.called.values():
-                called.setdefault(callee.source.crate, {})[callee.source.path, shared] = callee
-    for crate, found in called.items():
+                called.setdefault((callee.source.crate, callee.source.steps), {})[callee.source.path, shared] = callee
+        for path in sorted((CRATES / crate / "walks").glob("*.steps")):
+            for line in path.read_text().split("\n"):
+                name, _, shared = line.partition(" ")
+                if name and not name.startswith("#"):
+                    callee = find(name)
+                    called.setdefault((callee.source.crate, callee.source.steps), {})[name, shared == "shared"] = callee
+    for (crate, module), found in called.items():
         order = sorted(found)
-        files[CRATES / crate / "proofs" / "Callable.antt"] = steps_file(crate, [(found[key], key[1]) for key in order])
+        files[(CRATES / crate / "proofs").joinpath(*module, "Callable.antt")] = steps_file(crate, [(found[key], key[1]) for key in order])
     return files
 
 
@@ -227,7 +261,7 @@ def declare(path):
     """Names a module of laws in its crate's list."""
     if path.name == "Proof.antt":
         return
-    listed = path.parent / "Lib.antt"
+    listed = path.parent / "Lib.antt" if path.parent.name == "proofs" else path.parent.with_suffix(".antt")
     text = listed.read_text() if listed.is_file() else ""
     if f"pub mod {path.stem}\n" not in text:
         listed.write_text(text + f"pub mod {path.stem}\n")
@@ -236,7 +270,7 @@ def declare(path):
 def main():
     check = sys.argv[1:] == ["--check"]
     bad = []
-    for path, text in all_files().items():
+    for path, text in all_files(check).items():
         if check:
             if not path.is_file() or path.read_text() != text:
                 bad.append(str(path.relative_to(ROOT)))

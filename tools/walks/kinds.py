@@ -101,7 +101,7 @@ class Function:
 
     @property
     def contract(self):
-        return "".join(w.capitalize() for w in self.source.name.split("_"))
+        return "".join(w.capitalize() for w in self.source.name.split("_")) + "Spec"
 
     @property
     def shape(self):

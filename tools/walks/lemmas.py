@@ -24,7 +24,7 @@ def held(slices, lists, last="more"):
     return out
 
 
-CALLS = {("", False): "plain-call", ("m", False): "mut-call", ("s", False): "shr-call", ("s", True): "pass-call", ("mm", False): "mut2-call", ("ss", True): "ss-call"}
+CALLS = {("", False): "plain-call", ("m", False): "mut-call", ("s", False): "shr-call", ("s", True): "pass-call", ("mm", False): "mut2-call", ("ss", True): "ss-call", ("ss", False): "shr2-call"}
 
 
 def step_lemma(f, shared):
@@ -54,6 +54,8 @@ def step_lemma(f, shared):
     go = lambda u: f"Seq K W ({left} ∷ Γ) (after {u})"
     if equal is not None and kind.form == "number":
         rest = " → ".join([f"{value_of(value)} < 2 ^ {kind.width}", *told, go(f"(vint w{kind.width} {value_of(value)})")])
+    elif equal is not None and kind.form == "signed":
+        rest = " → ".join([f"SFits w32 {value_of(value)}", *told, go(f"(vint w32 (ofZ w32 {value_of(value)}))")])
     elif equal is not None and kind.form == "bool":
         rest = " → ".join([*told, go(f"(vbool {value_of(value)})")])
     elif equal is not None and kind.form == "unit":
@@ -78,7 +80,7 @@ def step_lemma(f, shared):
     out += [f"      → {b}" for b in [" → ".join(binds)] if binds]
     out += [f"      → ((hd′ : Item 𝓤) → Opds K W (hd′ ∷ Γ) E xs ({machine}))", f"      → ({rest})", f"      → Seq K W ({first} ∷ Γ) G"]
     out += [f"  {name} bang site mem run known {' '.join([*names, 'ops', 'then′'])} ="]
-    names_made = {"": 0, "ss-call": 0, "mut2-call": 2}.get(CALLS[f.shape, shared], 1)
+    names_made = {"": 0, "ss-call": 0, "mut2-call": 2, "shr2-call": 2}.get(CALLS[f.shape, shared], 1)
     marks = " ".join(["_"] * (1 + names_made))
     rule = CALLS[f.shape, shared]
     clauses = f"{nest(['yes'] * len(bounds))} ({f.word}′.clauses 𝓤 H A mem run) known"
@@ -124,6 +126,9 @@ def handed(f, equal, left, lists, changed):
     if kind.form == "number":
         inner = " ".join(["then′", f"(subst (λ (num′ : ℕ). num′ < 2 ^ {kind.width}) {fact['out']} (rel′ .1))", *lengths])
         inner = f"subst (λ (new′ : Val). Seq K W ({left} ∷ Γ) (after new′)) (sym (ap only (rel′ .0) ∙ ap (vint w{kind.width}) {fact['out']})) ({inner})"
+    elif kind.form == "signed":
+        inner = " ".join(["then′", f"(subst (λ (num′ : ℤ). SFits w32 num′) {fact['out']} (record {{ sfits = rel′ .1 }}))", *lengths])
+        inner = f"subst (λ (new′ : Val). Seq K W ({left} ∷ Γ) (after new′)) (sym (ap only (rel′ .0) ∙ ap (λ (num′ : ℤ). vint w32 (ofZ w32 num′)) {fact['out']})) ({inner})"
     elif kind.form == "bool":
         inner = " ".join(["then′", *lengths])
         inner = f"subst (λ (new′ : Val). Seq K W ({left} ∷ Γ) (after new′)) (sym (ap only (bool-tells out (val′ ∷ []) rel′) ∙ ap vbool {fact['out']})) ({inner})"

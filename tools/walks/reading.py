@@ -78,14 +78,19 @@ def items(chain):
 class Source:
     """A function's signature and contract, as its file has them."""
 
-    def __init__(self, crate, module, name, params, result, requires, ensures, uses, lets):
-        self.crate, self.module, self.name = crate, module, name
+    def __init__(self, crate, module, name, shown, params, result, requires, ensures, uses, lets):
+        self.crate, self.module, self.name, self.shown = crate, module, name, shown
         self.params, self.result, self.requires, self.ensures = params, result, requires, ensures
         self.uses, self.lets = uses, lets
 
     @property
     def path(self):
         return "::".join([self.crate, *self.module, self.name])
+
+    @property
+    def steps(self):
+        """The module of its step lemma, below `proofs`: one that is private to a module of the code is named only there."""
+        return () if self.shown else self.module
 
 
 def unquoted(text):
@@ -115,7 +120,7 @@ def functions(crate):
         module = path.relative_to(src).with_suffix("").parts
         module = () if module in (("lib",), ("main",)) else module
         uses = re.findall(r"^ghost use (\S+)\.\{([^}]*)\};", text, re.M)
-        for head in re.finditer(r'^(?:pub )?(?:extern "C" )?fn (\w+)\(', text, re.M):
+        for head in re.finditer(r'^(pub )?(?:extern "C" )?fn (\w+)\(', text, re.M):
             end = balanced(text, head.end() - 1, "()")
             inside = [p.strip() for p in split_top(text[head.end() : end], ",") if p.strip()]
             params = [tuple(x.strip() for x in p.split(":", 1)) for p in inside]
@@ -127,26 +132,42 @@ def functions(crate):
             ensures, at = clause(text, "ensures", at)
             body = text.index("{", at)
             lets = re.findall(r"\blet (?:mut )?(\w+)", text[body : balanced(text, body, "{}")])
-            source = Source(crate, module, head[1], params, result, requires, ensures, uses, lets)
+            source = Source(crate, module, head[2], bool(head[1]), params, result, requires, ensures, uses, lets)
             found[source.path] = source
     return found
 
 
-def stood_on():
-    """What each crate of crates.txt stands on, in the order of the file."""
+def declared(path):
+    """The fields of a struct, each with its type, or the variants of an enum, by the path of the type."""
+    crate, *module, name = path.split("::")
+    text = (CRATES / crate / "src" / ("/".join(module or ["lib"]) + ".rt")).read_text()
+    found = re.search(rf"^pub (struct|enum) {name} \{{", text, re.M)
+    inside = re.sub(r"//.*", "", text[found.end() : balanced(text, found.end() - 1, "{}")])
+    parts = [part.strip() for part in split_top(inside, ",") if part.strip()]
+    if found[1] == "struct":
+        return [tuple(x.strip() for x in part.removeprefix("pub ").split(":", 1)) for part in parts]
+    return [re.match(r"\w+", part)[0] for part in parts]
+
+
+def stood_on(listed):
+    """What each crate of a list stands on, in the order of the file."""
     found = {}
-    for line in (ROOT / "crates.txt").read_text().split("\n"):
+    for line in listed.read_text().split("\n"):
         name, colon, rest = line.partition(":")
         if colon and not line.startswith("#"):
             found[name.strip()] = rest.split()
     return found
 
 
+class Unread(Exception):
+    """Sources that do not compile."""
+
+
 class Mir:
     """The functions of a crate and of what it stands on, in MIR, and which types are enums."""
 
     KIT = Path(subprocess.run(["rt", "doc"], capture_output=True, text=True).stdout.strip()).parent.parent
-    CRATES = stood_on()
+    CRATES = stood_on(KIT / "libs" / "libs.txt") | stood_on(ROOT / "crates.txt")
 
     def __init__(self, crate):
         wanted, below = {crate}, [crate]
@@ -157,15 +178,16 @@ class Mir:
                     below.append(name)
         libs = ["--lib", f"std={self.KIT}/libs/std/src/lib.rt"]
         for name in self.CRATES:
-            if name in wanted:
-                libs += ["--lib", f"{name}={CRATES / name}/src/lib.rt"]
+            if name in wanted and name != "std":
+                home = CRATES if (CRATES / name).exists() else self.KIT / "libs"
+                libs += ["--lib", f"{name}={home / name}/src/lib.rt"]
         with tempfile.TemporaryDirectory() as scratch:
             main = Path(scratch) / "main.rt"
             main.write_text("fn main() {}\n")
             printer = self.KIT / "on" / platform.machine() / "bin" / "rattle-print-mir"
             said = subprocess.run([printer, main, "--crate-name", "none", *libs], capture_output=True, text=True)
         if said.returncode:
-            sys.exit(f"the MIR of {crate}: {said.stdout[-500:]}{said.stderr[-2000:]}")
+            raise Unread(f"the MIR of {crate}: {said.stdout[-500:]}{said.stderr[-500:]}")
         text = said.stdout[said.stdout.index("program (") :]
         self.enums = set(re.findall(r'\(pair "([^"]+)" \(variants ', text))
         self.functions = {f[1].strip('"'): f[2] for f in items(sexp(text)[1])}
@@ -183,6 +205,7 @@ class Script:
                 lines.append(line)
         self.head = lines[0]
         self.uses, self.required, self.returned, self.unfolding, self.found = [], {}, [], "", None
+        self.invariant, self.starts, self.again = "", "", ""
         for line in lines[1:]:
             word, _, rest = line.partition(" ")
             if word == "use":
@@ -192,6 +215,12 @@ class Script:
                 self.required[callee] = term
             elif word == "returns:":
                 self.returned.append(rest)
+            elif word == "invariant:":
+                self.invariant = rest
+            elif word == "starts:":
+                self.starts = rest
+            elif word == "again:":
+                self.again = rest
             elif word == "unfolding":
                 self.unfolding = rest
             elif word == "found":

@@ -2,9 +2,10 @@
 import re
 import sys
 
-from kinds import PLAIN, substituted
+from kinds import PLAIN, kind_of, substituted
 from lemmas import element
-from reading import items, variable
+from loops import Loop
+from reading import declared, items, variable
 from uses import tokens
 
 
@@ -18,22 +19,25 @@ class Walk:
 
     def __init__(self, f, script, find, uses):
         self.f, self.script, self.find, self.uses = f, script, find, uses
-        self.out, self.called, self.seen, self.tests, self.returns, self.depth = [], {}, {}, 0, 0, 0
+        self.shown = {}
+        self.out, self.called, self.seen, self.tests, self.returns = [], {}, {}, 0, 0
         named = self.f.source.lets
         # a local of the code has its name; the result and what the compiler adds have none
         self.name = {i + 1: n for i, n in enumerate(f.names)}
         self.name |= {f.count + 1 + i: variable(n) for i, n in enumerate(named)}
-        self.name |= {i: f"t{i}" for i in range(len(f.locals)) if i not in self.name}
+        self.unnamed = {i for i in range(len(f.locals)) if i not in self.name}
+        self.name |= {i: f"t{i}" for i in self.unnamed}
         self.kind = {i + 1: dict(f.plain).get(n) for i, n in enumerate(f.names)}
         self.slice = {i + 1: n for i, n in enumerate(f.names) if n in dict(f.slices)}
         self.lists = {n: n for n, _ in f.slices}
         self.kept = {n: "refl" for n, s in f.slices if s.changes}
         self.versions = {n: 0 for n, _ in f.slices}
         self.start = set(range(1, f.count + 1))
-        self.met, self.defined = set(), []
+        self.met, self.defined, self.constants = set(), [], set()
+        self.loop, self.starting = None, {}
 
     def emit(self, text):
-        self.out.append("        " + "  " * self.depth + text)
+        self.out.append(("        " + text).rstrip())
 
     def operand(self, x):
         """What an operand is: a name or a number of the proof."""
@@ -45,12 +49,36 @@ class Walk:
             return x[2]
         if x[0] == "copy" and not items(x[1][2]):
             return self.name[int(x[1][1])]
+        if self.field(x):
+            return f"({self.name[int(x[1][1])]} .{self.field(x)[0]})"
         sys.exit(f"{self.f.source.path}: a walk cannot read the operand {x}")
 
+    def field(self, x):
+        """Of an operand that is a field of a parameter: the field's name, its kind, and what picks it among the fields."""
+        if x[0] != "copy" or len(items(x[1][2])) != 1 or items(x[1][2])[0][0] != "field" or int(x[1][1]) > self.f.count:
+            return None
+        kind, k = self.kind.get(int(x[1][1])), int(items(x[1][2])[0][1])
+        if kind is None or kind.form != "named" or kind.laws != "LL":
+            return None
+        name, written = declared(kind.path)[k]
+        return (name, PLAIN[written], " .1" * k + " .0") if written in PLAIN else None
+
     def reads(self, x):
+        if x[0] == "int" and x[1] == "32" and int(x[2]) > 2**32 - 1024:
+            return "(neg-lit ! tt)"
         if x[0] == "int" and int(x[2]) >= 1024:
             return "(big-lit ! (record { fits = lit< tt }))"
+        if self.field(x):
+            return f"(load ! (from ! (fld ! refl (stop !))) (look-in ! {place(x[1][1])} (sub ! {items(x[1][2])[0][1]} refl (whole !))))"
         return "(arg ! refl)"
+
+    def fitting(self, x, name):
+        """A step that names what is known of a parameter's fields, and the bound of the one that the operand is."""
+        return f"entry-fits ! {place(x[1][1])} refl (λ {name}.", f"({name}{self.field(x)[2]} .fits)"
+
+    def local(self, n):
+        """What reads a local."""
+        return f"(load ! (from ! (stop !)) (look ! {place(n)} refl))"
 
     def puts(self, n, ready, term):
         word = "store" if int(n) in ready else "init"
@@ -64,7 +92,7 @@ class Walk:
             self.slice[n] = self.slice[int(p[1])]
             read = f"(addr ! (from ! (fld ! refl (hop ! (look-in ! {place(p[1])} (sub ! 0 refl (whole !))) (stop !)))))"
             typed = "(tt, tt)"
-        elif value[0] == "aggregate":
+        elif value[0] == "aggregate" and len(items(value[1])) == 2:
             first, second = items(value[1])
             self.slice[n] = self.slice[int(first[1][1])]
             read = f"(agg ! (and-then ! (in-local ! refl) (and-then ! (load ! (from ! (fld ! refl (stop !))) (look-in ! {place(second[1][1])} (sub ! 1 refl (whole !)))) (no-more !))))"
@@ -79,13 +107,63 @@ class Walk:
             self.name[n] = f"(not {self.operand(value[2])})"
             self.kind[n] = PLAIN["bool"]
             read, typed = f"(un ! {self.reads(value[2])} tt)", "(tt, tt)"
+        elif value[0] == "op2" and (word := COMPARED.get(str(value[1]))):
+            self.name[n] = word.format(self.operand(value[2]), self.operand(value[3]))
+            self.kind[n] = PLAIN["bool"]
+            read, typed = f"(bin ! {self.reads(value[2])} {self.reads(value[3])} tt)", "(tt, tt)"
+        elif value[0] == "rvOpd" and self.field(value[1]):
+            field, kind, _ = self.field(value[1])
+            self.kind[n] = kind
+            typed = "(tt, tt)"
+            if kind.form == "number":
+                opened, fits = self.fitting(value[1], f"w{n}")
+                self.emit(f"{opened} let f-{self.name[n]} : {self.operand(value[1])} < 2 ^ {kind.width} = {fits} in")
+                self.open += 1
+                typed = f"(tt, record {{ fits = f-{self.name[n]} }})"
+            self.define(self.name[n], kind.denot, self.operand(value[1]))
+            read = f"(of-opd ! {self.reads(value[1])})"
+        elif value[0] == "aggregate" and self.constant(n, value):
+            kind, name = self.constant(n, value)
+            self.uses.names[f"{self.uses.module(kind)}.the-variants", name] = name
+            self.uses.kind(kind)
+            self.kind[n], self.name[n] = kind, name
+            self.constants.add(name)
+            read = "(agg ! (and-then ! (lit ! tt) (no-more !)))"
+            typed = f"({kind.lawful()} .typed {name} (EL.val T-{kind.alias}.the-type L-{kind.alias}.the-laws {name} ∷ []) (EL.owes T-{kind.alias}.the-type L-{kind.alias}.the-laws {name} tt) .0)"
+        elif value[0] == "rvOpd" and value[1][0] == "copy" and not items(value[1][1][2]) and self.kind.get(int(value[1][1][1])) is PLAIN["bool"]:
+            self.name[n] = self.operand(value[1])
+            self.kind[n] = PLAIN["bool"]
+            read, typed = f"(of-opd ! {self.reads(value[1])})", "(tt, tt)"
         elif value[0] == "rvOpd" and value[1] in ("true", "false", "opdTrue", "opdFalse"):
             self.name[n] = self.operand(value[1])
             self.kind[n] = PLAIN["bool"]
             read, typed = f"(of-opd ! ({'true' if 'rue' in value[1] else 'false'}-lit !))", "(tt, tt)"
+        elif value[0] == "rvOpd" and value[1][0] == "copy" and not items(value[1][1][2]) and self.kind.get(int(value[1][1][1])) is PLAIN["bool"]:
+            self.name[n] = self.operand(value[1])
+            self.kind[n] = PLAIN["bool"]
+            read, typed = f"(of-opd ! (load ! (from ! (stop !)) (look ! {place(value[1][1][1])} refl)))", "(tt, tt)"
+        elif value == ["rvOpd", "unit"]:
+            self.kind[n] = PLAIN["()"]
+            read, typed = "(of-opd ! (unit-lit !))", "(tt, tt)"
+        elif value[0] == "rvOpd" and value[1][0] == "int" and n and int(value[1][2]) < 1024:
+            self.starting[n] = value[1][2]
+            self.kind[n] = PLAIN["usize"]
+            read, typed = "(of-opd ! (lit ! tt))", "(tt, record { fits = lit< tt })"
+        elif value[0] == "rvOpd" and value[1][0] == "copy" and not items(value[1][1][2]) and n == 0 and self.f.result.form == "named":
+            m = self.operand(value[1])
+            self.name[n] = m
+            read, typed = f"(of-opd ! {self.local(value[1][1][1])})", f"({self.f.result.lawful()} .typed {m} (v-{m} ∷ []) g-{m} .0)"
         else:
             sys.exit(f"{self.f.source.path}: a walk cannot assign {value}")
         self.emit(f"assigns ! {read} (from ! (stop !)) {self.puts(n, ready, typed)} $")
+
+    def constant(self, n, value):
+        """A variant without fields that is assigned to the local n: the enum's kind, and the variant's name."""
+        mir_type = self.f.locals[n]
+        if mir_type[0] != "tyNamed" or mir_type[1][1].strip('"') not in self.f.mir.enums or len(items(value[1])) != 1:
+            return None
+        kind = kind_of("", mir_type, self.f.mir.enums)
+        return kind, declared(kind.path)[int(items(value[1])[0][2])]
 
     def call(self, statement, ready):
         callee = self.find(statement[1][1][1].strip('"'))
@@ -102,7 +180,13 @@ class Walk:
         turned = len(self.f.slices) == 2 and lent == [self.f.slices[1][0]]
         args, opened = [x for m in lent for x in (f"L-{m}", self.lists[m])], []
         for k, (x, (name, kind)) in enumerate(zip(plain, callee.plain)):
-            if kind.form == "number" and self.script.found is not None and callee.source.name not in self.script.found and x[0] == "copy":
+            if kind.form == "number" and self.field(x):
+                step, bound = self.fitting(x, f"w{n}-{k + 1}")
+                opened.append(step)
+                args += [self.operand(x), bound]
+            elif kind.form == "bool" and self.field(x):
+                args += [self.operand(x)]
+            elif kind.form == "number" and self.script.found is not None and callee.source.name not in self.script.found and x[0] == "copy":
                 m = self.operand(x)
                 length = re.match(r"\(length (\S+)\)$", m)
                 args += [m, f"(known-{length[1]} .1 .0)" if length else f"f-{m}"]
@@ -112,16 +196,19 @@ class Walk:
                 args += ["_", f"({fits} .fits)" if kind.form == "number" else fits]
             elif kind.form == "number":
                 args += ["_", "(lit< tt)"]
+            elif kind.form == "signed":
+                args += ["_", "(record { fits = lit< tt })"]
             elif kind.form == "bool":
                 args += ["_"]
             else:
                 m = self.operand(x)
-                args += [m, f"v-{m}", f"g-{m}"]
+                laws = f"T-{kind.alias}.the-type L-{kind.alias}.the-laws {m}"
+                args += [m, f"(EL.val {laws})", f"(EL.owes {laws} tt)"] if m in self.constants else [m, f"v-{m}", f"g-{m}"]
         if callee.needs():
             key = f"{callee.source.name} {again}" if f"{callee.source.name} {again}" in self.script.required else callee.source.name
             if key not in self.script.required:
                 sys.exit(f"{self.f.source.path}: it calls {callee.source.path}, and no line says why what that requires holds")
-            args.append(f"({self.script.required[key]})")
+            args.append(f"({self.said(self.script.required[key])})")
         reads = "(no-more !)"
         for x in reversed(arguments):
             reads = f"(and-then ! {self.reads(x)} {reads})"
@@ -129,7 +216,7 @@ class Walk:
         if equal is not None:
             equal = {left: self.uses.clause(callee.source, right) for left, right in equal.items()}
         names = {name: self.term(x, kind) for x, (name, kind) in zip(plain, callee.plain)} | {name: self.lists[m] for (name, _), m in zip(callee.slices, lent)}
-        local = self.name[n] if n else "result"
+        local = self.renamed(n) if n else "result"
         kind = callee.result
         changed = [(name, m) for (name, s), m in zip(callee.slices, lent) if s.changes]
         binders, lets = [], []
@@ -137,6 +224,8 @@ class Walk:
             value = equal.get("out")
             if kind.form == "number":
                 binders.append(f"f-{local}")
+            elif kind.form == "signed":
+                binders.append(f"s-{local}")
             elif kind.form != "bool":
                 binders += [f"v-{local}", f"g-{local}"]
             binders += [f"l-{m}-{self.versions[m] + 1}" for _, m in changed]
@@ -170,8 +259,10 @@ class Walk:
         told = ([f"λ {' '.join(binders)}."] if binders else []) + lets
         self.emit(f"(λ _. {reads[1:-1]}) ({' '.join(told)}")
         self.open += len(opened) + 1
-        if kind.form in ("number", "signed"):
+        if kind.form == "number":
             typed = f"(tt, record {{ fits = f-{local} }})"
+        elif kind.form == "signed":
+            typed = f"(tt, ofZ-fits w32 {local} s-{local})"
         elif kind.form == "bool":
             typed = "(tt, tt)"
         else:
@@ -180,9 +271,29 @@ class Walk:
             self.emit("swaps ! $")
         self.emit(f"land ! (from ! (stop !)) {self.puts(n, ready, typed)} $")
 
+    def renamed(self, n):
+        """The name of a local that is assigned: one that the compiler adds and uses again has a new one each time."""
+        if self.loop and n in self.loop.carried:
+            self.name[n] += "-next"
+        taken = {name for name, _, _ in self.defined} | self.met
+        if n in self.unnamed:
+            self.name[n], again = f"t{n}", 2
+            while self.name[n] in taken:
+                self.name[n] = f"t{n}-{again}"
+                again += 1
+        return self.name[n]
+
     def term(self, x, kind):
-        """An operand in what a callee's contract says."""
-        return f"(toZ w32 {x[2]})" if kind.form == "signed" and x[0] == "int" else self.operand(x)
+        """An operand in what a callee's contract says. A signed number is passed as its bits."""
+        if kind.form != "signed":
+            return self.operand(x)
+        if x[0] == "int":
+            return f"(toZ w32 {x[2]})"
+        return f"(toZ w32 (ofZ w32 {self.operand(x)}))" if int(x[1][1]) > self.f.count else self.operand(x)
+
+    def said(self, term):
+        """A term of the script, with what the tests have shown as equations."""
+        return re.sub(r"(?<![\w-])e\d+(?![\w-])", lambda m: self.shown.get(m[0], m[0]), term)
 
     def define(self, name, denot, term):
         """A name for what a call gives: over the whole walk, or, where it rests on what is met on the way, from here on."""
@@ -211,29 +322,42 @@ class Walk:
             value = [f"(vint w{kind.width} result)", "result"]
             shown = "(refl, f-result)"
         elif kind.form == "bool":
-            given = self.name[0] if self.name.get(0, "t0") in ("true", "false") else "result"
+            given = self.name[0] if self.name.get(0, "t0") != "t0" else "result"
             value, shown = [f"(vbool {given})", given], "refl"
         elif kind.form == "unit":
-            value, shown = ["v-result", "tt"], "g-result"
+            value, shown = ["vunit", "tt"], "refl"
+        elif self.name[0] in self.constants:
+            laws = f"T-{kind.alias}.the-type L-{kind.alias}.the-laws {self.name[0]}"
+            value, shown = [f"(EL.val {laws})", self.name[0]], f"(EL.owes {laws} tt)"
+        elif self.name[0] != "t0":
+            value, shown = [f"v-{self.name[0]}", self.name[0]], f"g-{self.name[0]}"
         else:
             value, shown = ["v-result", "result"], "g-result"
         ends = [self.lists[n] for n, s in f.slices if s.changes]
         lengths = [self.kept[n] for n, s in f.slices if s.changes]
         word = FINISH[f.shape]
-        self.emit(" ".join([word, "𝓤 H A", rows, loans, kind.row, lists, "χ W (‵ ftrue)", *value, *ends, shown, *lengths, f"({said})"]) + ")" * self.open)
+        self.emit(" ".join([word, "𝓤 H A", rows, loans, kind.row, lists, "χ W (‵ ftrue)", *value, *ends, shown, *lengths, f"({self.said(said)})"]) + ")" * self.open)
 
     def run(self, body, ready, within):
-        statements = flat(body)
+        self.go(flat(body), ready, within)
+
+    def go(self, statements, ready, within):
         for at, s in enumerate(statements):
             if s == "return":
                 self.finish(ready, within)
                 return
-            if s[0] == "assign":
+            if s[0] == "assign" and self.loop and self.loop.steps(s):
+                self.loop.again(ready)
+            elif s[0] == "assign":
                 self.assign(s[1], s[2], ready)
             elif s[0] == "call":
                 self.call(s, ready)
             elif s[0] in ("if", "cond"):
                 self.branch(s, statements[at + 1 :], ready, within)
+                return
+            elif s[0] == "block":
+                self.loop = Loop(self, flat(s[1][1]), at + 2)
+                self.loop.write(statements[at + 1 :], ready)
                 return
             else:
                 sys.exit(f"{self.f.source.path}: a walk cannot go through {str(s)[:80]}")
@@ -242,15 +366,18 @@ class Walk:
         if s[3] != "skip" or not ends(s[2]):
             sys.exit(f"{self.f.source.path}: of an `if` only an arm that returns is taken")
         self.tests += 1
-        test = f"h{self.tests}"
+        test, shown = f"h{self.tests}", f"e{self.tests}"
+        value = self.operand(s[1])
+        turned = re.match(r"\(not (.*)\)$", value)
         self.emit(f"if-else ! {self.reads(s[1])}")
         self.emit(f"(λ {test}.")
         state = (self.open, dict(self.lists), dict(self.kept), dict(self.name), dict(self.kind), dict(self.slice))
-        self.open, self.depth = 0, self.depth + 1
+        self.open = 0
+        self.shown[shown] = f"(is-false {turned[1]} {test})" if turned else f"(is-true {value} {test})"
         self.run(s[2], set(ready), True)
-        self.depth -= 1
         self.out[-1] += ")"
         self.open, self.lists, self.kept, self.name, self.kind, self.slice = state[0] + 1, *state[1:]
+        self.shown[shown] = f"(is-true {turned[1]} (T-not-not {turned[1]} {test}))" if turned else f"(is-false {value} {test})"
         self.emit(f"(λ {test}.")
         self.run(joined(rest), ready, within)
 
@@ -278,6 +405,8 @@ class Walk:
         return [line for line in self.out if line.strip()]
 
 
+# What a comparison of two numbers says.
+COMPARED = {"eq": "(eqb {} {})", "ne": "(not (eqb {} {}))", "['lt', 'unsigned']": "(ltb {} {})", "['le', 'unsigned']": "(leb {} {})"}
 FINISH = {"mm": "finish2", "m": "finish", "s": "finishS", "ss": "finish"}
 DONE = {"mm": "Done2", "m": "Done", "s": "DoneS", "ss": "Done"}
 MEETS = {"mm": "mut2-meets", "m": "mut-meets", "s": "shr-meets", "ss": "meets"}

@@ -1,1 +1,3 @@
 pub mod FlagLaws
+pub mod Remade
+pub mod Callable

@@ -4,3 +4,4 @@ pub mod Registering
 pub mod Claiming
 pub mod Releasing
 pub mod Sweeping
+pub mod ChunkSize

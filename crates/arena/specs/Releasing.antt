@@ -12,6 +12,12 @@ use Rattle.arena.specs.declared.Commitment.the-variants.{Untold, Committ
 use Rattle.arena.specs.Record.{withCommitted, withPending, withDeadline}
 use Rattle.arena.specs.Claiming.{giveBackRun}
 
+-- a run of the map of committed chunks set, cleared or left
+unfoldable pub toldRow : List ℕ → ℕ → ℕ → Commitment → List ℕ
+toldRow ws s n Untold = ws
+toldRow ws s n Committed = setRun ws s n
+toldRow ws s n Uncommitted = clearRun ws s n
+
 -- the run's committed bits set, cleared or left
 unfoldable pub tellRun : Arena → ℕ → ℕ → Commitment → Arena
 tellRun a s n Untold = a

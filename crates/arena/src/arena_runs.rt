@@ -1,9 +1,10 @@
-// Runs of one arena's chunks, by value: taken, given back, committed, dirtied, told. By value a used bit
-// is written by take_run and give_back_run, and by registering; where a record lies, by `records::map_changes`.
+// Runs of one arena's chunks, by value: taken, granted, given back, released. Beside registering and growth a
+// used bit is set by the functions that take a run, and cleared by those that give one back.
 ghost use mathlib.Core.Path.{_≡_};
+ghost use mathlib.Core.Bool.{true};
 ghost use Prim.Native.Nat.{_+_, _≤_};
-ghost use Rattle.arena.specs.Claiming.{takeRun, giveBackRun, commitRun, dirtyRun, finishGrant};
-ghost use Rattle.arena.specs.Releasing.{tellRun};
+ghost use Rattle.arena.specs.Claiming.{takeRun, giveBackRun, dirtyRun, finishGrant};
+ghost use Rattle.arena.specs.Releasing.{toldRow, tellRun, pendRun};
 use crate::Arena;
 use crate::Commitment;
 
@@ -12,9 +13,41 @@ pub fn take_run(a: Arena, s: usize, n: usize) -> Arena
     requires { ⌜ s + n ≤ 1024 ⌝ }
     ensures { λ r. ⌜ r ≡ takeRun a s n ⌝ }
 {
-    let mut b = a;
-    rows::set_row(&mut b.used, s, n);
-    b
+    let used = a.used;
+    let taken = rows::row_set(used, s, n);
+    Arena { used: taken, ..a }
+}
+
+// The run granted: its used and its dirty bits set.
+pub fn grant_run(a: Arena, s: usize, n: usize) -> Arena
+    requires { ⌜ s + n ≤ 1024 ⌝ }
+    ensures { λ r. ⌜ r ≡ dirtyRun (takeRun a s n) s n ⌝ }
+{
+    let used = a.used;
+    let dirty = a.dirty;
+    let taken = rows::row_set(used, s, n);
+    let touched = rows::row_set(dirty, s, n);
+    Arena {
+        used: taken,
+        dirty: touched,
+        ..a
+    }
+}
+
+// The run that was taken granted after all, and committed.
+pub fn finish_grant(a: Arena, s: usize, n: usize) -> Arena
+    requires { ⌜ s + n ≤ 1024 ⌝ }
+    ensures { λ r. ⌜ r ≡ finishGrant a s n true ⌝ }
+{
+    let dirty = a.dirty;
+    let committed = a.committed;
+    let touched = rows::row_set(dirty, s, n);
+    let whole = rows::row_set(committed, s, n);
+    Arena {
+        dirty: touched,
+        committed: whole,
+        ..a
+    }
 }
 
 // The run's used bits cleared, held or not.
@@ -22,54 +55,55 @@ pub fn give_back_run(a: Arena, s: usize, n: usize) -> Arena
     requires { ⌜ s + n ≤ 1024 ⌝ }
     ensures { λ r. ⌜ r ≡ giveBackRun a s n ⌝ }
 {
-    let mut b = a;
-    rows::clear_row(&mut b.used, s, n);
-    b
+    let used = a.used;
+    let left = rows::row_cleared(used, s, n);
+    Arena { used: left, ..a }
 }
 
-// The run's committed bits set.
-pub fn commit_run(a: Arena, s: usize, n: usize) -> Arena
+// A run of the map of committed chunks set, cleared or left, as the release says.
+fn row_told(row: [u32; 32], s: usize, n: usize, told: Commitment) -> [u32; 32]
     requires { ⌜ s + n ≤ 1024 ⌝ }
-    ensures { λ r. ⌜ r ≡ commitRun a s n ⌝ }
-{
-    let mut b = a;
-    rows::set_row(&mut b.committed, s, n);
-    b
-}
-
-// The run's dirty bits set.
-pub fn dirty_run(a: Arena, s: usize, n: usize) -> Arena
-    requires { ⌜ s + n ≤ 1024 ⌝ }
-    ensures { λ r. ⌜ r ≡ dirtyRun a s n ⌝ }
-{
-    let mut b = a;
-    rows::set_row(&mut b.dirty, s, n);
-    b
-}
-
-// The end of a grant. Dirty comes last: a commit that is refused leaves it as it was.
-pub fn finish_grant(a: Arena, s: usize, n: usize, commit: bool) -> Arena
-    requires { ⌜ s + n ≤ 1024 ⌝ }
-    ensures { λ r. ⌜ r ≡ finishGrant a s n commit ⌝ }
-{
-    if commit {
-        return dirty_run(commit_run(a, s, n), s, n);
-    }
-    dirty_run(a, s, n)
-}
-
-// The run's committed bits set, cleared or left, as the release says.
-pub fn tell_run(a: Arena, s: usize, n: usize, told: Commitment) -> Arena
-    requires { ⌜ s + n ≤ 1024 ⌝ }
-    ensures { λ r. ⌜ r ≡ tellRun a s n told ⌝ }
+    ensures { λ r. ⌜ r ≡ toldRow row s n told ⌝ }
 {
     match told {
-        Commitment::Untold => a,
-        Commitment::Committed => commit_run(a, s, n),
-        Commitment::Uncommitted => {
-            let mut b = a;
-            rows::clear_row(&mut b.committed, s, n);
-            b
-        }
+        Commitment::Untold => row,
+        Commitment::Committed => rows::row_set(row, s, n),
+        Commitment::Uncommitted => rows::row_cleared(row, s, n),
+    }
+}
+
+// The run released: its used bits cleared, held or not, and its commitment told.
+pub fn release_run(a: Arena, s: usize, n: usize, told: Commitment) -> Arena
+    requires { ⌜ s + n ≤ 1024 ⌝ }
+    ensures { λ r. ⌜ r ≡ tellRun (giveBackRun a s n) s n told ⌝ }
+{
+    let used = a.used;
+    let committed = a.committed;
+    let freed = rows::row_cleared(used, s, n);
+    let known = row_told(committed, s, n, told);
+    Arena {
+        used: freed,
+        committed: known,
+        ..a
+    }
+}
+
+// The same, with its pending bits set and the deadline armed.
+pub fn release_pending(a: Arena, s: usize, n: usize, told: Commitment, ms: u32, delay: u32) -> Arena
+    requires { ⌜ s + n ≤ 1024 ⌝ }
+    ensures { λ r. ⌜ r ≡ pendRun (tellRun (giveBackRun a s n) s n told) s n ms delay ⌝ }
+{
+    let used = a.used;
+    let committed = a.committed;
+    let pending = a.pending;
+    let left = rows::row_cleared(used, s, n);
+    let known = row_told(committed, s, n, told);
+    let waiting = rows::row_set(pending, s, n);
+    Arena {
+        deadline: clock::arm(a.deadline, clock::due_at(ms, delay)),
+        used: left,
+        committed: known,
+        pending: waiting,
+        ..a
     }
 }

@@ -65,12 +65,11 @@ fn each_bit(chunks: usize, on: bool) -> [u32; 32]
     requires { ⌜ chunks ≤ 1024 ⌝ }
     ensures { λ r. ⌜ r ≡ eachBit chunks on ⌝ }
 {
-    let mut row = [0u32; 32];
+    let none = [0u32; 32];
     if on {
-        rows::set_row(&mut row, 0, chunks);
-        return row;
+        return rows::row_set(none, 0, chunks);
     }
-    row
+    none
 }
 
 // A new arena: the whole record is written, with no chunk used or pending and no deadline.
@@ -134,9 +133,15 @@ pub fn grow(a: Arena, n: usize) -> Arena
     ensures { λ r. ⌜ r ≡ grownArena a n ⌝ }
 {
     let chunks = a.chunks;
-    let mut b = a;
-    rows::set_row(&mut b.dirty, chunks, n);
-    rows::set_row(&mut b.committed, chunks, n);
-    b.chunks = chunks + n;
-    b
+    let dirty = a.dirty;
+    let committed = a.committed;
+    let touched = rows::row_set(dirty, chunks, n);
+    let whole = rows::row_set(committed, chunks, n);
+    let longer = chunks + n;
+    Arena {
+        chunks: longer,
+        dirty: touched,
+        committed: whole,
+        ..a
+    }
 }

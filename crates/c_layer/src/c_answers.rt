@@ -23,10 +23,12 @@ pub extern "C" fn sirqobal_answer(
 ) -> ReplyNumbers
     ensures { λ r. ⌜ LeavesNumbers (stepNumbers (now (records .entry)) (now (stamps .entry)) state ns settings (answer (kindOf kind) yes base)) r (now (records .exit)) (now (stamps .exit)) ⌝ }
 {
-    let ok = surface::is_state(state);
+    if !surface::is_state(state) {
+        return surface::reply::no_state(state);
+    }
     let s = surface::state_of(state);
-    let c = surface::told::settings_of(ok, settings);
+    let c = surface::told::settings_of(settings);
     let k = surface::told::kind_of(kind);
-    let r = answer::answer(records, stamps, s, ns, c, k, yes, base);
-    surface::reply::reply_of(ok, state, r)
+    let r = answering::answer(records, stamps, s, ns, c, k, yes, base);
+    surface::reply::reply_of(r)
 }

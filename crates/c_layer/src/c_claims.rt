@@ -21,11 +21,13 @@ pub extern "C" fn sirqobal_chunk_alloc(
 ) -> ReplyNumbers
     ensures { λ r. ⌜ LeavesNumbers (stepNumbers (now (records .entry)) (now (stamps .entry)) state ns settings (act (claim id 1 true))) r (now (records .exit)) (now (stamps .exit)) ⌝ }
 {
-    let ok = surface::is_state(state);
+    if !surface::is_state(state) {
+        return surface::reply::no_state(state);
+    }
     let s = surface::state_of(state);
-    let c = surface::told::settings_of(ok, settings);
-    let r = chunk_alloc::chunk_alloc(records, stamps, s, ns, c, id);
-    surface::reply::reply_of(ok, state, r)
+    let c = surface::told::settings_of(settings);
+    let r = claiming::chunk_alloc(records, stamps, s, ns, c, id);
+    surface::reply::reply_of(r)
 }
 
 // One chunk, as it is: the answer says whether it is committed.
@@ -40,11 +42,13 @@ pub extern "C" fn sirqobal_chunk_claim(
 ) -> ReplyNumbers
     ensures { λ r. ⌜ LeavesNumbers (stepNumbers (now (records .entry)) (now (stamps .entry)) state ns settings (act (claim id 1 false))) r (now (records .exit)) (now (stamps .exit)) ⌝ }
 {
-    let ok = surface::is_state(state);
+    if !surface::is_state(state) {
+        return surface::reply::no_state(state);
+    }
     let s = surface::state_of(state);
-    let c = surface::told::settings_of(ok, settings);
-    let r = chunk_alloc::chunk_claim(records, stamps, s, ns, c, id);
-    surface::reply::reply_of(ok, state, r)
+    let c = surface::told::settings_of(settings);
+    let r = claiming::chunk_claim(records, stamps, s, ns, c, id);
+    surface::reply::reply_of(r)
 }
 
 // A run of n chunks, committed.
@@ -60,9 +64,11 @@ pub extern "C" fn sirqobal_chunk_alloc_n(
 ) -> ReplyNumbers
     ensures { λ r. ⌜ LeavesNumbers (stepNumbers (now (records .entry)) (now (stamps .entry)) state ns settings (act (claim id n true))) r (now (records .exit)) (now (stamps .exit)) ⌝ }
 {
-    let ok = surface::is_state(state);
+    if !surface::is_state(state) {
+        return surface::reply::no_state(state);
+    }
     let s = surface::state_of(state);
-    let c = surface::told::settings_of(ok, settings);
-    let r = chunk_alloc::chunk_alloc_n(records, stamps, s, ns, c, id, n);
-    surface::reply::reply_of(ok, state, r)
+    let c = surface::told::settings_of(settings);
+    let r = claiming::chunk_alloc_n(records, stamps, s, ns, c, id, n);
+    surface::reply::reply_of(r)
 }

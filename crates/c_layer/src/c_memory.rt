@@ -23,10 +23,12 @@ pub extern "C" fn sirqobal_reserve_os_memory_ex(
 ) -> ReplyNumbers
     ensures { λ r. ⌜ LeavesNumbers (stepNumbers (now (records .entry)) (now (stamps .entry)) state ns settings (act (reserve size commit «allow_large» exclusive))) r (now (records .exit)) (now (stamps .exit)) ⌝ }
 {
-    let ok = surface::is_state(state);
+    if !surface::is_state(state) {
+        return surface::reply::no_state(state);
+    }
     let s = surface::state_of(state);
-    let c = surface::told::settings_of(ok, settings);
-    let r = reserve_os_memory::reserve_os_memory_ex(
+    let c = surface::told::settings_of(settings);
+    let r = registering::reserve_os_memory_ex(
         records,
         stamps,
         s,
@@ -37,7 +39,7 @@ pub extern "C" fn sirqobal_reserve_os_memory_ex(
         allow_large,
         exclusive,
     );
-    surface::reply::reply_of(ok, state, r)
+    surface::reply::reply_of(r)
 }
 
 // Memory that the host has already is registered. The first three flags say what nothing depends on; the
@@ -61,10 +63,12 @@ pub extern "C" fn sirqobal_manage_os_memory_ex(
 ) -> ReplyNumbers
     ensures { λ r. ⌜ LeavesNumbers (stepNumbers (now (records .entry)) (now (stamps .entry)) state ns settings (act (manage start size exclusive node mapped reserved))) r (now (records .exit)) (now (stamps .exit)) ⌝ }
 {
-    let ok = surface::is_state(state);
+    if !surface::is_state(state) {
+        return surface::reply::no_state(state);
+    }
     let s = surface::state_of(state);
-    let c = surface::told::settings_of(ok, settings);
-    let r = manage_os_memory::manage_os_memory_ex(
+    let c = surface::told::settings_of(settings);
+    let r = registering::manage_os_memory_ex(
         records,
         stamps,
         s,
@@ -80,7 +84,7 @@ pub extern "C" fn sirqobal_manage_os_memory_ex(
         mapped,
         reserved,
     );
-    surface::reply::reply_of(ok, state, r)
+    surface::reply::reply_of(r)
 }
 
 // A block of the allocator's own becomes an arena, or part of the one that ends at it.
@@ -96,9 +100,11 @@ pub extern "C" fn sirqobal_adopt_os_block(
 ) -> ReplyNumbers
     ensures { λ r. ⌜ LeavesNumbers (stepNumbers (now (records .entry)) (now (stamps .entry)) state ns settings (act (adopt address size))) r (now (records .exit)) (now (stamps .exit)) ⌝ }
 {
-    let ok = surface::is_state(state);
+    if !surface::is_state(state) {
+        return surface::reply::no_state(state);
+    }
     let s = surface::state_of(state);
-    let c = surface::told::settings_of(ok, settings);
-    let r = adopt_os_block::adopt_os_block(records, stamps, s, ns, c, address, size);
-    surface::reply::reply_of(ok, state, r)
+    let c = surface::told::settings_of(settings);
+    let r = registering::adopt_os_block(records, stamps, s, ns, c, address, size);
+    surface::reply::reply_of(r)
 }

@@ -21,11 +21,13 @@ pub extern "C" fn sirqobal_owns(
 ) -> ReplyNumbers
     ensures { λ r. ⌜ r ≡ stepNumbers (now (records .entry)) (now (stamps .entry)) state ns settings (query (owns address)) .reply ⌝ }
 {
-    let ok = surface::is_state(state);
+    if !surface::is_state(state) {
+        return surface::reply::no_state(state);
+    }
     let s = surface::state_of(state);
-    let c = surface::told::settings_of(ok, settings);
-    let r = arena_area::owns(records, stamps, s, ns, c, address);
-    surface::reply::reply_of(ok, state, r)
+    let c = surface::told::settings_of(settings);
+    let r = queries::owns(records, stamps, s, ns, c, address);
+    surface::reply::answered(r, state)
 }
 
 // The base and the bytes of an arena; 0 and 0 where there is none.
@@ -40,9 +42,11 @@ pub extern "C" fn sirqobal_arena_area(
 ) -> ReplyNumbers
     ensures { λ r. ⌜ r ≡ stepNumbers (now (records .entry)) (now (stamps .entry)) state ns settings (query (area id)) .reply ⌝ }
 {
-    let ok = surface::is_state(state);
+    if !surface::is_state(state) {
+        return surface::reply::no_state(state);
+    }
     let s = surface::state_of(state);
-    let c = surface::told::settings_of(ok, settings);
-    let r = arena_area::arena_area(records, stamps, s, ns, c, id);
-    surface::reply::reply_of(ok, state, r)
+    let c = surface::told::settings_of(settings);
+    let r = queries::arena_area(records, stamps, s, ns, c, id);
+    surface::reply::answered(r, state)
 }

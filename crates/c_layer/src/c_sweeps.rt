@@ -25,12 +25,14 @@ pub extern "C" fn sirqobal_chunk_release(
 ) -> ReplyNumbers
     ensures { λ r. ⌜ LeavesNumbers (stepNumbers (now (records .entry)) (now (stamps .entry)) state ns settings (act (release address n (toldOf told) pending))) r (now (records .exit)) (now (stamps .exit)) ⌝ }
 {
-    let ok = surface::is_state(state);
+    if !surface::is_state(state) {
+        return surface::reply::no_state(state);
+    }
     let s = surface::state_of(state);
-    let c = surface::told::settings_of(ok, settings);
+    let c = surface::told::settings_of(settings);
     let t = surface::told::told_of(told);
-    let r = chunk_release::chunk_release(records, stamps, s, ns, c, address, n, t, pending);
-    surface::reply::reply_of(ok, state, r)
+    let r = releasing::chunk_release(records, stamps, s, ns, c, address, n, t, pending);
+    surface::reply::reply_of(r)
 }
 
 // A sweep of the arenas whose deadline has come; of all that are armed, if forced.
@@ -45,9 +47,11 @@ pub extern "C" fn sirqobal_purge_due(
 ) -> ReplyNumbers
     ensures { λ r. ⌜ LeavesNumbers (stepNumbers (now (records .entry)) (now (stamps .entry)) state ns settings (act (sweep force))) r (now (records .exit)) (now (stamps .exit)) ⌝ }
 {
-    let ok = surface::is_state(state);
+    if !surface::is_state(state) {
+        return surface::reply::no_state(state);
+    }
     let s = surface::state_of(state);
-    let c = surface::told::settings_of(ok, settings);
-    let r = purge_due::purge_due(records, stamps, s, ns, c, force);
-    surface::reply::reply_of(ok, state, r)
+    let c = surface::told::settings_of(settings);
+    let r = sweeping::purge_due(records, stamps, s, ns, c, force);
+    surface::reply::reply_of(r)
 }

@@ -11,9 +11,9 @@ use Rattle.arena.specs.Releasing.{stampRun}
 use Rattle.lookup.specs.Place.{bytesOf, endOf}
 use Rattle.layer.specs.World.{empty}
 use Rattle.layer.specs.Table.{meets, overlaps, badRange}
-use Rattle.layer.specs.Registering.{chunksFor, badCount, registers, registerReply, noWholeChunk, manageOf}
+use Rattle.layer.specs.Registering.{chunksFor, badCount, noWholeChunk, manageOf}
 use Rattle.cases.specs.Worked.{computed, stated}
 
 pub worked : computed ≡ stated
-unfolding computed stated lowestRun least all bitAt bit within number pack writeRun zeroAsOne lowestBit lowestSetBit roundUp pageAlignUp orOne nowMs delayMs keeps armed isDue allocRun freeRange newArena managedArena stampRun bytesOf endOf empty meets overlaps badRange chunksFor badCount registers registerReply noWholeChunk manageOf
+unfolding computed stated lowestRun least all bitAt bit within number pack writeRun zeroAsOne lowestBit lowestSetBit roundUp pageAlignUp orOne nowMs delayMs keeps armed isDue allocRun freeRange newArena managedArena stampRun bytesOf endOf empty meets overlaps badRange chunksFor badCount noWholeChunk manageOf
 worked = refl

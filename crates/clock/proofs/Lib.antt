@@ -1,1 +1,2 @@
 pub mod ClockLaws
+pub mod Callable

@@ -14,6 +14,7 @@ use Rattle.layer.specs.declared.Answer.the-variants.{Area}
 use Rattle.layer.specs.World.{World, Outcome}
 use Rattle.layer.specs.Table.{at, sound}
 use Rattle.layer.specs.Step.{area, areaOf, query, rules}
+use Rattle.layer.proofs.Calls.{past-1}
 use Rattle.documented.specs.Areas.{IsArea}
 
 -- what is answered
@@ -26,7 +27,7 @@ record Answers (S : ℕ) (w : World) (id : ℤ) (r : Answer) : Type 0 where
 pub arena-area : (S : ℕ) (w : World) (ns : ℕ) (settings : Settings) (id : ℤ) → sound S w (settings .page) ≡ true
     → (start : ℕ) × (size : ℕ) × (rules S w ns settings (query (area id)) .answer ≡ Area start size) × IsArea S w id start size
 unfolding rules bytesOf
-arena-area S w ns settings id passed = let a = of id in (a .start, a .size, ap (λ (o : Outcome). o .answer) (when (sound S w (settings .page)) _ _ passed) ∙ a .is, a .area)
+arena-area S w ns settings id passed = let a = of id in (a .start, a .size, ap (λ (o : Outcome). o .answer) (past-1 S w ns settings passed (query (area id))) ∙ a .is, a .area)
   where
     same : (x y : ℕ) → pos x ≡ pos y → x ≡ y
     same x y e = cc

@@ -1,7 +1,6 @@
 -- manage_os_memory: the area is aligned inward, and never given back. Assumes nothing.
 use mathlib.Core.Path.{_≡_, refl, sym, ap, _∙_, subst}
-use mathlib.Core.Bool.{Bool, true, false, not, true≢false}
-use mathlib.Core.List.{_∷_}
+use mathlib.Core.Bool.{Bool, true, false, true≢false, not, _||_}
 use mathlib.Core.Logic.{⊎-elim}
 use Prim.Native.Nat.{ℕ, suc, _+_, _-_, _*_, _/_, _^_, _<_, _≤_}
 use native.Mathlib.Nat.{suc-mul, mul-mod-left, mul-div-cancel, div-mul-le-self, mul-le-mul-right}
@@ -12,33 +11,31 @@ use lib.IntN.{ℤ}
 use lib.ListN.{length}
 use Rattle.refusals.specs.declared.Refusal.{Refusal}
 use Rattle.refusals.specs.declared.Refusal.the-variants.{NoWholeChunk}
-use Rattle.words.proofs.Tests.{when, unless}
+use Rattle.words.proofs.Tests.{when, by-cond}
 use Rattle.words.proofs.RowLaws.{lt-or-le}
 use Rattle.arena.specs.declared.Arena.{Arena}
 use Rattle.arena.proofs.FlagLaws.{flag-read}
 use Rattle.arena.specs.Registering.{newArena, managedArena}
 use Rattle.lookup.specs.Place.{bytesOf, endOf}
 use Rattle.layer.specs.declared.Settings.{Settings}
-use Rattle.layer.specs.declared.Question.{Question}
 use Rattle.layer.specs.declared.Question.the-variants.{Idle, Reserving}
 use Rattle.layer.specs.declared.Ask.{Ask}
 use Rattle.layer.specs.declared.Ask.the-variants.{AskCommit, AskPurge, AskMemory, AskGiveBack}
 use Rattle.layer.specs.declared.Answer.the-variants.{Refused, Asks, Registered}
 use Rattle.layer.specs.World.{World, Outcome, outcome}
-use Rattle.layer.specs.Table.{at, meets, sound}
-use Rattle.layer.specs.Registering.{chunksFor, bytesAsked, askMemory, firstWhole, pastWhole, noWholeChunk}
-use Rattle.layer.specs.Answering.{kindOpen}
+use Rattle.layer.specs.Table.{at, meets, sound, badRange}
+use Rattle.layer.specs.Registering.{chunksFor, bytesAsked, askMemory, firstWhole, pastWhole, noWholeChunk, manageOf}
 use Rattle.layer.specs.Step.{Call, manage, answer, act, rules}
 use Rattle.layer.proofs.Tools.{or-false}
 use Rattle.layer.proofs.Rules.{count-facts}
 use Rattle.layer.proofs.Registered.{good-range, meets-false}
-use Rattle.refusal_laws.specs.Order.{broken, questionOpen, manageChecks}
+use Rattle.layer.proofs.Calls.{past-2, calm-world, act-cases}
+use Rattle.layer.proofs.Cases.{manage-cases, register-cases}
 use Rattle.refusal_laws.proofs.Answers.{registered-not}
-use Rattle.refusal_laws.proofs.Order.{first-each, manage-order}
 use Rattle.refusal_laws.specs.Standing.{headOf, Grown}
 use Rattle.refusal_laws.proofs.Forms.{isAsk, step-forms, arenas-stand}
 use Rattle.documented.specs.Areas.{bytes, isOwned, Stands, Apart, Whole, AlignedInward, Managed, BroughtNow, TakenAsUsed}
-use Rattle.documented.proofs.Tools.{holds, sound-long, registered-at, each-bit, up-enough, up-least, down-most, sub-mul}
+use Rattle.documented.proofs.Tools.{sound-long, registered-at, each-bit, up-enough, up-least, down-most, sub-mul}
 
 -- ---- aligned inward
 
@@ -96,16 +93,18 @@ pub manage-registers : (S : ℕ) → 0 < S → (w : World) (ns : ℕ) (settings 
     → let o = rules S w ns settings (act (manage start size exclusive node mapped reserved)) in
     o .answer ≡ Registered id → Managed S start size exclusive node (at (o .world .records) id) × TakenAsUsed (at (o .world .records) id)
 manage-registers S some w ns settings start size exclusive node mapped reserved id =
-    subst P (sym (manage-order S w settings ns start size exclusive node mapped reserved))
-    (first-each P (broken S w settings ∷ questionOpen S w settings ∷ manageChecks S w settings start size mapped reserved) _
-    (turned _, (turned _, (turned _, (turned _, (turned _, (turned _, (turned _, tt)))))))
-    (λ p e.
-    let k : w .state .count < length (w .records) = omega (arith, sound-long S w (settings .page) (holds (sound S w (settings .page)) (p .0)), leb-false 32 (w .state .count) (p .1 .1 .1 .1 .1 .1 .0)) in
-    let c = count-facts (between S some start size) (p .1 .1 .1 .1 .1 .0) in
+    act-cases S w ns settings P turned (manage start size exclusive node mapped reserved)
+    (λ s idle. unfold manageOf in by-cond P (noWholeChunk S start size) _ _ (λ e. turned _)
+    (λ whole. by-cond P (mapped || not reserved) _ _ (λ e. turned _)
+    (λ host. by-cond P (badRange S (w .records) (w .state .count) (firstWhole S start) (pastWhole S start size - firstWhole S start)) _ _ (λ e. turned _)
+    (λ range. register-cases S (w .records) (w .stamps) (w .state .count) (w .state .mark) P _ _ (turned _) (turned _)
+    (λ count room e.
+    let k : w .state .count < length (w .records) = omega (arith, sound-long S w (settings .page) s, room) in
+    let c = count-facts (between S some start size) count in
     registered-at (λ (a : Arena). Managed S start size exclusive node a × TakenAsUsed a) (w .records) (w .state .count) id _ e k (
-      stored-as-told (firstWhole S start) (between S some start size) exclusive node S start size (inward S some start size exclusive node (some-whole S some start size (p .1 .1 .0)) (c .0)),
+      stored-as-told (firstWhole S start) (between S some start size) exclusive node S start size (inward S some start size exclusive node (some-whole S some start size whole) (c .0)),
       taken-as-used (firstWhole S start) (between S some start size) exclusive node (c .1),
-    )))
+    ))))))
   where
     P : Outcome → Type 0
     P o = o .answer ≡ Registered id → Managed S start size exclusive node (at (o .world .records) id) × TakenAsUsed (at (o .world .records) id)
@@ -117,19 +116,21 @@ manage-registers S some w ns settings start size exclusive node mapped reserved 
 pub manage-asks-nothing : (S : ℕ) (w : World) (ns : ℕ) (settings : Settings) (start size : ℕ) (exclusive : Bool) (node : ℤ) (mapped reserved : Bool)
     → isAsk (rules S w ns settings (act (manage start size exclusive node mapped reserved)) .answer) ≡ false
 manage-asks-nothing S w ns settings start size exclusive node mapped reserved =
-    subst (λ (o : Outcome). isAsk (o .answer) ≡ false) (sym (manage-order S w settings ns start size exclusive node mapped reserved))
-    (first-each (λ (o : Outcome). isAsk (o .answer) ≡ false) (broken S w settings ∷ questionOpen S w settings ∷ manageChecks S w settings start size mapped reserved) _
-    (refl, (refl, (refl, (refl, (refl, (refl, (refl, tt))))))) (λ p. refl))
+    act-cases S w ns settings N (λ why. refl) (manage start size exclusive node mapped reserved)
+    (λ s idle. manage-cases S (w .records) (w .stamps) (w .state .count) (w .state .mark) N start size exclusive node mapped reserved refl refl refl
+    (λ e. register-cases S (w .records) (w .stamps) (w .state .count) (w .state .mark) N _ _ refl refl (λ f h. refl)))
+  where
+    N : Outcome → Type 0
+    N o = isAsk (o .answer) ≡ false
 
 -- "The area must be at least as large as the allocator's arena unit": a range with no whole chunk is refused with 15
 pub manage-too-small : (S : ℕ) → 0 < S → (w : World) (ns : ℕ) (settings : Settings) (start size : ℕ) (exclusive : Bool) (node : ℤ) (mapped reserved : Bool)
     → sound S w (settings .page) ≡ true → w .state .question ≡ Idle → ((c : ℕ) → Whole S start size c → ⊥)
     → rules S w ns settings (act (manage start size exclusive node mapped reserved)) ≡ outcome (Refused NoWholeChunk) w
+unfolding manageOf
 manage-too-small S some w ns settings start size exclusive node mapped reserved s idle none =
-    manage-order S w settings ns start size exclusive node mapped reserved
-    ∙ unless (not (sound S w (settings .page))) _ _ (ap not s)
-    ∙ unless (not (eqb (kindOpen (w .state .question)) 0)) _ _ (ap (λ (q : Question). not (eqb (kindOpen q) 0)) idle)
-    ∙ when (noWholeChunk S start size) _ _ (go (noWholeChunk S start size) refl)
+    past-2 S w ns settings s idle (manage start size exclusive node mapped reserved) ∙ when (noWholeChunk S start size) _ _ (go (noWholeChunk S start size) refl)
+    ∙ ap (outcome (Refused NoWholeChunk)) (calm-world w idle)
   where
     go : (b : Bool) → noWholeChunk S start size ≡ b → b ≡ true
     go true e = refl

@@ -1,13 +1,11 @@
 -- "exclusive arenas serve only those that name them": of a claim, and of one that waited for memory. Assumes nothing.
 use mathlib.Core.Path.{_≡_, refl, sym, ap, ap₂, _∙_, subst}
 use mathlib.Core.Bool.{Bool, true, false, true≢false}
-use mathlib.Core.List.{List, [], _∷_}
+use mathlib.Core.List.{List}
 use mathlib.Core.Logic.{⊎-elim}
 use Prim.Native.Nat.{ℕ, suc, _+_, _*_, _%_, _<_, _≤_}
 use native.Mathlib.Nat.{add-mul, mul-le-mul-right, eq-or-lt-of-le}
 use native.Mathlib.Omega.{arith}
-use borrow.Author.Tests.{leb-false, eqb-true}
-use lib.Dec.{eqb}
 use lib.IntN.{ℤ, pos, negsuc}
 use Rattle.refusals.specs.declared.Refusal.the-variants.{NoRun}
 use Rattle.words.proofs.RowLaws.{lt-or-le}
@@ -35,14 +33,12 @@ use Rattle.layer.specs.Step.{Call, claim, answer, act, rules}
 use Rattle.layer.proofs.Tools.{at-other}
 use Rattle.layer.proofs.Facts.{SoundTable}
 use Rattle.layer.proofs.Rules.{not-shared, served-named, count-facts}
-use Rattle.layer.proofs.Cases.{grant-cases, search-cases, miss-cases}
+use Rattle.layer.proofs.Cases.{grant-cases, search-cases, miss-cases, claim-cases}
 use Rattle.layer.proofs.Registered.{good-range, meets-false, new-table, reserved-rows, reserved-sound, reserved-range}
 use Rattle.layer.proofs.Stepped.{Words, sound-facts}
-use Rattle.refusal_laws.specs.Order.{broken, questionOpen, noSuchQuestion, claimChecks, yesChecks}
-use Rattle.refusal_laws.proofs.Order.{first-each, claim-order, answer-order, yes-order}
+use Rattle.layer.proofs.Calls.{act-cases, answer-cases, yes-cases}
 use Rattle.refusal_laws.proofs.Forms.{isAsk, step-forms}
 use Rattle.documented.specs.Areas.{In, bytes, isExclusive, Apart, givenAt, OnlyNamed, InNamed}
-use Rattle.documented.proofs.Tools.{holds}
 
 -- ---- no address lies in two arenas
 
@@ -109,10 +105,9 @@ search-found S l stamps k mark id n commits missed address m =
 claim-found : (S : ℕ) (w : World) (ns : ℕ) (settings : Settings) (id : ℤ) (n : ℕ) (commits : Bool) (address : ℕ)
     → givenAt (rules S w ns settings (act (claim id n commits)) .answer) ≡ At address → Found-in S (w .records) (w .state .count) id n address
 claim-found S w ns settings id n commits address =
-    subst P (sym (claim-order S w settings ns id n commits))
-    (first-each P (broken S w settings ∷ questionOpen S w settings ∷ claimChecks S w settings id n) _
-    (not-given address, (not-given address, (not-given address, (not-given address, tt))))
-    (λ p. search-found S (w .records) (w .stamps) (w .state .count) (w .state .mark) id n commits _ address missed))
+    act-cases S w ns settings P (λ why. not-given address) (claim id n commits)
+    (λ p idle. claim-cases S (w .records) (w .stamps) (w .state .count) (w .state .mark) P id n commits settings (λ e. not-given address) (λ e f. not-given address)
+    (λ e f. search-found S (w .records) (w .stamps) (w .state .count) (w .state .mark) id n commits _ address missed))
   where
     P : Outcome → Type 0
     P o = givenAt (o .answer) ≡ At address → Found-in S (w .records) (w .state .count) id n address
@@ -150,13 +145,10 @@ pub resumed-only-named : (S : ℕ) (w : World) (ns : ℕ) (settings : Settings) 
     → sound S w (settings .page) ≡ true → w .state .question ≡ Reserving chunks many commit exclusive (Claim n commits)
     → givenAt (rules S w ns settings (answer ForMemory true base) .answer) ≡ At address → OnlyNamed S w (negsuc 0) n address
 resumed-only-named S w ns settings chunks many commit exclusive n commits base address words passed q =
-    subst P (sym (yes-order S w settings ns base chunks many commit exclusive (Claim n commits) q))
-    (first-each P (broken S w settings ∷ noSuchQuestion S w settings ForMemory ∷ yesChecks S w settings chunks many (Claim n commits) base) _
-    (not-given address, (not-given address, (not-given address, (not-given address, (not-given address, (not-given address, tt))))))
-    (λ p e j h x d.
-    resumed-apart S l (w .stamps) k (w .state .mark) new n commits address
-    (made (leb-false 32 k (p .1 .1 .1 .1 .1 .0)) (p .1 .1 .0) (count-facts chunks (p .1 .1 .1 .0)) (eqb-true (base % S) 0 (holds (eqb (base % S) 0) (p .1 .1 .1 .1 .0))))
-    (search-found S (withRecord l k new) (withStamps (w .stamps) k) (suc k) (w .state .mark) (negsuc 0) n commits (turnDown NoRun (calm (suc k) (w .state .mark))) address refl e) j h x))
+    yes-cases S w ns settings P (λ why. not-given address) chunks many commit exclusive (Claim n commits) base q (λ cause. not-given address)
+    (λ p range count whole room e j h x d.
+    resumed-apart S l (w .stamps) k (w .state .mark) new n commits address (made room range (count-facts chunks count) whole)
+    (search-found S (withRecord l k new) (withStamps (w .stamps) k) (suc k) (w .state .mark) (negsuc 0) n commits (turnDown NoRun (calm (suc k) (w .state .mark))) address refl e) j h x)
   where
     l : List Arena
     l = w .records
@@ -211,9 +203,8 @@ pub asked-is-granted : (S : ℕ) (w : World) (ns later : ℕ) (settings others :
     → rules S (rules S w ns settings c .world) later others (answer ForCommit true base) .answer ≡ Claimed x fresh committed → x ≡ address
 asked-is-granted S w ns later settings others c address many base x fresh committed e =
     let a = awaits S w ns settings c address many e in
-    subst P (sym (answer-order S v others later ForCommit true base))
-    (first-each P (broken S v others ∷ noSuchQuestion S v others ForCommit ∷ []) _ ((λ f. not-given x (ap givenAt f)), ((λ f. not-given x (ap givenAt f)), tt))
-    (λ p. subst (λ (q : Question). P (answerTo S (v .records) (v .stamps) (v .state .count) (v .state .mark) q true base)) (sym (a .waits)) (λ f. same _ (ap givenAt f) ∙ sym (a .is))))
+    answer-cases S v later others P (λ why f. not-given x (ap givenAt f)) ForCommit true base
+    (λ p is. subst (λ (q : Question). P (answerTo S (v .records) (v .stamps) (v .state .count) (v .state .mark) q true base)) (sym (a .waits)) (λ f. same _ (ap givenAt f) ∙ sym (a .is)))
   where
     v : World
     v = rules S w ns settings c .world

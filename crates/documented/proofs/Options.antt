@@ -1,7 +1,7 @@
 -- Options 23 and 27: the default reserve, and arenas off. Assumes nothing.
 use mathlib.Core.Path.{_≡_, refl, sym, ap, ap₂, _∙_, subst}
 use mathlib.Core.Bool.{Bool, true, false, cond, not, _&&_, true≢false}
-use mathlib.Core.List.{List, _∷_}
+use mathlib.Core.List.{List}
 use mathlib.Core.Logic.{_↔_, ⊎-elim}
 use Prim.Native.Nat.{ℕ, suc, _+_, _*_, _/_, _%_, _^_, _<_, _≤_}
 use native.Mathlib.Nat.{suc-mul, mul-mod-left, div-add-mod', mul-le-mul-right}
@@ -25,7 +25,6 @@ use Rattle.arena.specs.Claiming.{free, findRun}
 use Rattle.lookup.proofs.SoundLaws.{never}
 use Rattle.lookup.proofs.Changes.{found-inside, found-free}
 use Rattle.layer.specs.declared.Settings.{Settings}
-use Rattle.layer.specs.declared.Question.{Question}
 use Rattle.layer.specs.declared.Question.the-variants.{Idle}
 use Rattle.layer.specs.declared.Ask.{Ask}
 use Rattle.layer.specs.declared.Ask.the-variants.{AskMemory}
@@ -34,13 +33,11 @@ use Rattle.layer.specs.declared.Reply.{Reply}
 use Rattle.layer.specs.World.{World, Outcome, outcome}
 use Rattle.layer.specs.Table.{at, isAt, sound}
 use Rattle.layer.specs.Registering.{chunksFor, tooLarge, bytesAsked, askMemory}
-use Rattle.layer.specs.Claiming.{eligible, serves, missReply, searchOf}
-use Rattle.layer.specs.Answering.{kindOpen}
+use Rattle.layer.specs.Claiming.{eligible, serves, missReply, searchOf, claimOf}
 use Rattle.layer.specs.Step.{claim, act, rules}
 use Rattle.layer.proofs.Rules.{not-shared}
-use Rattle.layer.proofs.Cases.{grant-cases, search-cases, miss-cases}
-use Rattle.refusal_laws.specs.Order.{broken, questionOpen, claimChecks}
-use Rattle.refusal_laws.proofs.Order.{first-each, claim-order}
+use Rattle.layer.proofs.Cases.{grant-cases, search-cases, miss-cases, claim-cases}
+use Rattle.layer.proofs.Calls.{past-2, calm-world, act-cases}
 use Rattle.documented.specs.Areas.{isExclusive}
 use Rattle.documented.specs.Options.{documentedReserve, HasRoom, NoneHasRoom, InChunks, AsksDefault, Disallowed}
 use Rattle.documented.proofs.Tools.{up-enough, up-tight, up-least}
@@ -52,11 +49,10 @@ module _ (S : ℕ) (w : World) (ns : ℕ) (settings : Settings) (id : ℤ) (n : 
   searches = searchOf S (w .records) (w .stamps) (w .state .count) (w .state .mark) id n commits (missReply S (w .state .count) (w .state .mark) id n commits settings)
 
   past-4 : rules S w ns settings (act (claim id n commits)) ≡ cond (not (arenaAllowed (settings .off) id)) (outcome (Refused ArenasOff) w) searches
+  unfolding claimOf
   past-4 =
-      claim-order S w settings ns id n commits
-      ∙ unless (not (sound S w (settings .page))) _ _ (ap not passed)
-      ∙ unless (not (eqb (kindOpen (w .state .question)) 0)) _ _ (ap (λ (q : Question). not (eqb (kindOpen q) 0)) idle)
-      ∙ unless (eqb n 0) _ _ (never (eqb n 0) (λ e. some (eqb-true n 0 e)))
+      past-2 S w ns settings passed idle (claim id n commits) ∙ unless (eqb n 0) _ _ (never (eqb n 0) (λ e. some (eqb-true n 0 e)))
+      ∙ ap (λ (v : World). cond (not (arenaAllowed (settings .off) id)) (outcome (Refused ArenasOff) v) searches) (calm-world w idle)
 
 -- ---- 27, disallow_arena_alloc
 
@@ -203,9 +199,9 @@ pub reserves-only : (S : ℕ) → 0 < S → (w : World) (ns : ℕ) (settings : S
     → rules S w ns settings (act (claim id n commits)) .answer ≡ Asks (AskMemory many align commit large)
     → AsksDefault S (settings .reserve) (AskMemory many align commit large) × NoneHasRoom w n × ((i : ℕ) → id ≡ pos i → ⊥)
 reserves-only S some w ns settings id n commits many align commit large =
-    subst P (sym (claim-order S w settings ns id n commits))
-    (first-each P (broken S w settings ∷ questionOpen S w settings ∷ claimChecks S w settings id n) _ (turned _, (turned _, (turned _, (turned _, tt))))
-    (λ p. search-cases S (w .records) (w .stamps) (w .state .count) (w .state .mark) P id n commits _
+    act-cases S w ns settings P turned (claim id n commits)
+    (λ p idle. claim-cases S (w .records) (w .stamps) (w .state .count) (w .state .mark) P id n commits settings (λ e. turned _) (λ e f. turned _)
+    (λ e f. search-cases S (w .records) (w .stamps) (w .state .count) (w .state .mark) P id n commits _
     (miss-memory S some w settings n commits many align commit large id)
     (λ i h v. grant-cases S (w .records) (w .stamps) (w .state .count) (w .state .mark) P i n commits (λ g e. absurd (let z : _≡_ {A = ℕ} 0 1 = cc in omega arith))
     (λ s g e. absurd (let z : _≡_ {A = ℕ} 0 1 = cc in omega arith)) (λ s g e. absurd (let z : _≡_ {A = ℕ} 0 1 = cc in omega arith)))))

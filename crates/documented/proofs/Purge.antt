@@ -1,6 +1,6 @@
 -- Option 5: a sweep's questions say whether to decommit as the option said at its first call, and a yes does what is documented. Assumes nothing.
 use mathlib.Core.Path.{_≡_, refl, sym, ap, _∙_, subst}
-use mathlib.Core.Bool.{Bool, true, false, not, true≢false}
+use mathlib.Core.Bool.{Bool, true, false, true≢false}
 use mathlib.Core.List.{List, [], _∷_}
 use Prim.Native.Nat.{ℕ, zero, suc, _+_, _-_, _<_}
 use native.Mathlib.Omega.{arith}
@@ -8,7 +8,7 @@ use native.Mathlib.Decide.{ℕ-discrete}
 use lib.ListN.{set}
 use Rattle.words.specs.Bits.{bitAt}
 use Rattle.words.specs.Bits.{within}
-use Rattle.words.proofs.Tests.{by-cond, unless}
+use Rattle.words.proofs.Tests.{by-cond}
 use Rattle.words.proofs.RowLaws.{Stands, before, inside, after, stands, within-before, within-after}
 use Rattle.runs.specs.declared.Found.{Found}
 use Rattle.runs.specs.declared.Found.the-variants.{At, Nothing}
@@ -35,7 +35,7 @@ use Rattle.layer.specs.Step.{Call, sweep, answer, act, rules}
 use Rattle.layer.proofs.Tools.{at-same, at-other}
 use Rattle.layer.proofs.Facts.{SoundQuestion}
 use Rattle.layer.proofs.Stepped.{Words, sound-facts}
-use Rattle.refusal_laws.proofs.Order.{answer-order}
+use Rattle.layer.proofs.Calls.{past-3}
 use Rattle.refusal_laws.proofs.Forms.{isAsk, set-as, set-keeps, step-forms}
 use Rattle.sweep_laws.specs.Run.{Made, Run, isOpen, more, goOn, runSweep}
 use Rattle.sweep_laws.proofs.Swept.{sweep-keeps}
@@ -170,9 +170,7 @@ module _ (S : ℕ) (v : World) (later : ℕ) (others : Settings) (i j : ℕ) (ke
   unfolding isFor
   committed-left m =
       ap (λ (o : Outcome). committed (at (o .world .records) m))
-      (answer-order S v others later ForPurge granted base
-      ∙ unless (not (sound S v (others .page))) _ _ (ap not passed)
-      ∙ unless (not (isFor (v .state .question) ForPurge)) _ _ (ap (λ (q : Question). not (isFor q ForPurge)) waits)
+      (past-3 S v later others passed ForPurge (ap (λ (q : Question). isFor q ForPurge) waits) granted base
       ∙ ap (λ (q : Question). answerTo S (v .records) (v .stamps) (v .state .count) (v .state .mark) q granted base) waits)
       ∙ visit-committed S (v .stamps) (v .state .count) (v .state .mark) (counted kept granted) m (v .records) i (returnChunk (at (v .records) i) j granted (kept .decommit)) (j + 1) _
       (λ n. sweep-committed S (v .stamps) (v .state .count) (v .state .mark) (counted kept granted) m (v .state .count - (i + 1)) (i + 1) n)

@@ -1,13 +1,14 @@
 -- reserve_os_memory: a reserve asks for the memory, and a yes registers the area that is documented. Assumes nothing.
-use mathlib.Core.Path.{_≡_, refl, sym, ap, _∙_, subst}
-use mathlib.Core.Bool.{Bool, true, false, cond}
+use mathlib.Core.Path.{_≡_, refl, sym, _∙_}
+use mathlib.Core.Bool.{Bool, true, false, cond, not}
 use mathlib.Core.List.{List, [], _∷_}
 use Prim.Native.Nat.{ℕ, _%_, _<_, _≤_}
 use native.Mathlib.Omega.{arith}
-use borrow.Author.Tests.{leb-false, eqb-true}
+use borrow.Author.Tests.{eqb-true}
 use lib.Dec.{eqb}
 use lib.ListN.{length}
 use Rattle.refusals.specs.declared.Refusal.{Refusal}
+use Rattle.refusals.specs.declared.Refusal.the-variants.{Broken, QuestionOpen, ChunkCount}
 use Rattle.words.proofs.Tests.{by-cond}
 use Rattle.arena.specs.declared.Arena.{Arena}
 use Rattle.arena.proofs.FlagLaws.{flag-read}
@@ -19,14 +20,16 @@ use Rattle.layer.specs.declared.Kind.the-variants.{ForMemory}
 use Rattle.layer.specs.declared.Ask.{Ask}
 use Rattle.layer.specs.declared.Ask.the-variants.{AskMemory}
 use Rattle.layer.specs.declared.Answer.the-variants.{Refused, Asks, Registered}
-use Rattle.layer.specs.World.{World, Outcome, outcome}
+use Rattle.layer.specs.declared.Reply.{Reply}
+use Rattle.layer.specs.World.{World, Outcome, outcome, worldOf, turnDown, calm, Row, refuse, firstOf}
 use Rattle.layer.specs.Table.{at, sound}
-use Rattle.layer.specs.Registering.{chunksFor, bytesAsked, askMemory}
+use Rattle.layer.specs.Registering.{chunksFor, bytesAsked, askMemory, tooLarge, reserveReply, reserveOf}
 use Rattle.layer.specs.Step.{reserve, answer, act, rules}
+use Rattle.layer.specs.Answering.{isIdle}
 use Rattle.layer.proofs.Rules.{count-facts}
-use Rattle.refusal_laws.specs.Order.{Check, firstOf, broken, questionOpen, noSuchQuestion, reserveChecks, yesChecks}
+use Rattle.layer.proofs.Calls.{act-cases, yes-cases}
+use Rattle.layer.proofs.Cases.{reserve-cases}
 use Rattle.refusal_laws.proofs.Answers.{asks-not, registered-not}
-use Rattle.refusal_laws.proofs.Order.{first-each, reserve-order, yes-order}
 use Rattle.documented.specs.Areas.{AsksFor, Reserved}
 use Rattle.documented.proofs.Tools.{asked-not-registered, holds, sound-long, registered-at, each-bit, up-enough}
 
@@ -47,14 +50,14 @@ asked : (S : ℕ) (w : World) (ns : ℕ) (settings : Settings) (size : ℕ) (com
     → rules S w ns settings (act (reserve size commit large exclusive)) .answer ≡ Asks ask → Asked S size commit large exclusive (rules S w ns settings (act (reserve size commit large exclusive)))
 unfolding askMemory
 asked S w ns settings size commit large exclusive ask =
-    subst P (sym (reserve-order S w settings ns size commit large exclusive))
-    (first-each P (broken S w settings ∷ questionOpen S w settings ∷ reserveChecks S w settings size) _ (turned _, (turned _, (turned _, tt)))
-    (λ p e. record { page = settings .page; asks = refl; waits = refl }))
+    act-cases S w ns settings P turned (reserve size commit large exclusive)
+    (λ p idle. reserve-cases S (w .records) (w .stamps) (w .state .count) (w .state .mark) P size commit large exclusive (settings .page) (turned _)
+    (λ e. record { page = settings .page; asks = refl; waits = refl }))
   where
     P : Outcome → Type 0
     P o = o .answer ≡ Asks ask → Asked S size commit large exclusive o
 
-    turned : (why : Refusal) → P (outcome (Refused why) w)
+    turned : {v : World} (why : Refusal) → P (outcome (Refused why) v)
     turned why e = absurd (asks-not ask why (sym e))
 
 pub reserve-asks : (S : ℕ) → 0 < S → (w : World) (ns : ℕ) (settings : Settings) (size : ℕ) (commit large exclusive : Bool) (ask : Ask)
@@ -85,14 +88,10 @@ pub reserve-registers : (S : ℕ) → 0 < S → (w : World) (ns later : ℕ) (se
     o .answer ≡ Registered id → Reserved S size commit exclusive base (at (o .world .records) id)
 reserve-registers S some w ns later settings others size commit large exclusive ask base id e =
     let a = asked S w ns settings size commit large exclusive ask e in
-    subst P (sym (yes-order S v others later base (chunksFor S size) (bytesAsked S size (a .page)) commit exclusive Reserve (a .waits)))
-    (first-each P (broken S v others ∷ noSuchQuestion S v others ForMemory ∷ yesChecks S v others (chunksFor S size) (bytesAsked S size (a .page)) Reserve base) _
-    (turned _, (turned _, (turned _, ((λ f. asked-not-registered _ id f), ((λ f. asked-not-registered _ id f), ((λ f. asked-not-registered _ id f), tt))))))
-    (λ p f.
-    let k : v .state .count < length (v .records) =
-    omega (arith, sound-long S v (others .page) (holds (sound S v (others .page)) (p .0)), leb-false 32 (v .state .count) (p .1 .1 .1 .1 .1 .0)) in
-    registered-at R (v .records) (v .state .count) id new f k
-    (reserved S some size commit exclusive base (eqb-true (base % S) 0 (holds (eqb (base % S) 0) (p .1 .1 .1 .1 .0))) (count-facts (chunksFor S size) (p .1 .1 .1 .0) .1))))
+    yes-cases S v later others P turned (chunksFor S size) (bytesAsked S size (a .page)) commit exclusive Reserve base (a .waits) (λ cause f. asked-not-registered _ id f)
+    (λ p range count whole room f.
+    let k : v .state .count < length (v .records) = omega (arith, sound-long S v (others .page) p, room) in
+    registered-at R (v .records) (v .state .count) id new f k (reserved S some size commit exclusive base whole (count-facts (chunksFor S size) count .1)))
   where
     v : World
     v = rules S w ns settings (act (reserve size commit large exclusive)) .world
@@ -109,8 +108,8 @@ reserve-registers S some w ns later settings others size commit large exclusive 
     turned : (why : Refusal) → P (outcome (Refused why) v)
     turned why f = absurd (registered-not id why (sym f))
 
--- calls that end alike where a check holds, and leave the same world where none does, leave the same world
-same-world : (cs : List Check) (a b : Outcome) → a .world ≡ b .world → firstOf cs a .world ≡ firstOf cs b .world
+-- calls that end alike where a row holds, and leave the same world where none does, leave the same world
+same-world : (cs : List (Row Outcome)) (a b : Outcome) → a .world ≡ b .world → firstOf cs a .world ≡ firstOf cs b .world
 same-world [] a b e = e
 same-world (c ∷ cs) a b e = go (c .holds) (same-world cs a b e)
   where
@@ -121,8 +120,15 @@ same-world (c ∷ cs) a b e = go (c .holds) (same-world cs a b e)
 -- the recorded difference: allow_large is handed on with the question, and nothing of it is kept
 pub large-not-kept : (S : ℕ) (w : World) (ns : ℕ) (settings : Settings) (size : ℕ) (commit exclusive : Bool)
     → rules S w ns settings (act (reserve size commit true exclusive)) .world ≡ rules S w ns settings (act (reserve size commit false exclusive)) .world
-unfolding askMemory
+unfolding rules reserveOf reserveReply askMemory
 large-not-kept S w ns settings size commit exclusive =
-    ap (λ (o : Outcome). o .world) (reserve-order S w settings ns size commit true exclusive)
-    ∙ same-world (broken S w settings ∷ questionOpen S w settings ∷ reserveChecks S w settings size) _ _ refl
-    ∙ ap (λ (o : Outcome). o .world) (sym (reserve-order S w settings ns size commit false exclusive))
+    same-world (refuse w Broken (not (sound S w (settings .page))) ∷ []) _ _ (same-world (refuse w QuestionOpen (not (isIdle (w .state .question))) ∷ []) _ _ (go (tooLarge S size)))
+  where
+    asks : Bool → Reply
+    asks large = askMemory S (w .state .count) (w .state .mark) size (settings .page) commit large exclusive Reserve
+
+    go : (b : Bool)
+        → worldOf (w .records) (w .stamps) (cond b (turnDown ChunkCount (calm (w .state .count) (w .state .mark))) (asks true) .state)
+        ≡ worldOf (w .records) (w .stamps) (cond b (turnDown ChunkCount (calm (w .state .count) (w .state .mark))) (asks false) .state)
+    go true = refl
+    go false = refl

@@ -1,2 +1,2 @@
 pub mod ClaimLaws
-pub mod HeadLaws
+pub mod Callable

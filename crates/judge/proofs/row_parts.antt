@@ -1,1 +1,1 @@
-mod FourLaws
+pub mod FourLaws

@@ -1,4 +1,3 @@
-pub mod Scan
 pub mod Heads
 pub mod Questions
 pub mod Spans

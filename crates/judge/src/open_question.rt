@@ -1,15 +1,11 @@
-// The open question, by value: which arena it is about, and whether it is one that can be open.
+// The open question, by value: which chunks it is about, and what of it can be told without the arena's maps.
 ghost use mathlib.Core.Path.{_≡_};
-ghost use mathlib.Core.Bool.{_&&_};
-ghost use Prim.Native.Nat.{_+_, _*_, _<_, _≤_};
-ghost use lib.Dec.{leb};
-ghost use Rattle.words.specs.Bits.{bitAt};
-ghost use Rattle.runs.specs.Lowest.{all};
-ghost use Rattle.layer.specs.Table.{askedId, soundQuestion};
-ghost use Rattle.judge.specs.Questions.{aboutNone};
-use arena::Arena;
+ghost use Prim.Native.Nat.{_+_, _<_, _≤_};
+ghost use lib.Dec.{leb, ltb};
+ghost use Rattle.layer.specs.Table.{askedId};
+ghost use Rattle.judge.specs.Questions.{aboutNone, firstAsked, lengthAsked, soundCount};
+use crate::Head;
 use layer::Question;
-use runs::Found;
 
 // Whether the question is about no arena: then no record is looked at for it.
 pub fn is_about_none(q: Question) -> bool
@@ -37,44 +33,59 @@ pub fn asked_id(q: Question) -> usize
     }
 }
 
-// Whether the run lies in the arena, and each chunk of it is used.
-fn run_is_used(a: Arena, start: usize, n: usize) -> bool
-    requires { ⌜ a .chunks ≤ 1024 ⌝ }
-    ensures { λ r. ⌜ r ≡ (leb (start + n) (a .chunks) && all (bitAt (a .used)) start n) ⌝ }
+// The first of the chunks that the question is about.
+pub fn first_asked(q: Question) -> usize
+    ensures { λ r. ⌜ r ≡ firstAsked q ⌝ }
 {
-    let chunks = a.chunks;
+    match q {
+        Question::Idle => 0,
+        Question::Committing { start, .. } => start,
+        Question::Purging { chunk, .. } => chunk,
+        Question::Reserving { .. } => 0,
+        Question::GivingBack { .. } => 0,
+    }
+}
+
+// How many they are; none where the question is about no arena.
+pub fn length_asked(q: Question) -> usize
+    ensures { λ r. ⌜ r ≡ lengthAsked q ⌝ }
+{
+    match q {
+        Question::Idle => 0,
+        Question::Committing { n, .. } => n,
+        Question::Purging { .. } => 1,
+        Question::Reserving { .. } => 0,
+        Question::GivingBack { .. } => 0,
+    }
+}
+
+// Whether the table, of so many arenas, has one of that id.
+pub fn is_registered(id: usize, count: usize) -> bool
+    ensures { λ r. ⌜ r ≡ ltb id count ⌝ }
+{
+    id < count
+}
+
+// Whether a run lies in the arena of that head.
+pub fn is_within(h: Head, start: usize, n: usize) -> bool
+    ensures { λ r. ⌜ r ≡ leb (start + n) (h .chunks) ⌝ }
+{
+    let chunks = h.chunks;
     if chunks < n {
         return false;
     }
-    if chunks - n < start {
-        return false;
-    }
-    row_scans::row_is_free(&a.used, false, start, n)
+    start <= chunks - n
 }
 
-// Whether the open question is one that can be open. The record is the asked arena's: sound, if it is
-// registered.
-pub fn question_sound(a: Arena, k: usize, q: Question) -> bool
-    requires { ⌜ (askedId q < k → a .chunks ≤ 1024) × (k ≤ 32) ⌝ }
-    ensures { λ r. ⌜ r ≡ soundQuestion a k q ⌝ }
+// Whether an open sweep has purged no more chunks than come before the one that it asks about.
+pub fn count_is_sound(q: Question) -> bool
+    requires { ⌜ (askedId q < 32) × (firstAsked q ≤ 1024) ⌝ }
+    ensures { λ r. ⌜ r ≡ soundCount q ⌝ }
 {
     match q {
         Question::Idle => true,
-        Question::Committing { id, start, n } => {
-            if k <= id {
-                return false;
-            }
-            run_is_used(a, start, n)
-        }
-        Question::Purging { id, chunk, sweep } => {
-            if k <= id {
-                return false;
-            }
-            if !run_is_used(a, chunk, 1) {
-                return false;
-            }
-            sweep.purged <= 1024 * id + chunk
-        }
+        Question::Committing { .. } => true,
+        Question::Purging { id, chunk, sweep } => sweep.purged <= 1024 * id + chunk,
         Question::Reserving { .. } => true,
         Question::GivingBack { .. } => true,
     }

@@ -1,80 +1,99 @@
-// An arena's range beside an address or another range, by value. The record may be any at all, so no sum or
-// product that could wrap is taken over one.
+// An arena's range, by its head: whether it is sound, and, of a sound one, how it lies to an address or to another
+// range. The end of a sound range fits 64 bits, so it is computed.
 ghost use mathlib.Core.Path.{_≡_};
-ghost use Prim.Native.Nat.{_+_, _*_, _<_, _≤_};
-ghost use lib.Dec.{ltb};
-ghost use Rattle.runs.specs.Lowest.{all};
+ghost use mathlib.Core.Bool.{true};
+ghost use Prim.Native.Nat.{_+_, _*_};
+ghost use lib.Dec.{leb};
+ghost use Rattle.arena.specs.ChunkSize.{ChunkSize};
 ghost use Rattle.lookup.specs.Place.{isInside};
+ghost use Rattle.lookup.specs.Soundness.{soundRange};
 ghost use Rattle.layer.specs.Table.{meets};
 ghost use Rattle.layer.specs.Registering.{grows};
-use arena::Arena;
+ghost use Rattle.judge.specs.Heads.{headed};
+use crate::Head;
 use arena::MOST_CHUNKS;
-use layer::Question;
-use runs::Found;
 
-// Whether an address lies before the end of so many chunks from base on. The end is never computed.
-fn before_end(base: u64, chunks: usize, chunk_size: u64, address: u64) -> bool
-    requires { ⌜ 0 < «chunk_size» ⌝ }
-    ensures { λ r. ⌜ r ≡ ltb address (base + chunks * «chunk_size») ⌝ }
+// Whether the range of a head is sound.
+pub fn is_sound(h: Head, chunk_size: u64) -> bool
+    requires { ⌜ ChunkSize «chunk_size» ⌝ }
+    ensures { λ r. ⌜ r ≡ soundRange «chunk_size» (h .base) (h .chunks) ⌝ }
 {
-    if address < base {
-        return true;
-    }
-    (address - base) / chunk_size < (chunks as u64)
+    lookup::soundness::range_is_sound(h.base, h.chunks, chunk_size)
 }
 
-// Whether the arena shares an address with the range of so many bytes from base on.
-pub fn meets_range(a: Arena, chunk_size: u64, base: u64, bytes: u64) -> bool
-    requires { ⌜ (0 < «chunk_size») × («chunk_size» ≤ 4294967296) ⌝ }
-    ensures { λ r. ⌜ r ≡ meets «chunk_size» a base bytes ⌝ }
+// Whether it has all the chunks that an arena can have, so that no map has a bit past the last.
+pub fn is_full(h: Head) -> bool
+    ensures { λ r. ⌜ r ≡ leb 1024 (h .chunks) ⌝ }
 {
-    let start = a.base;
-    if bytes == 0 {
+    MOST_CHUNKS <= h.chunks
+}
+
+// Where it starts, and its bytes.
+pub fn base_of(h: Head) -> u64
+    ensures { λ r. ⌜ r ≡ h .base ⌝ }
+{
+    h.base
+}
+
+pub fn bytes_of(h: Head, chunk_size: u64) -> u64
+    requires { ⌜ soundRange «chunk_size» (h .base) (h .chunks) ≡ true ⌝ }
+    ensures { λ r. ⌜ r ≡ h .chunks * «chunk_size» ⌝ }
+{
+    (h.chunks as u64) * chunk_size
+}
+
+// The first address past it.
+pub fn end_of(h: Head, chunk_size: u64) -> u64
+    requires { ⌜ soundRange «chunk_size» (h .base) (h .chunks) ≡ true ⌝ }
+    ensures { λ r. ⌜ r ≡ h .base + h .chunks * «chunk_size» ⌝ }
+{
+    h.base + bytes_of(h, chunk_size)
+}
+
+// Whether an address lies in the arena.
+pub fn holds(h: Head, chunk_size: u64, address: u64) -> bool
+    requires { ⌜ soundRange «chunk_size» (h .base) (h .chunks) ≡ true ⌝ }
+    ensures { λ r. ⌜ r ≡ isInside «chunk_size» (headed h) address ⌝ }
+{
+    let base = h.base;
+    if address < base {
         return false;
     }
-    if !before_end(start, a.chunks, chunk_size, base) {
+    address < end_of(h, chunk_size)
+}
+
+// Whether the arena shares an address with the range of so many bytes from base on. The end of that range may not
+// fit, so it is not computed.
+pub fn meets_range(h: Head, chunk_size: u64, base: u64, bytes: u64) -> bool
+    requires { ⌜ soundRange «chunk_size» (h .base) (h .chunks) ≡ true ⌝ }
+    ensures { λ r. ⌜ r ≡ meets «chunk_size» (headed h) base bytes ⌝ }
+{
+    let start = h.base;
+    if end_of(h, chunk_size) <= base {
         return false;
     }
     if start < base {
-        return true;
+        return 0 < bytes;
     }
     start - base < bytes
 }
 
-// Whether an address lies in the arena.
-pub fn holds(a: Arena, chunk_size: u64, address: u64) -> bool
-    requires { ⌜ (0 < «chunk_size») × («chunk_size» ≤ 4294967296) ⌝ }
-    ensures { λ r. ⌜ r ≡ isInside «chunk_size» a address ⌝ }
+// Whether a block of n chunks at an address continues the arena: "the owned, non-exclusive arena that ends at the
+// block [..] if at most 1,024 result".
+pub fn grows_at(h: Head, chunk_size: u64, address: u64, n: u64) -> bool
+    requires { ⌜ soundRange «chunk_size» (h .base) (h .chunks) ≡ true ⌝ }
+    ensures { λ r. ⌜ r ≡ grows «chunk_size» (headed h) address n ⌝ }
 {
-    let base = a.base;
-    if address < base {
-        return false;
-    }
-    before_end(base, a.chunks, chunk_size, address)
-}
-
-// Whether a block of n chunks at an address continues the arena.
-pub fn grows_at(a: Arena, chunk_size: u64, address: u64, n: u64) -> bool
-    requires { ⌜ (0 < «chunk_size») × («chunk_size» ≤ 4294967296) ⌝ }
-    ensures { λ r. ⌜ r ≡ grows «chunk_size» a address n ⌝ }
-{
-    let base = a.base;
-    let chunks = a.chunks;
-    let exclusive = arena::is_on(a.exclusive);
-    if !arena::is_on(a.owned) {
+    let chunks = h.chunks;
+    let exclusive = arena::is_on(h.exclusive);
+    if !arena::is_on(h.owned) {
         return false;
     }
     if exclusive {
         return false;
     }
-    if MOST_CHUNKS < chunks {
+    if end_of(h, chunk_size) != address {
         return false;
     }
-    if ((MOST_CHUNKS - chunks) as u64) < n {
-        return false;
-    }
-    if address < base {
-        return false;
-    }
-    address - base == (chunks as u64) * chunk_size
+    n <= ((MOST_CHUNKS - chunks) as u64)
 }

@@ -1,7 +1,9 @@
 // The span of addresses that arenas lie in, by value: row 1 compares an arena with it, and with the others only
 // where the two meet.
 ghost use mathlib.Core.Path.{_≡_};
-ghost use Prim.Native.Nat.{_+_, _*_, _^_, _<_, _≤_};
+ghost use mathlib.Core.Bool.{true};
+ghost use Prim.Native.Nat.{_+_, _*_, _≤_};
+ghost use Rattle.lookup.specs.Soundness.{soundRange};
 ghost use Rattle.judge.specs.Spans.{outside};
 use crate::Head;
 use arena::LAST;
@@ -10,14 +12,6 @@ use arena::LAST;
 pub struct Span {
     pub lo: u64,
     pub hi: u64,
-}
-
-// The first address past the range of a head.
-fn end_of(h: Head, chunk_size: u64) -> u64
-    requires { ⌜ h .base + h .chunks * «chunk_size» < 2 ^ 64 ⌝ }
-    ensures { λ r. ⌜ r ≡ h .base + h .chunks * «chunk_size» ⌝ }
-{
-    h.base + (h.chunks as u64) * chunk_size
 }
 
 // The span of no arena.
@@ -29,14 +23,14 @@ pub fn no_span() -> Span
 
 // Whether the range of a head lies wholly at or above the span, or wholly below it.
 pub fn is_outside(s: Span, h: Head, chunk_size: u64) -> bool
-    requires { ⌜ h .base + h .chunks * «chunk_size» < 2 ^ 64 ⌝ }
+    requires { ⌜ soundRange «chunk_size» (h .base) (h .chunks) ≡ true ⌝ }
     ensures { λ r. ⌜ r ≡ outside «chunk_size» s h ⌝ }
 {
     let lo = s.lo;
     if s.hi <= h.base {
         return true;
     }
-    end_of(h, chunk_size) <= lo
+    crate::ranges::end_of(h, chunk_size) <= lo
 }
 
 fn lower(x: u64, y: u64) -> u64
@@ -59,13 +53,13 @@ fn higher(x: u64, y: u64) -> u64
 
 // A span of the span and the range of a head.
 pub fn span_with(s: Span, h: Head, chunk_size: u64) -> Span
-    requires { ⌜ h .base + h .chunks * «chunk_size» < 2 ^ 64 ⌝ }
+    requires { ⌜ soundRange «chunk_size» (h .base) (h .chunks) ≡ true ⌝ }
     ensures { λ r. ⌜ (r .lo ≤ s .lo) × (s .hi ≤ r .hi) × (r .lo ≤ h .base) × (h .base + h .chunks * «chunk_size» ≤ r .hi) ⌝ }
 {
     let hi = s.hi;
     let base = h.base;
     let lo = lower(s.lo, base);
-    let end = end_of(h, chunk_size);
+    let end = crate::ranges::end_of(h, chunk_size);
     Span {
         lo,
         hi: higher(hi, end),

@@ -37,7 +37,7 @@ use Rattle.layer.specs.declared.Answer.the-variants.{Asks, Claimed}
 use Rattle.layer.specs.declared.Reply.{Reply}
 use Rattle.layer.specs.World.{Outcome, stateOf, reply, after}
 use Rattle.layer.specs.Table.{at, isAt}
-use Rattle.layer.specs.Registering.{askMemory, withRecord, register}
+use Rattle.layer.specs.Registering.{askMemory, withRecord}
 use Rattle.layer.specs.Claiming.{serves, missReply, grantFound, searchOf}
 use Rattle.layer.specs.Releasing.{releaseOf}
 use Rattle.layer.specs.Sweeping.{purgeReply, sweptReply, visitAt, visit, sweepFrom}
@@ -49,7 +49,7 @@ use Rattle.layer.proofs.Tools.{at-same, at-other}
 use Rattle.layer.proofs.Rules.{served-found}
 use Rattle.layer.proofs.Shown.{View, calm, committing, purging, viewOf, waitsIn, owedIn, bookIn, Same}
 use Rattle.layer.proofs.View.{view-commit, view-purge, view-commit-other, view-purge-other, book-granted, book-taken, say-fresh, owed-taken, book-disarmed, book-rearmed, book-borrowed, take-same, dirty-same, disarm-same, borrow-same, rearm-same}
-use Rattle.layer.proofs.Cases.{granting, asking, grant-cases, search-cases, miss-cases, release-in-cases, release-cases, register-cases}
+use Rattle.layer.proofs.Cases.{register, granting, asking, grant-cases, search-cases, miss-cases, release-in-cases, release-cases, register-cases}
 
 -- the run of n from s on of arena i, which begins at base, is granted, or its commit is asked for
 pub data Given (S i base s n : ℕ) (o : Outcome) : Type 0 where

@@ -7,7 +7,6 @@ use native.Mathlib.Omega.{arith}
 use lib.IntN.{ℤ, pos, negsuc}
 use lib.ListN.{length, set, length-set}
 use Rattle.refusals.specs.declared.Refusal.{Refusal}
-use Rattle.words.proofs.Tests.{by-cond}
 use Rattle.arena.specs.declared.Arena.{Arena}
 use Rattle.arena.specs.Flags.{isOn}
 use Rattle.arena.specs.Claiming.{takeRun}
@@ -22,15 +21,15 @@ use Rattle.layer.specs.declared.Kind.{Kind}
 use Rattle.layer.specs.declared.Reply.{Reply}
 use Rattle.layer.specs.World.{Outcome, after}
 use Rattle.layer.specs.Table.{at}
-use Rattle.layer.specs.Registering.{chunksFor, askMemory, withRecord, withStamps, register}
+use Rattle.layer.specs.Registering.{chunksFor, askMemory, withRecord, withStamps}
 use Rattle.layer.specs.Claiming.{serves, searchOf, missReply}
 use Rattle.layer.specs.Sweeping.{visit, sweepFrom}
 use Rattle.layer.specs.Answering.{isFor, counted, failReply, resume, answerTo, answerOf}
 use Rattle.layer.specs.Step.{Act, reserve, manage, adopt, claim, release, sweep, Call, act, query, answer, sweepOf, actOn, stepOn}
 use Rattle.layer.specs.History.{isIdle}
-use Rattle.layer.proofs.Tools.{at-same}
+use Rattle.layer.proofs.Tools.{at-same, by-not}
 use Rattle.layer.proofs.Rules.{not-shared, served-named, Again, again}
-use Rattle.layer.proofs.Cases.{grant-cases, search-cases, miss-cases, claim-cases, release-in-cases, release-cases, reserve-cases, register-cases, manage-cases, adopt-cases, memory-cases}
+use Rattle.layer.proofs.Cases.{register, grant-cases, search-cases, miss-cases, claim-cases, release-in-cases, release-cases, reserve-cases, register-cases, manage-cases, adopt-cases, memory-cases}
 use Rattle.layer.proofs.Sweeps.{visit-cases, sweep-cases}
 
 -- the arena that a claim at the id was served in: the one that it names, and with a negative id one that is not exclusive
@@ -135,7 +134,7 @@ module _ (S : ℕ) (l : List Arena) (stamps : List ℕ) (k : ℕ) (mark : Bool) 
 
   answer-asked : (q : Question) (c : Call) (kind : Kind) (accepted : Bool) (base : ℕ) → Asked S l q c → AskedOf S c (answerOf S l stamps k mark q kind accepted base)
   unfolding answerOf
-  answer-asked q c kind accepted base h = by-cond (AskedOf S c) (isFor q kind) _ _ (λ e. go q h accepted) (λ e. h)
+  answer-asked q c kind accepted base h = by-not (AskedOf S c) (isFor q kind) _ _ (λ e. go q h accepted) (λ e. h)
     where
       go : (p : Question) → Asked S l p c → (accepted : Bool) → AskedOf S c (answerTo S l stamps k mark p accepted base)
       go Idle x accepted = tt

@@ -1,8 +1,8 @@
 -- The case principle of each call: to prove P of what comes out, prove it of each outcome, with what is known there. Assumes nothing.
 use mathlib.Core.Path.{_≡_, refl}
 use mathlib.Core.Bool.{Bool, true, false, cond, not, _&&_, _||_}
-use mathlib.Core.List.{List}
-use Prim.Native.Nat.{ℕ, suc, _+_, _-_, _*_, _/_, _%_, _<_}
+use mathlib.Core.List.{List, [], _∷_}
+use Prim.Native.Nat.{ℕ, _+_, _-_, _*_, _/_, _%_, _<_}
 use native.Mathlib.Omega.{arith}
 use borrow.Author.Tests.{leb-false, eqb-true, eqb-false}
 use lib.Dec.{eqb, leb}
@@ -19,7 +19,7 @@ use Rattle.runs.proofs.SearchLaws.{and-both}
 use Rattle.options.specs.Options.{arenaAllowed}
 use Rattle.arena.specs.declared.Arena.{Arena}
 use Rattle.arena.specs.declared.Commitment.{Commitment}
-use Rattle.arena.specs.Registering.{reservedArena, managedArena, adoptedArena, grownArena}
+use Rattle.arena.specs.Registering.{reservedArena, managedArena, adoptedArena}
 use Rattle.arena.specs.Claiming.{findRun, runCommitted, runFresh, takeRun, dirtyRun}
 use Rattle.arena.specs.Releasing.{releaseRun, stampRun}
 use Rattle.lookup.specs.Place.{isInside}
@@ -30,16 +30,31 @@ use Rattle.layer.specs.declared.Waiting.the-variants.{Reserve, Claim}
 use Rattle.layer.specs.declared.Unusable.{Unusable}
 use Rattle.layer.specs.declared.Unusable.the-variants.{Count, Misaligned, Full}
 use Rattle.layer.specs.declared.Ask.the-variants.{AskCommit}
-use Rattle.layer.specs.declared.Answer.the-variants.{Asks, Registered, Claimed, Released}
+use Rattle.layer.specs.declared.Answer.the-variants.{Asks, Claimed, Released}
 use Rattle.layer.specs.declared.Reply.{Reply}
-use Rattle.layer.specs.World.{Outcome, stateOf, reply, after, turnDown, calm}
-use Rattle.layer.specs.Table.{at, badRange, findArena}
-use Rattle.layer.specs.Registering.{tooLarge, askMemory, badCount, registerReply, registers, withRecord, withStamps, register, firstWhole, pastWhole, noWholeChunk, grows, reserveReply, reserveOf, manageOf, adoptAt, adoptOf}
+use Rattle.layer.specs.World.{Outcome, stateOf, worldOf, reply, after, turnDown, calm, refuse, firstOf}
+use Rattle.layer.specs.Table.{at, isAt, idFound, badRange, findArena}
+use Rattle.layer.specs.Registering.{tooLarge, askMemory, badCount, registered, firstWhole, pastWhole, noWholeChunk, grows, grown, reserveReply, reserveOf, manageOf, adoptOf}
 use Rattle.layer.specs.Claiming.{serves, isNegative, asksCommit, grantArena, grantReply, missReply, grantFound, searchAt, searchOf, claimOf}
-use Rattle.layer.specs.Releasing.{releases, releaseReply, releaseIn, releaseAt, releaseOf}
+use Rattle.layer.specs.Releasing.{releaseOf}
 use Rattle.layer.specs.Answering.{giveBackReply, resume, answerMemory}
+use Rattle.layer.proofs.Tools.{by-not}
+
+-- rows 12 and 13, and else the new arena
+abbrev pub register : List Arena → List ℕ → ℕ → Bool → ℕ → Arena → Outcome
+register l stamps k mark chunks a =
+    let w = worldOf l stamps (calm k mark) in
+    firstOf (refuse w ChunkCount (badCount chunks) ∷ refuse w TableFull (leb 32 k) ∷ []) (registered l stamps k mark a)
 
 module _ (S : ℕ) (l : List Arena) (stamps : List ℕ) (k : ℕ) (mark : Bool) where
+  -- rows 7 and 9 of the run of n at so many bytes from arena i's base on, and else it is released
+  unfoldable pub releaseIn : ℕ → ℕ → ℕ → Commitment → Bool → ℕ → ℕ → Outcome
+  releaseIn i offset n told pending now delay =
+      let w = worldOf l stamps (calm k mark) in
+      firstOf (refuse w NotWhole (not (eqb (offset % S) 0)) ∷ refuse w PastEnd (not (leb (offset / S + n) (at l i .chunks))) ∷ [])
+      (after (reply Released (calm k mark)) (set l i (releaseRun (at l i) (offset / S) n told pending now delay))
+      (cond pending (stampRun stamps (1024 * i + offset / S) n now) stamps))
+
   -- turned down, and no question open
   abbrev pub down : Refusal → Outcome
   down why = after (turnDown why (calm k mark)) l stamps
@@ -93,7 +108,7 @@ module _ (S : ℕ) (l : List Arena) (stamps : List ℕ) (k : ℕ) (mark : Bool) 
       → P (claimOf S l stamps k mark id m commits settings)
   unfolding claimOf
   claim-cases id m commits settings zero off go =
-      by-cond P (eqb m 0) _ _ zero (λ e. by-cond P (arenaAllowed (settings .off) id) _ _ (λ f. go e f) (λ f. off e f))
+      by-cond P (eqb m 0) _ _ zero (λ e. by-not P (arenaAllowed (settings .off) id) _ _ (λ f. go e f) (λ f. off e f))
 
   -- ---- releases
 
@@ -105,22 +120,19 @@ module _ (S : ℕ) (l : List Arena) (stamps : List ℕ) (k : ℕ) (mark : Bool) 
         → P (after (reply Released (calm k mark)) (set l i (releaseRun (at l i) (offset / S) m told pending now delay))
         (cond pending (stampRun stamps (1024 * i + offset / S) m now) stamps)))
         → P (releaseIn S l stamps k mark i offset m told pending now delay)
-    unfolding releases releaseReply
-    release-in-cases i offset part past whole = go (eqb (offset % S) 0) refl (leb (offset / S + m) (at l i .chunks)) refl
-      where
-        go : (w : Bool) → eqb (offset % S) 0 ≡ w → (r : Bool) → leb (offset / S + m) (at l i .chunks) ≡ r → P (releaseIn S l stamps k mark i offset m told pending now delay)
-        go false e r f = rw e (part e)
-        go true e false f = rw e (rw f (past e f))
-        go true e true f = rw e (rw f (whole e f))
+    unfolding releaseIn
+    release-in-cases i offset part past whole =
+        by-not P (eqb (offset % S) 0) _ _ (λ e. by-not P (leb (offset / S + m) (at l i .chunks)) _ _ (λ f. whole e f) (λ f. past e f)) part
 
     pub release-cases : (x : ℕ) → (eqb m 0 ≡ true → P (down S l stamps k mark Zero)) → (eqb m 0 ≡ false → ((i : ℕ) → i < k → isInside S (at l i) x ≡ false) → P (down S l stamps k mark NotInside))
         → ((i : ℕ) → eqb m 0 ≡ false → i < k → isInside S (at l i) x ≡ true → P (releaseIn S l stamps k mark i (x - at l i .base) m told pending now delay))
         → P (releaseOf S l stamps k mark x m told pending now delay)
-    unfolding releaseOf findArena
+    unfolding releaseOf releaseIn findArena
     release-cases x zero nowhere inside =
         by-cond P (eqb m 0) _ _ zero (λ e. go e (least (λ i. isInside S (at l i) x) 0 k) (first-says (λ i. isInside S (at l i) x) 0 k))
       where
-        go : eqb m 0 ≡ false → (f : Found) → First (λ i. isInside S (at l i) x) 0 k f → P (releaseAt S l stamps k mark x m told pending now delay f)
+        go : eqb m 0 ≡ false → (f : Found) → First (λ i. isInside S (at l i) x) 0 k f
+            → P (cond (not (isAt f)) (down S l stamps k mark NotInside) (releaseIn S l stamps k mark (idFound f) (x - at l (idFound f) .base) m told pending now delay))
         go e (At i) h = inside i e (omega (arith, h .1)) (h .2)
         go e Nothing h = nowhere e (λ i u. h i (omega arith) (omega arith))
 
@@ -133,15 +145,10 @@ module _ (S : ℕ) (l : List Arena) (stamps : List ℕ) (k : ℕ) (mark : Bool) 
       by-cond (λ (r : Reply). P (after r l stamps)) (tooLarge S size) _ _ (λ e. many) (λ e. ask)
 
   pub register-cases : (chunks : ℕ) (a : Arena) → P (down S l stamps k mark ChunkCount) → P (down S l stamps k mark TableFull)
-      → (badCount chunks ≡ false → k < 32 → P (after (reply (Registered k) (calm (suc k) mark)) (withRecord l k a) (withStamps stamps k)))
+      → (badCount chunks ≡ false → k < 32 → P (registered l stamps k mark a))
       → P (register l stamps k mark chunks a)
-  unfolding registers registerReply
-  register-cases chunks a many full new = go (badCount chunks) refl (leb 32 k) refl
-    where
-      go : (c : Bool) → badCount chunks ≡ c → (d : Bool) → leb 32 k ≡ d → P (register l stamps k mark chunks a)
-      go true e d f = rw e many
-      go false e true f = rw e (rw f full)
-      go false e false f = rw e (rw f (new e (leb-false 32 k f)))
+  register-cases chunks a many full new =
+      by-cond P (badCount chunks) _ _ (λ e. many) (λ e. by-cond P (leb 32 k) _ _ (λ f. full) (λ f. new e (leb-false 32 k f)))
 
   pub manage-cases : (start size : ℕ) (exclusive : Bool) (node : ℤ) (mapped reserved : Bool) → P (down S l stamps k mark NoWholeChunk) → P (down S l stamps k mark HostRefused) → P (down S l stamps k mark Range)
       → (badRange S l k (firstWhole S start) (pastWhole S start size - firstWhole S start) ≡ false
@@ -158,20 +165,21 @@ module _ (S : ℕ) (l : List Arena) (stamps : List ℕ) (k : ℕ) (mark : Bool) 
   Whole address size = (size ≡ 0 → ⊥) × (address % S ≡ 0) × (size % S ≡ 0) × (badRange S l k address size ≡ false)
 
   pub adopt-cases : (address size : ℕ) → P (down S l stamps k mark Zero) → P (down S l stamps k mark NotWhole) → P (down S l stamps k mark Range)
-      → ((i : ℕ) → Whole address size → i < k → grows S (at l i) address (size / S) ≡ true → P (after (reply (Registered i) (calm k mark)) (set l i (grownArena (at l i) (size / S))) stamps))
+      → ((i : ℕ) → Whole address size → i < k → grows S (at l i) address (size / S) ≡ true → P (grown S l stamps k mark i (size / S)))
       → (Whole address size → P (register l stamps k mark (size / S) (adoptedArena address (size / S))))
       → P (adoptOf S l stamps k mark address size)
   unfolding adoptOf
   adopt-cases address size zero part range grow add =
       by-cond P (eqb size 0) _ _ (λ e. zero)
-      (λ e. by-cond P (eqb (address % S) 0 && eqb (size % S) 0) _ _
+      (λ e. by-not P (eqb (address % S) 0 && eqb (size % S) 0) _ _
       (λ f. by-cond P (badRange S l k address size) _ _ (λ g. range)
       (λ g. let w = and-both (eqb (address % S) 0) _ f in
       go (eqb-false size 0 e, eqb-true (address % S) 0 (w .0), eqb-true (size % S) 0 (w .1), g)
       (least (λ i. grows S (at l i) address (size / S)) 0 k) (first-says (λ i. grows S (at l i) address (size / S)) 0 k)))
       (λ f. part))
     where
-      go : Whole address size → (f : Found) → First (λ i. grows S (at l i) address (size / S)) 0 k f → P (adoptAt S l stamps k mark address (size / S) f)
+      go : Whole address size → (f : Found) → First (λ i. grows S (at l i) address (size / S)) 0 k f
+          → P (cond (isAt f) (grown S l stamps k mark (idFound f) (size / S)) (register l stamps k mark (size / S) (adoptedArena address (size / S))))
       go w (At i) h = grow i w (omega (arith, h .1)) (h .2)
       go w Nothing h = add w
 
@@ -184,4 +192,4 @@ module _ (S : ℕ) (l : List Arena) (stamps : List ℕ) (k : ℕ) (mark : Bool) 
   memory-cases chunks bytes commit exclusive waiting base range unusable go =
       by-cond P (badRange S l k base (chunks * S)) _ _ (λ e. range)
       (λ e. by-cond P (badCount chunks) _ _ (λ f. unusable Count)
-      (λ f. by-cond P (eqb (base % S) 0) _ _ (λ g. by-cond P (leb 32 k) _ _ (λ h. unusable Full) (λ h. go e f (eqb-true (base % S) 0 g) (leb-false 32 k h))) (λ g. unusable Misaligned)))
+      (λ f. by-not P (eqb (base % S) 0) _ _ (λ g. by-cond P (leb 32 k) _ _ (λ h. unusable Full) (λ h. go e f (eqb-true (base % S) 0 g) (leb-false 32 k h))) (λ g. unusable Misaligned)))

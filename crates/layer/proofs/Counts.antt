@@ -27,7 +27,7 @@ use Rattle.layer.specs.declared.Kind.the-variants.{ForCommit, ForPurge, 
 use Rattle.layer.specs.declared.Reply.{Reply}
 use Rattle.layer.specs.World.{Outcome, after}
 use Rattle.layer.specs.Table.{at}
-use Rattle.layer.specs.Registering.{askMemory, badCount, withRecord, withStamps, register}
+use Rattle.layer.specs.Registering.{askMemory, badCount, withRecord, withStamps}
 use Rattle.layer.specs.Claiming.{searchOf, claimOf}
 use Rattle.layer.specs.Releasing.{releaseOf}
 use Rattle.layer.specs.Sweeping.{purgeReply, sweptReply, visitAt, visit, sweepFrom}
@@ -35,13 +35,13 @@ use Rattle.layer.specs.Answering.{isFor, counted, failReply, resume, ans
 use Rattle.layer.specs.Step.{Act, reserve, manage, adopt, claim, release, sweep, Call, act, query, answer, actOn, stepOn}
 use Rattle.layer.specs.Book.{opened}
 use Rattle.layer.specs.History.{Place}
-use Rattle.layer.proofs.Tools.{at-same}
+use Rattle.layer.proofs.Tools.{at-same, by-not}
 use Rattle.layer.proofs.Facts.{SoundTable}
 use Rattle.layer.proofs.Rules.{Again, again, count-facts}
 use Rattle.layer.proofs.Registered.{reserved-rows, managed-rows, adopted-rows}
 use Rattle.layer.proofs.Shown.{calm, aside, role, bookIn}
 use Rattle.layer.proofs.View.{book-reserved, book-managed, book-adopted, unchanged}
-use Rattle.layer.proofs.Cases.{grant-cases, search-cases, miss-cases, claim-cases, release-in-cases, release-cases, reserve-cases, register-cases, manage-cases, adopt-cases, memory-cases}
+use Rattle.layer.proofs.Cases.{register, grant-cases, search-cases, miss-cases, claim-cases, release-in-cases, release-cases, reserve-cases, register-cases, manage-cases, adopt-cases, memory-cases}
 use Rattle.layer.proofs.Along.{Stands, rests}
 use Rattle.layer.proofs.Does.{Does, shown, passed, resumes}
 
@@ -168,11 +168,11 @@ module _ (S : ℕ) (l : List Arena) (stamps : List ℕ) (k : ℕ) (mark : Bool) 
 
   answer-counts : (q : Question) (kind : Kind) (accepted : Bool) (base : ℕ) → Counts S l k q (answer kind accepted base) (answerOf S l stamps k mark q kind accepted base)
   unfolding answerOf isFor
-  answer-counts Idle kind accepted base = by-cond (Counts S l k Idle _) (isFor Idle kind) _ _ (λ e. as-many refl) (λ e. as-many refl)
-  answer-counts (Committing i s m) kind true base = by-cond (Counts S l k _ _) (isFor (Committing i s m) kind) _ _ (λ e. as-many refl) (λ e. as-many refl)
-  answer-counts (Committing i s m) kind false base = by-cond (Counts S l k _ _) (isFor (Committing i s m) kind) _ _ (λ e. as-many refl) (λ e. as-many refl)
+  answer-counts Idle kind accepted base = by-not (Counts S l k Idle _) (isFor Idle kind) _ _ (λ e. as-many refl) (λ e. as-many refl)
+  answer-counts (Committing i s m) kind true base = by-not (Counts S l k _ _) (isFor (Committing i s m) kind) _ _ (λ e. as-many refl) (λ e. as-many refl)
+  answer-counts (Committing i s m) kind false base = by-not (Counts S l k _ _) (isFor (Committing i s m) kind) _ _ (λ e. as-many refl) (λ e. as-many refl)
   answer-counts (Purging i j w) kind accepted base =
-      by-cond (Counts S l k _ _) (isFor (Purging i j w) kind) _ _
+      by-not (Counts S l k _ _) (isFor (Purging i j w) kind) _ _
       (λ e. as-many (visit-count S k mark stamps (counted w accepted) l i _ (j + 1) _ (λ m. sweep-count S k mark stamps (counted w accepted) _ _ m))) (λ e. as-many refl)
   answer-counts (Reserving chunks bytes commit exclusive waiting) ForMemory false base = fail-counts _ _ _ waiting
   answer-counts (Reserving chunks bytes commit exclusive waiting) ForMemory true base =
@@ -187,7 +187,7 @@ module _ (S : ℕ) (l : List Arena) (stamps : List ℕ) (k : ℕ) (mark : Bool) 
   answer-counts (Reserving chunks bytes commit exclusive waiting) ForGiveBack accepted base = as-many refl
   answer-counts (Reserving chunks bytes commit exclusive waiting) ForNone accepted base = as-many refl
   answer-counts (GivingBack cause waiting) kind accepted base =
-      by-cond (Counts S l k _ _) (isFor (GivingBack cause waiting) kind) _ _ (λ e. fail-counts _ _ _ waiting) (λ e. as-many refl)
+      by-not (Counts S l k _ _) (isFor (GivingBack cause waiting) kind) _ _ (λ e. fail-counts _ _ _ waiting) (λ e. as-many refl)
 
   pub counts : (q : Question) (ns : ℕ) (settings : Settings) (call : Call) → Counts S l k q call (stepOn S l stamps k mark q ns settings call)
   counts Idle ns settings (act a) = act-counts ns settings a

@@ -16,7 +16,7 @@ use Rattle.refusals.specs.declared.Refusal.{Refusal}
 use Rattle.refusals.specs.declared.Refusal.the-variants.{QuestionOpen, Zero, NotWhole, PastEnd, NoRun, CommitRefused}
 use Rattle.refusals.specs.Number.{number}
 use Rattle.words.proofs.RowLaws.{lt-or-le}
-use Rattle.words.proofs.Tests.{by-cond, when, unless}
+use Rattle.words.proofs.Tests.{when, unless}
 use Rattle.runs.specs.declared.Found.{Found}
 use Rattle.runs.specs.declared.Found.the-variants.{At, Nothing}
 use Rattle.runs.specs.Lowest.{Lowest, lowestRun}
@@ -47,20 +47,20 @@ use Rattle.layer.specs.World.{Outcome, stateOf, reply, after, turnDown}
 use Rattle.layer.specs.Table.{at, isAt}
 use Rattle.layer.specs.Registering.{withRecord, withStamps, grows as growsBy}
 use Rattle.layer.specs.Claiming.{eligible, serves, missReply, claimOf}
-use Rattle.layer.specs.Releasing.{releaseIn, releaseOf}
+use Rattle.layer.specs.Releasing.{releaseOf}
 use Rattle.layer.specs.Sweeping.{visit, sweepFrom}
 use Rattle.layer.specs.Answering.{isFor, counted, resume, answerCommit, answerPurge, answerOf}
 use Rattle.layer.specs.Step.{Act, reserve, manage, adopt, claim, release, sweep, Call, act, query, answer, actOn, stepOn}
 use Rattle.layer.specs.Ten.{Eligible}
 use Rattle.layer.specs.Book.{Book, lowest, Fed, claims, releases, Say, refused, released, turn, unheld, hold, unhold, claimed, enter}
 use Rattle.layer.specs.History.{isIdle, said, inRange, isAnswer}
-use Rattle.layer.proofs.Tools.{at-same}
+use Rattle.layer.proofs.Tools.{at-same, by-not}
 use Rattle.layer.proofs.Facts.{SoundTable, SoundQuestion}
 use Rattle.layer.proofs.Rules.{served-named, served-eligible, grows-facts, grows-owned, others-left, Again, again}
 use Rattle.layer.proofs.Registered.{meets-false}
 use Rattle.layer.proofs.Shown.{View, calm, committing, purging, viewOf, waitsIn, owedIn, Role, feeding, closing, aside, ends, role, bookIn, grow, Same}
 use Rattle.layer.proofs.View.{view-commit, view-purge, view-commit-other, view-purge-other, book-committed, freed-held, book-freed, book-released, book-returned, book-grown, unchanged, finish-same, give-back-same, release-same, return-same, grown-same}
-use Rattle.layer.proofs.Cases.{claim-cases, release-in-cases, release-cases, reserve-cases, manage-cases, adopt-cases, memory-cases}
+use Rattle.layer.proofs.Cases.{releaseIn, claim-cases, release-in-cases, release-cases, reserve-cases, manage-cases, adopt-cases, memory-cases}
 use Rattle.layer.proofs.Along.{Given, none-owed, Stands, Leaves, Takes, Seeks, none, other, this, rests, unmoved, elsewhere, added, seeks, asks-memory, misses, releases-elsewhere, registers-one, fails, visits, sweeps}
 
 -- ---- what a call does to one arena's book
@@ -585,7 +585,7 @@ module _ (S id : ℕ) (l : List Arena) (stamps : List ℕ) (k : ℕ) (mark : Boo
   answers : (q : Question) (kind : Kind) (accepted : Bool) (base : ℕ) → SoundQuestion l k q → Does S id l q (answer kind accepted base) (answerOf S l stamps k mark q kind accepted base)
   unfolding answerOf isFor
   answers Idle kind accepted base h =
-      by-cond (Does S id l Idle (answer kind accepted base)) (isFor Idle kind) _ _ (λ e. nothing Idle _ _ (λ managed. refl))
+      by-not (Does S id l Idle (answer kind accepted base)) (isFor Idle kind) _ _ (λ e. nothing Idle _ _ (λ managed. refl))
       (λ e. nothing Idle _ _ (λ managed. refl))
   answers (Committing i s m) ForCommit accepted base h = go (ℕ-discrete i id)
     where
@@ -599,7 +599,7 @@ module _ (S id : ℕ) (l : List Arena) (stamps : List ℕ) (k : ℕ) (mark : Boo
   answers (Committing i s m) ForGiveBack accepted base h = nothing (Committing i s m) _ _ (λ managed. refl)
   answers (Committing i s m) ForNone accepted base h = nothing (Committing i s m) _ _ (λ managed. refl)
   answers (Purging i j w) kind accepted base h =
-      by-cond (Does S id l (Purging i j w) (answer kind accepted base)) (isFor (Purging i j w) kind) _ _
+      by-not (Does S id l (Purging i j w) (answer kind accepted base)) (isFor (Purging i j w) kind) _ _
       (λ e. over (Purging i j w) _ _ (none-waits (eqb i id)) (λ managed. refl) (purge-answer i j w accepted h))
       (λ e. nothing (Purging i j w) _ _ (λ managed. refl))
     where
@@ -618,7 +618,7 @@ module _ (S id : ℕ) (l : List Arena) (stamps : List ℕ) (k : ℕ) (mark : Boo
   answers (Reserving chunks bytes commit exclusive waiting) ForGiveBack accepted base h = nothing (Reserving chunks bytes commit exclusive waiting) _ _ (λ managed. refl)
   answers (Reserving chunks bytes commit exclusive waiting) ForNone accepted base h = nothing (Reserving chunks bytes commit exclusive waiting) _ _ (λ managed. refl)
   answers (GivingBack cause waiting) kind accepted base h =
-      by-cond (Does S id l (GivingBack cause waiting) (answer kind accepted base)) (isFor (GivingBack cause waiting) kind) _ _
+      by-not (Does S id l (GivingBack cause waiting) (answer kind accepted base)) (isFor (GivingBack cause waiting) kind) _ _
       (λ e. over (GivingBack cause waiting) _ _ refl (λ managed. refl) (fails S id (at l id) small (before Idle) l stamps k mark (stands Idle refl) _ waiting))
       (λ e. nothing (GivingBack cause waiting) _ _ (λ managed. refl))
 

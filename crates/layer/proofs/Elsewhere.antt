@@ -6,7 +6,7 @@ use Prim.Native.Nat.{ℕ, _+_, _*_, _<_}
 use native.Mathlib.Omega.{arith}
 use lib.Dec.{leb, ltb, eqb}
 use lib.IntN.{pos, negsuc}
-use Rattle.words.proofs.Tests.{by-cond, when}
+use Rattle.words.proofs.Tests.{when}
 use Rattle.arena.specs.declared.Arena.{Arena}
 use Rattle.lookup.specs.Place.{bytesOf, endOf, isInside}
 use Rattle.lookup.proofs.SoundLaws.{never}
@@ -25,6 +25,7 @@ use Rattle.layer.specs.Step.{Act, reserve, manage, adopt, claim, release
 use Rattle.layer.specs.Book.{lowest, claims}
 use Rattle.layer.specs.History.{Marked, isSound, Layer, isBroken, Trail, openAt, ruled, entries, goesOn, Place, inRange, isNone, feeds, fedBy, standing, place, isAnswer}
 use Rattle.layer.specs.Demand.{claimant, chunksOf, OthersElsewhere, StaysSound, Demand3}
+use Rattle.layer.proofs.Tools.{by-not}
 use Rattle.layer.proofs.Shown.{calm, committing, viewOf, Mine}
 use Rattle.layer.proofs.Stepped.{sound-test}
 use Rattle.layer.proofs.Outcomes.{namesIn, actNames, names, asksIn, asksFor, Tells, step-tells}
@@ -47,7 +48,7 @@ asks-asked l (GivingBack cause (Claim n commits)) c h d = sym (ap chunksOf (h .1
 -- an answer grants nothing where no question is open
 idle-answer : (l : List Arena) (stamps : List ℕ) (k : ℕ) (mark : Bool) (kind : Kind) (accepted : Bool) (base : ℕ) → answerOf S l stamps k mark Idle kind accepted base .answer ≡ Refused NoSuchQuestion
 unfolding answerOf
-idle-answer l stamps k mark kind accepted base = by-cond (λ (o : Outcome). o .answer ≡ Refused NoSuchQuestion) (isFor Idle kind) _ _ (λ e. refl) (λ e. refl)
+idle-answer l stamps k mark kind accepted base = by-not (λ (o : Outcome). o .answer ≡ Refused NoSuchQuestion) (isFor Idle kind) _ _ (λ e. refl) (λ e. refl)
 
 module _ (t : Trail) (g : Good t) (m : Marked) (x : ℕ) (fresh committed : Bool) where
   asks-for : (c : Call) → m .call ≡ c → onTrail t m .answer ≡ Claimed x fresh committed → asksFor (openAt t) c ≡ chunksOf (goesOn t c)

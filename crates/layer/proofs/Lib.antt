@@ -7,6 +7,7 @@ pub mod Stepped
 pub mod Shown
 pub mod View
 pub mod Cases
+pub mod Calls
 pub mod Sweeps
 pub mod Along
 pub mod Does

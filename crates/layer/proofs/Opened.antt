@@ -1,14 +1,14 @@
 -- The book opens where Registering's rules, in plain arithmetic, register an exclusive arena: a managed one, and a reserved one whose memory question is open.
 -- Assumes nothing.
 use mathlib.Core.Path.{_≡_, refl, sym, ap, ap₂, _∙_, subst}
-use mathlib.Core.Bool.{Bool, true, false, not, _&&_, _||_, true≢false}
+use mathlib.Core.Bool.{Bool, true, false, not, _||_, true≢false}
 use mathlib.Core.List.{List, []}
 use Prim.Native.Nat.{ℕ, suc, _+_, _-_, _*_, _/_, _%_, _^_, _<_, _≤_}
 use native.Mathlib.Omega.{arith}
 use borrow.Author.Tests.{eq-eqb, ne-eqb, lt-leb}
 use lib.Dec.{eqb, leb}
 use lib.IntN.{ℤ, negsuc}
-use Rattle.words.proofs.Tests.{when, unless}
+use Rattle.words.proofs.Tests.{unless}
 use Rattle.arena.specs.declared.Arena.{Arena}
 use Rattle.arena.specs.Flags.{isOn}
 use Rattle.arena.specs.Registering.{newArena, reservedArena, managedArena}
@@ -17,15 +17,15 @@ use Rattle.layer.specs.declared.Question.the-variants.{Idle, Committing,
 use Rattle.layer.specs.declared.Waiting.the-variants.{Reserve, Claim}
 use Rattle.layer.specs.declared.Kind.the-variants.{ForMemory}
 use Rattle.layer.specs.declared.Answer.the-variants.{Registered}
-use Rattle.layer.specs.declared.Reply.{Reply}
 use Rattle.layer.specs.World.{Outcome, outcome, worldOf}
 use Rattle.layer.specs.World as W
 use Rattle.layer.specs.Table.{at, badRange}
-use Rattle.layer.specs.Registering.{chunksFor, badCount, registerReply, registers, withRecord, withStamps, register, firstWhole, pastWhole, noWholeChunk, manageOf}
+use Rattle.layer.specs.Registering.{chunksFor, badCount, withRecord, withStamps, firstWhole, pastWhole, noWholeChunk, manageOf}
 use Rattle.layer.specs.Answering.{isFor, answerMemory, answerOf}
 use Rattle.layer.specs.Step.{claim, reserve, Call, act, answer, stepOn}
 use Rattle.layer.specs.Book.{opened}
 use Rattle.layer.specs.History.{Marked, Trail, openAt, follow, standing, Registrable, Manages, Reserves, Registers, OpensAt}
+use Rattle.layer.proofs.Cases.{register}
 use Rattle.layer.proofs.Tools.{at-same}
 use Rattle.layer.proofs.Shown.{calm, bookIn, Stays, bookAt, owedAt, Inv}
 use Rattle.layer.proofs.View.{book-reserved, book-managed}
@@ -41,10 +41,7 @@ module _ (l : List Arena) (stamps : List ℕ) (k : ℕ) (mark : Bool) where
   added a = outcome (Registered k) (worldOf (withRecord l k a) (withStamps stamps k) (W.calm (suc k) mark))
 
   register-adds : (n : ℕ) (a : Arena) → badCount n ≡ false → k < 32 → register l stamps k mark n a ≡ added a
-  unfolding registers registerReply
-  register-adds n a e h =
-      when (not (badCount n) && not (leb 32 k)) _ _ (ap₂ (λ (c d : Bool). not c && not d) e (lt-leb 32 k h))
-      ∙ ap (λ (r : Reply). outcome (r .answer) (worldOf (withRecord l k a) (withStamps stamps k) (r .state))) (unless (badCount n) _ _ e ∙ unless (leb 32 k) _ _ (lt-leb 32 k h))
+  register-adds n a e h = unless (badCount n) _ _ e ∙ unless (leb 32 k) _ _ (lt-leb 32 k h)
 
   manage-adds : (from size : ℕ) (node : ℤ) (b n : ℕ) → firstWhole S from ≡ b → pastWhole S from size ≡ b + n * S
       → noWholeChunk S from size ≡ false → badRange S l k b (n * S) ≡ false → badCount n ≡ false → k < 32
@@ -61,7 +58,7 @@ module _ (l : List Arena) (stamps : List ℕ) (k : ℕ) (mark : Bool) where
   memory-adds : (n bytes : ℕ) (commit : Bool) (b : ℕ) → badRange S l k b (n * S) ≡ false → badCount n ≡ false → b % S ≡ 0 → k < 32
       → answerMemory S l stamps k mark n bytes commit true Reserve true b ≡ added (reservedArena b n commit true)
   memory-adds n bytes commit b range count aligned room =
-      unless (badRange S l k b (n * S)) _ _ range ∙ unless (badCount n) _ _ count ∙ when (eqb (b % S) 0) _ _ (eq-eqb (b % S) 0 aligned)
+      unless (badRange S l k b (n * S)) _ _ range ∙ unless (badCount n) _ _ count ∙ unless (not (eqb (b % S) 0)) _ _ (ap not (eq-eqb (b % S) 0 aligned))
       ∙ unless (leb 32 k) _ _ (lt-leb 32 k room)
 
 -- ---- the tests of manage, by plain arithmetic

@@ -35,19 +35,19 @@ use Rattle.layer.specs.declared.Unusable.the-variants.{Count, Misaligned
 use Rattle.layer.specs.declared.Kind.{Kind}
 use Rattle.layer.specs.declared.Answer.{Answer}
 use Rattle.layer.specs.declared.Answer.the-variants.{Refused, Asks, Registered, Claimed, Released, Swept, Owns, Area}
-use Rattle.layer.specs.World.{World, Outcome, after, turnDown}
+use Rattle.layer.specs.World.{World, Outcome, after, outcome}
 use Rattle.layer.specs.Table.{at, meets, badRange, apart, soundTable, soundLent, sound}
-use Rattle.layer.specs.Registering.{askMemory, badCount, withRecord, withStamps, register}
+use Rattle.layer.specs.Registering.{askMemory, badCount, withRecord, withStamps}
 use Rattle.layer.specs.Claiming.{serves, claimOf}
-use Rattle.layer.specs.Answering.{isFor, causeRefusal, counted, failReply, answerCommit, resume, answerMemory, answerTo, answerOf}
-use Rattle.layer.specs.Step.{Act, reserve, manage, adopt, claim, release, sweep, Query, owns, area, Call, act, query, answer, sweepOf, gate, actOn, queryOn, stepOn, rules}
-use Rattle.layer.proofs.Tools.{at-other}
+use Rattle.layer.specs.Answering.{isFor, causeRefusal, counted, failReply, answerCommit, resume, answerMemory, answerTo, answerOf, isIdle}
+use Rattle.layer.specs.Step.{Act, reserve, manage, adopt, claim, release, sweep, Query, owns, area, Call, act, query, answer, sweepOf, actOn, queryOn, stepOn, rules}
+use Rattle.layer.proofs.Tools.{at-other, by-not}
 use Rattle.layer.proofs.Facts.{SoundTable, SoundQuestion, question-facts}
 use Rattle.layer.proofs.Rules.{not-shared, served-named, Again, again, count-facts}
 use Rattle.layer.proofs.Registered.{good-range, new-table, reserved-rows, reserved-sound, reserved-range}
 use Rattle.layer.specs.History.{isBroken}
 use Rattle.layer.specs.Demand.{chunksOf}
-use Rattle.layer.proofs.Cases.{grant-cases, search-cases, miss-cases, claim-cases, release-in-cases, release-cases, reserve-cases, register-cases, manage-cases, adopt-cases, memory-cases}
+use Rattle.layer.proofs.Cases.{register, grant-cases, search-cases, miss-cases, claim-cases, release-in-cases, release-cases, reserve-cases, register-cases, manage-cases, adopt-cases, memory-cases}
 use Rattle.layer.proofs.Sweeps.{visit-cases, sweep-cases}
 use Rattle.layer.proofs.Does.{only-one}
 
@@ -194,7 +194,7 @@ module _ (S : ℕ) (l : List Arena) (stamps : List ℕ) (k : ℕ) (mark : Bool) 
 module _ (S : ℕ) (l : List Arena) (stamps : List ℕ) (k : ℕ) (mark : Bool) where
   answer-tells : (q : Question) (kind : Kind) (accepted : Bool) (base : ℕ) → SoundQuestion l k q → TellsOf S l k (asksIn q) (namesIn q) (answerOf S l stamps k mark q kind accepted base)
   unfolding answerOf
-  answer-tells q kind accepted base h = by-cond (TellsOf S l k (asksIn q) (namesIn q)) (isFor q kind) _ _ (λ e. go q h) (λ e. refl)
+  answer-tells q kind accepted base h = by-not (TellsOf S l k (asksIn q) (namesIn q)) (isFor q kind) _ _ (λ e. go q h) (λ e. refl)
     where
       cause : (c : Unusable) → _≡_ {A = Bool} (eqb (number (causeRefusal c)) 1) false
       cause Count = refl
@@ -209,13 +209,6 @@ module _ (S : ℕ) (l : List Arena) (stamps : List ℕ) (k : ℕ) (mark : Bool) 
           (λ m. sweep-cases S stamps k mark (counted w accepted) (TellsOf S l k 0 (λ u. false)) 0 (λ n x a j u. tt) (λ n. tt) (k - (i + 1)) (i + 1) m (omega arith))
       go (Reserving chunks bytes commit exclusive waiting) x = memory-tells S l stamps k mark chunks bytes commit exclusive waiting accepted base
       go (GivingBack c waiting) x = fail-tells S l stamps k mark _ _ _ waiting (cause c)
-
-  gated : (m : ℕ) (named : ℕ → Bool) (q : Question) (o stop : Outcome) → TellsOf S l k m named o → TellsOf S l k m named stop → TellsOf S l k m named (gate q o stop)
-  gated m named Idle o stop x y = x
-  gated m named (Committing i s n) o stop x y = y
-  gated m named (Purging i j w) o stop x y = y
-  gated m named (Reserving chunks bytes commit exclusive waiting) o stop x y = y
-  gated m named (GivingBack cause waiting) o stop x y = y
 
   act-tells : (q : Question) (ns : ℕ) (settings : Settings) (a : Act) → TellsOf S l k (chunksOf (act a)) (actNames a) (actOn S l stamps k mark q ns settings a)
   act-tells q ns settings (reserve size commit large exclusive) =
@@ -241,7 +234,7 @@ module _ (S : ℕ) (l : List Arena) (stamps : List ℕ) (k : ℕ) (mark : Bool) 
   query-tells q ns settings (area (negsuc i)) w = tt
 
   pub step-tells : (q : Question) (ns : ℕ) (settings : Settings) (c : Call) → SoundQuestion l k q → TellsOf S l k (asksFor q c) (names q c) (stepOn S l stamps k mark q ns settings c)
-  step-tells q ns settings (act a) h = gated (chunksOf (act a)) (actNames a) q _ _ (act-tells q ns settings a) refl
+  step-tells q ns settings (act a) h = by-not (TellsOf S l k (chunksOf (act a)) (actNames a)) (isIdle q) _ _ (λ e. act-tells q ns settings a) (λ e. refl)
   step-tells q ns settings (query c) h = query-tells q ns settings c _
   step-tells q ns settings (answer kind accepted base) h = answer-tells q kind accepted base h
 
@@ -275,7 +268,7 @@ refused-1 S w ns settings c = go (sound S w (settings .page)) refl
     o : Outcome
     o = stepOn S (w .records) (w .stamps) (w .state .count) (w .state .mark) (w .state .question) ns settings c
 
-    go : (x : Bool) → sound S w (settings .page) ≡ x → isBroken (cond x o (after (turnDown Broken (w .state)) (w .records) (w .stamps)) .answer) ≡ not x
+    go : (x : Bool) → sound S w (settings .page) ≡ x → isBroken (cond (not x) (outcome (Refused Broken) w) o .answer) ≡ not x
     go true e =
         not-broken S (w .records) (w .state .count) (asksFor (w .state .question) c) (names (w .state .question) c) (o .answer) (o .world)
         (step-tells S (w .records) (w .stamps) (w .state .count) (w .state .mark) (w .state .question) ns settings c (sound-question S w (settings .page) e))

@@ -7,7 +7,6 @@ use native.Mathlib.Omega.{arith}
 use borrow.Author.Tests.{ne-eqb, lt-leb, ltb-true}
 use lib.Dec.{eqb, leb, ltb}
 use lib.ListN.{length}
-use Rattle.words.proofs.Tests.{when}
 use Rattle.words.proofs.RowLaws.{lt-or-le}
 use Rattle.runs.specs.Lowest.{all}
 use Rattle.runs.proofs.LowestLaws.{all-free-of}
@@ -21,17 +20,17 @@ use Rattle.layer.specs.declared.Question.{Question}
 use Rattle.layer.specs.World.{World}
 use Rattle.layer.specs.Table.{at, meets, badRange, apart, askedId, soundQuestion, soundTable, soundLent, sound}
 use Rattle.layer.specs.Registering.{badCount}
-use Rattle.layer.specs.Step.{Call, stepOn, rules, step}
+use Rattle.layer.specs.Step.{Call, stepOn, step}
 use Rattle.layer.specs.History.{Registrable}
 use Rattle.layer.proofs.Facts.{none-overlaps}
 use Rattle.layer.proofs.Trails.{S}
+use Rattle.layer.proofs.Calls.{past-1}
 
 -- a call that row 1 lets pass, where q is open
 pub passes : (w : World) (ns : ℕ) (settings : Settings) (c : Call) (q : Question) → sound S w (settings .page) ≡ true → w .state .question ≡ q
     → step w ns settings c ≡ stepOn S (w .records) (w .stamps) (w .state .count) (w .state .mark) q ns settings c
-unfolding rules
 passes w ns settings c q e f =
-    when (sound S w (settings .page)) _ _ e ∙ ap (λ (x : Question). stepOn S (w .records) (w .stamps) (w .state .count) (w .state .mark) x ns settings c) f
+    past-1 S w ns settings e c ∙ ap (λ (x : Question). stepOn S (w .records) (w .stamps) (w .state .count) (w .state .mark) x ns settings c) f
 
 -- every arena of a table that row 1 lets pass has a chunk, and at most 1,024
 range-of : (w : World) (page : ℕ) → sound S w page ≡ true → (i : ℕ) → i < w .state .count → SoundArena S (at (w .records) i)

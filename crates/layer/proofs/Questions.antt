@@ -1,6 +1,6 @@
 -- What each call leaves of the open question. Assumes nothing.
 use mathlib.Core.Path.{_≡_, refl, sym, ap, _∙_, subst}
-use mathlib.Core.Bool.{Bool, true, false, true≢false}
+use mathlib.Core.Bool.{Bool, true, false, not, true≢false}
 use mathlib.Core.List.{List}
 use mathlib.Core.Logic.{_⊎_, inl, inr}
 use Prim.Native.Nat.{ℕ, suc, _+_, _-_, _*_, _%_, _≤_, _^_, _<_}
@@ -28,13 +28,14 @@ use Rattle.layer.specs.declared.Answer.{Answer}
 use Rattle.layer.specs.declared.Answer.the-variants.{Refused, Asks, Registered, Claimed, Released, Swept, Owns, Area}
 use Rattle.layer.specs.World.{World, Outcome, stateOf, worldOf, after}
 use Rattle.layer.specs.Table.{badRange, sound}
-use Rattle.layer.specs.Registering.{chunksFor, tooLarge, bytesAsked, reserveReply, reserveOf, askMemory, badCount, register, withRecord, withStamps}
+use Rattle.layer.specs.Registering.{chunksFor, tooLarge, bytesAsked, reserveReply, reserveOf, askMemory, badCount, withRecord, withStamps}
 use Rattle.layer.specs.Answering.{isFor, counted, failReply, resume, answerPurge, answerMemory, answerTo, answerOf}
 use Rattle.layer.specs.Step.{Act, reserve, manage, adopt, claim, release, sweep, Call, act, query, answer, sweepOf, actOn, stepOn, step}
 use Rattle.layer.specs.Questions.{TurnedDown, CommitOf, AfterAnswer, AfterAct, AfterCall, QuestionsByRules, ReservesAsk}
+use Rattle.layer.proofs.Tools.{by-not}
 use Rattle.layer.proofs.Facts.{SoundQuestion}
 use Rattle.layer.proofs.Rules.{Again, again}
-use Rattle.layer.proofs.Cases.{grant-cases, search-cases, miss-cases, claim-cases, release-in-cases, release-cases, reserve-cases, register-cases, manage-cases, adopt-cases}
+use Rattle.layer.proofs.Cases.{register, grant-cases, search-cases, miss-cases, claim-cases, release-in-cases, release-cases, reserve-cases, register-cases, manage-cases, adopt-cases}
 use Rattle.layer.proofs.Sweeps.{visit-cases, sweep-cases}
 use Rattle.layer.proofs.Plain.{some-chunk, few-chunks, not-6, passes}
 use Rattle.layer.proofs.Outcomes.{sound-question}
@@ -123,7 +124,7 @@ module _ (w : World) (page : ℕ) (e : sound S w page ≡ true) (base : ℕ) whe
       by-cond P (badRange S l k base (chunks * S)) _ _
       (λ f. inl (refl, refl, λ r. true≢false (sym f ∙ not-6 w (some-chunk w page e) base chunks r)))
       (λ f. by-cond P (badCount chunks) _ _ (λ g. inr (not-range _ refl, inr (inl (Count, refl))))
-      (λ g. by-cond P (eqb (base % S) 0) _ _
+      (λ g. by-not P (eqb (base % S) 0) _ _
       (λ h. by-cond P (leb 32 k) _ _ (λ m. inr (not-range _ refl, inr (inl (Full, refl))))
       (λ m. let x = resume-after (reservedArena base chunks commit exclusive) waiting in inr (x .0, goes (x .1))))
       (λ h. inr (not-range _ refl, inr (inl (Misaligned, refl))))))
@@ -175,9 +176,9 @@ questions-by-rules w ns settings c e = subst (AfterCall w c) (sym (passes w ns s
 
     answered : (kind : Kind) (accepted : Bool) (base : ℕ) → AfterCall w (answer kind accepted base) (answerOf S (w .records) (w .stamps) (w .state .count) (w .state .mark) (w .state .question) kind accepted base)
     answered kind accepted base = (
-      (λ f. subst (λ (o : Outcome). AfterAnswer w base (w .state .question) (o .answer) (o .world .state .question)) (sym (when (isFor (w .state .question) kind) _ _ f))
+      (λ f. subst (λ (o : Outcome). AfterAnswer w base (w .state .question) (o .answer) (o .world .state .question)) (sym (unless (not (isFor (w .state .question) kind)) _ _ (ap not f)))
           (answer-after w (settings .page) e base (w .state .question) (sound-question S w (settings .page) e) kind accepted f)),
-      (λ f. subst (TurnedDown NoSuchQuestion w) (sym (unless (isFor (w .state .question) kind) _ _ f)) (refl, refl)),
+      (λ f. subst (TurnedDown NoSuchQuestion w) (sym (when (not (isFor (w .state .question) kind)) _ _ (ap not f))) (refl, refl)),
     )
 
     go : (c : Call) → AfterCall w c (stepOn S (w .records) (w .stamps) (w .state .count) (w .state .mark) (w .state .question) ns settings c)

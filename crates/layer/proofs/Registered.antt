@@ -20,11 +20,11 @@ use Rattle.lookup.specs.Rows.{Rows}
 use Rattle.lookup.proofs.Changes.{new-rows, grown-rows}
 use Rattle.lookup.proofs.StaysSound.{new-sound, grown-sound}
 use Rattle.layer.specs.Table.{at, meets, badRange}
-use Rattle.layer.specs.Registering.{chunksFor, askMemory, badCount, withStamps, register, firstWhole, pastWhole, grows, reserveOf, manageOf, adoptOf}
+use Rattle.layer.specs.Registering.{chunksFor, askMemory, badCount, withStamps, firstWhole, pastWhole, grows, reserveOf, manageOf, adoptOf}
 use Rattle.layer.proofs.Tools.{or-false, at-same, at-other, by-set}
 use Rattle.layer.proofs.Facts.{SoundTable, overlaps-none}
 use Rattle.layer.proofs.Rules.{grows-facts, count-facts}
-use Rattle.layer.proofs.Cases.{reserve-cases, register-cases, manage-cases, adopt-cases}
+use Rattle.layer.proofs.Cases.{register, reserve-cases, register-cases, manage-cases, adopt-cases}
 use Rattle.layer.proofs.Kept.{Kept, calm-kept, stamp-length}
 
 -- ---- what row 6 lets pass

@@ -12,7 +12,6 @@ use lib.ListN.{length, set, length-set}
 use borrow.Author.Tests.{eqb-true}
 use Rattle.refusals.specs.declared.Refusal.{Refusal}
 use Rattle.refusals.specs.declared.Refusal.the-variants.{MemoryRefused}
-use Rattle.words.proofs.Tests.{by-cond}
 use Rattle.runs.proofs.SearchLaws.{and-both}
 use Rattle.arena.specs.declared.Arena.{Arena}
 use Rattle.arena.specs.Flags.{isOn}
@@ -27,13 +26,13 @@ use Rattle.layer.specs.declared.Waiting.the-variants.{Reserve, Claim}
 use Rattle.layer.specs.declared.Kind.{Kind}
 use Rattle.layer.specs.World.{Outcome, after}
 use Rattle.layer.specs.Table.{at, soundLent}
-use Rattle.layer.specs.Registering.{chunksFor, askMemory, register, withRecord, withStamps, firstWhole, pastWhole}
+use Rattle.layer.specs.Registering.{chunksFor, askMemory, withRecord, withStamps, firstWhole, pastWhole}
 use Rattle.layer.specs.Answering.{isFor, causeRefusal, counted, failReply, resume, answerTo, answerOf}
 use Rattle.layer.specs.Step.{Act, reserve, manage, adopt, claim, release, sweep, Call, act, query, answer, sweepOf, actOn, stepOn, step}
 use Rattle.layer.specs.Standing.{Brought, AskedFor, NoneUnasked}
-use Rattle.layer.proofs.Tools.{at-same, at-other}
+use Rattle.layer.proofs.Tools.{at-same, at-other, by-not}
 use Rattle.layer.proofs.Rules.{Again, again, count-facts}
-use Rattle.layer.proofs.Cases.{grant-cases, search-cases, miss-cases, claim-cases, release-in-cases, release-cases, reserve-cases, register-cases, manage-cases, adopt-cases, memory-cases}
+use Rattle.layer.proofs.Cases.{register, grant-cases, search-cases, miss-cases, claim-cases, release-in-cases, release-cases, reserve-cases, register-cases, manage-cases, adopt-cases, memory-cases}
 use Rattle.layer.proofs.Sweeps.{visit-cases, sweep-cases}
 use Rattle.layer.proofs.Plain.{passes}
 use Rattle.layer.proofs.Trails.{S}
@@ -133,7 +132,7 @@ module _ (l : List Arena) (stamps : List ℕ) (k : ℕ) (mark : Bool) (long : le
 
   answer-stands : (q : Question) (kind : Kind) (accepted : Bool) (base : ℕ) → Stands (Brought base q) (answerOf S l stamps k mark q kind accepted base)
   unfolding answerOf
-  answer-stands q kind accepted base = by-cond (Stands (Brought base q)) (isFor q kind) _ _ (λ e. go q accepted) (λ e. inl refl)
+  answer-stands q kind accepted base = by-not (Stands (Brought base q)) (isFor q kind) _ _ (λ e. go q accepted) (λ e. inl refl)
     where
       go : (p : Question) (accepted : Bool) → Stands (Brought base p) (answerTo S l stamps k mark p accepted base)
       go Idle accepted = inl refl

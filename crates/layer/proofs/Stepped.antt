@@ -8,7 +8,6 @@ use borrow.Author.Tests.{leb-true, le-leb, eqb-true, eq-eqb}
 use lib.Dec.{leb, eqb}
 use lib.IntN.{ℤ}
 use lib.ListN.{length}
-use Rattle.words.proofs.Tests.{by-cond}
 use Rattle.runs.specs.Lowest.{all}
 use Rattle.runs.proofs.LowestLaws.{all-free-of, free-all}
 use Rattle.runs.proofs.SearchLaws.{and-both}
@@ -31,13 +30,14 @@ use Rattle.layer.specs.declared.Waiting.the-variants.{Reserve, Claim}
 use Rattle.layer.specs.declared.Kind.{Kind}
 use Rattle.refusals.specs.declared.Refusal.{Refusal}
 use Rattle.refusals.specs.declared.Refusal.the-variants.{NoRun}
-use Rattle.layer.specs.World.{World, Outcome, worldOf, calm, turnDown}
+use Rattle.layer.specs.World.{World, worldOf, calm, turnDown}
 use Rattle.layer.specs.Table.{at, meets, apart, soundTable, soundLent, sound}
 use Rattle.layer.specs.Registering.{askMemory, withRecord, withStamps}
 use Rattle.layer.specs.Claiming.{missReply, claimOf}
-use Rattle.layer.specs.Answering.{isFor, counted, failReply, answerCommit, answerPurge, resume, answerMemory, answerTo, answerOf}
+use Rattle.layer.specs.Answering.{isFor, counted, failReply, answerCommit, answerPurge, resume, answerMemory, answerTo, answerOf, isIdle}
 use Rattle.layer.specs.Sweeping.{sweepFrom}
-use Rattle.layer.specs.Step.{Act, reserve, manage, adopt, claim, release, sweep, Call, act, query, answer, sweepOf, gate, actOn, stepOn, rules}
+use Rattle.layer.specs.Step.{Act, reserve, manage, adopt, claim, release, sweep, Call, act, query, answer, sweepOf, actOn, stepOn, rules}
+use Rattle.layer.proofs.Tools.{by-not}
 use Rattle.layer.proofs.Facts.{SoundTable, SoundQuestion, apart-facts, apart-test, question-facts, question-test, put-sound}
 use Rattle.layer.proofs.Rules.{count-facts}
 use Rattle.layer.proofs.Cases.{miss-cases, claim-cases, memory-cases}
@@ -123,7 +123,7 @@ module _ (S : ℕ) (pos : 0 < S) (l : List Arena) (stamps : List ℕ) (k : ℕ) 
 
   pub answer-kept : (q : Question) (kind : Kind) (granted : Bool) (base : ℕ) → SoundQuestion l k q → Kept S (answerOf S l stamps k mark q kind granted base)
   unfolding answerOf
-  answer-kept q kind granted base h = by-cond (Kept S) (isFor q kind) _ _ (λ e. go q h) (λ e. record { table = t; stamps = ls; question = h })
+  answer-kept q kind granted base h = by-not (Kept S) (isFor q kind) _ _ (λ e. go q h) (λ e. record { table = t; stamps = ls; question = h })
     where
       go : (p : Question) → SoundQuestion l k p → Kept S (answerTo S l stamps k mark p granted base)
       go Idle x = record { table = t; stamps = ls; question = tt }
@@ -134,13 +134,6 @@ module _ (S : ℕ) (pos : 0 < S) (l : List Arena) (stamps : List ℕ) (k : ℕ) 
 
   -- ---- one step
 
-  gate-kept : (q : Question) (o stop : Outcome) → Kept S o → Kept S stop → Kept S (gate q o stop)
-  gate-kept Idle o stop x y = x
-  gate-kept (Committing i s n) o stop x y = y
-  gate-kept (Purging i j w) o stop x y = y
-  gate-kept (Reserving chunks bytes commit exclusive waiting) o stop x y = y
-  gate-kept (GivingBack cause waiting) o stop x y = y
-
   act-kept : (q : Question) (ns : ℕ) (settings : Settings) (a : Act) → Kept S (actOn S l stamps k mark q ns settings a)
   act-kept q ns settings (reserve size commit large exclusive) = reserve-kept S l stamps k mark t ls size commit large exclusive (settings .page)
   act-kept q ns settings (manage start size exclusive node mapped reserved) = manage-kept S l stamps k mark t ls pos start size exclusive node mapped reserved
@@ -150,7 +143,7 @@ module _ (S : ℕ) (pos : 0 < S) (l : List Arena) (stamps : List ℕ) (k : ℕ) 
   act-kept q ns settings (sweep force) = sweep-kept S stamps k mark (sweepOf force ns settings) ls k 0 l t (omega arith) (omega arith)
 
   pub step-on-kept : (q : Question) (ns : ℕ) (settings : Settings) (c : Call) → SoundQuestion l k q → Kept S (stepOn S l stamps k mark q ns settings c)
-  step-on-kept q ns settings (act a) h = gate-kept q _ _ (act-kept q ns settings a) (record { table = t; stamps = ls; question = h })
+  step-on-kept q ns settings (act a) h = by-not (Kept S) (isIdle q) _ _ (λ e. act-kept q ns settings a) (λ e. record { table = t; stamps = ls; question = h })
   step-on-kept q ns settings (query c) h = record { table = t; stamps = ls; question = h }
   step-on-kept q ns settings (answer kind granted base) h = answer-kept q kind granted base h
 
@@ -200,7 +193,7 @@ unfolding rules
 step-sound S pos w ns settings c r e page p =
     let f = sound-facts S w (settings .page) r e in
     let kept : Kept S (rules S w ns settings c) =
-    by-cond (Kept S) (sound S w (settings .page)) _ _
+    by-not (Kept S) (sound S w (settings .page)) _ _
     (λ g. step-on-kept S pos (w .records) (w .stamps) (w .state .count) (w .state .mark) (f .0 .table) (f .0 .stamps) (w .state .question) ns settings c (f .0 .question))
     (λ g. f .0) in
     (sound-test S (rules S w ns settings c .world) page kept p, kept .table .rows)

@@ -9,7 +9,7 @@ use borrow.Author.Tests.{eq-eqb, ne-eqb, not-true, lt-leb}
 use lib.Dec.{eqb, leb}
 use lib.IntN.{ℤ, pos, negsuc}
 use Rattle.words.specs.Bits.{bitAt}
-use Rattle.words.proofs.Tests.{when, unless}
+use Rattle.words.proofs.Tests.{unless}
 use Rattle.runs.specs.declared.Found.{Found}
 use Rattle.runs.specs.declared.Found.the-variants.{At, Nothing}
 use Rattle.runs.specs.Lowest.{Starts, Lowest}
@@ -96,7 +96,7 @@ ten-exactly w ns settings id n commits e idle some allowed =
   where
     searches : claimOf S (w .records) (w .stamps) (w .state .count) (w .state .mark) id n commits settings
         ≡ searchOf S (w .records) (w .stamps) (w .state .count) (w .state .mark) id n commits (missReply S (w .state .count) (w .state .mark) id n commits settings)
-    searches = unfold claimOf in unless (eqb n 0) _ _ (ne-eqb n 0 (λ z. omega (arith, some))) ∙ when (arenaAllowed (settings .off) id) _ _ allowed
+    searches = unfold claimOf in unless (eqb n 0) _ _ (ne-eqb n 0 (λ z. omega (arith, some))) ∙ unless (not (arenaAllowed (settings .off) id)) _ _ (ap not allowed)
 
 pub ten-after-memory : TenAfterMemory step
 ten-after-memory w ns settings chunks bytes n base commit exclusive commits e open-is r =
@@ -119,5 +119,5 @@ ten-after-memory w ns settings chunks bytes n base commit exclusive commits e op
     goes-on =
         is-memory ∙ unless (badRange S (w .records) k base (chunks * S)) _ _ (not-6 w (some-chunk w (settings .page) e) base chunks r)
         ∙ unless (badCount chunks) _ _ (not-12 w base chunks r)
-        ∙ when (eqb (base % S) 0) _ _ (eq-eqb (base % S) 0 (r .whole))
+        ∙ unless (not (eqb (base % S) 0)) _ _ (ap not (eq-eqb (base % S) 0 (r .whole)))
         ∙ unless (leb 32 k) _ _ (lt-leb 32 k (r .room))

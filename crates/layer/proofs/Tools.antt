@@ -1,6 +1,6 @@
 -- Tests, and a table after a store. Assumes nothing.
 use mathlib.Core.Path.{_≡_, refl, sym, subst}
-use mathlib.Core.Bool.{Bool, true, false, _||_, true≢false}
+use mathlib.Core.Bool.{Bool, true, false, cond, not, _||_, true≢false}
 use mathlib.Core.List.{List}
 use Prim.Native.Nat.{ℕ, _<_}
 use native.Mathlib.Decide.{ℕ-discrete}
@@ -27,3 +27,8 @@ by-set P l i a h p j q = go (ℕ-discrete j i)
     go : Dec (j ≡ i) → P (at (set l i a) j)
     go (yes e) = subst (λ (x : ℕ). P (at (set l i a) x)) (sym e) (subst P (sym (at-same l i a h)) p)
     go (no e) = subst P (sym (at-other l i j a e)) (q e)
+
+-- what holds of both ways of a test holds of the test turned round
+pub by-not : {A : Type 0} (P : A → Type 0) (b : Bool) (x y : A) → (b ≡ true → P y) → (b ≡ false → P x) → P (cond (not b) x y)
+by-not P true x y f g = f refl
+by-not P false x y f g = g refl

@@ -9,13 +9,14 @@ use Rattle.words.proofs.Tests.{when, unless}
 use Rattle.runs.proofs.SearchLaws.{and-both}
 use Rattle.options.specs.Options.{pageSizeSound}
 use Rattle.layer.specs.World.{World, Outcome, empty}
-use Rattle.layer.specs.Table.{sound, soundLent}
-use Rattle.layer.specs.Step.{stepOn, rules, step}
+use Rattle.layer.specs.Table.{soundLent}
+use Rattle.layer.specs.Step.{stepOn, step}
 use Rattle.layer.specs.History.{Marked, History, begin, next, isSound, outcomeBy, isBroken, left, Lent, Trail, openAt, isIdle, follow, start, ruled}
 use Rattle.layer.proofs.Kept.{SoundWorld}
 use Rattle.layer.proofs.Stepped.{step-on-kept, sound-test}
 use Rattle.layer.proofs.Outcomes.{refused-1}
 use Rattle.layer.proofs.Asked.{Asked, step-asked}
+use Rattle.layer.proofs.Calls.{past-1}
 
 -- the bytes of a chunk
 abbrev pub S : ℕ
@@ -41,7 +42,7 @@ module _ (t : Trail) (m : Marked) where
   page-sound e = and-both (pageSizeSound (m .settings .page)) _ (and-both (eqb (length (m .lent .stamps)) 32768) _ (and-both (eqb (length (m .lent .records)) 32) _ e .1) .1) .0
 
   pub on-rules : Good t → isSound m ≡ true → step (t .world) (m .ns) (m .settings) (m .call) ≡ onTrail
-  on-rules g e = unfold rules in when (sound S (t .world) (m .settings .page)) _ _ (sound-test S (t .world) (m .settings .page) (g .world) (page-sound e))
+  on-rules g e = past-1 S (t .world) (m .ns) (m .settings) (sound-test S (t .world) (m .settings .page) (g .world) (page-sound e)) (m .call)
 
   abbrev pub gone : Outcome → Trail
   gone o = record { world = o .world; asker = cond (isIdle (openAt t)) (m .who) (t .asker); asked = cond (isIdle (openAt t)) (m .call) (t .asked) }

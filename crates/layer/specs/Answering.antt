@@ -1,31 +1,8 @@
 -- The answer to an open question. Document 01: "A second call brings yes or no, for memory a base too." Assumes nothing.
-use mathlib.Core.Bool.{Bool, true, false, cond}
-use mathlib.Core.List.{List}
-use Prim.Native.Nat.{ℕ, suc, _+_, _-_, _*_, _%_}
-use lib.Dec.{eqb, leb}
-use lib.IntN.{negsuc}
-use lib.ListN.{set}
-use Rattle.refusals.specs.declared.Refusal.{Refusal}
-use Rattle.refusals.specs.declared.Refusal.the-variants.{NoSuchQuestion, Range, NotWhole, NoRun, CommitRefused, ChunkCount, TableFull, MemoryRefused}
-use Rattle.arena.specs.declared.Arena.{Arena}
-use Rattle.arena.specs.Registering.{reservedArena}
-use Rattle.arena.specs.Claiming.{runFresh, giveBackRun, finishGrant}
-use Rattle.arena.specs.Sweeping.{returnChunk}
-use Rattle.layer.specs.declared.Sweep.{Sweep}
-use Rattle.layer.specs.declared.Question.{Question}
-use Rattle.layer.specs.declared.Question.the-variants.{Idle, Committing, Purging, Reserving, GivingBack}
-use Rattle.layer.specs.declared.Waiting.{Waiting}
-use Rattle.layer.specs.declared.Waiting.the-variants.{Reserve, Claim}
-use Rattle.layer.specs.declared.Unusable.{Unusable}
-use Rattle.layer.specs.declared.Unusable.the-variants.{Count, Misaligned, Full}
-use Rattle.layer.specs.declared.Kind.{Kind}
-use Rattle.layer.specs.declared.Kind.the-variants.{ForCommit, ForPurge, ForMemory, ForGiveBack, ForNone}
-use Rattle.layer.specs.declared.Ask.the-variants.{AskGiveBack}
-use Rattle.layer.specs.declared.Answer.the-variants.{Asks, Registered, Claimed}
-use Rattle.layer.specs.declared.Reply.{Reply}
-use Rattle.layer.specs.World.{Outcome, stateOf, reply, after, turnDown, calm}
+use Rattle.layer.specs.Prelude.{Bool, true, false, cond, not, List, [], _∷_, ℕ, suc, _+_, _-_, _*_, _%_, eqb, leb, negsuc, set, Refusal, NoSuchQuestion, Range, NotWhole, NoRun, CommitRefused, ChunkCount, TableFull, MemoryRefused, Arena, reservedArena, runFresh, giveBackRun, finishGrant, returnChunk, Sweep, Question, Idle, Committing, Purging, Reserving, GivingBack, Waiting, Reserve, Claim, Unusable, Count, Misaligned, Full, Kind, ForCommit, ForPurge, ForMemory, ForGiveBack, ForNone, AskGiveBack, Asks, Claimed, Reply}
+use Rattle.layer.specs.World.{Outcome, stateOf, calm, worldOf, reply, after, turnDown, Row, row, refuse, firstOf}
 use Rattle.layer.specs.Table.{at, badRange}
-use Rattle.layer.specs.Registering.{badCount, withRecord, withStamps}
+use Rattle.layer.specs.Registering.{badCount, withRecord, withStamps, registered}
 use Rattle.layer.specs.Claiming.{searchOf}
 use Rattle.layer.specs.Sweeping.{visit, sweepFrom}
 
@@ -43,6 +20,13 @@ kindAnswered ForPurge = 2
 kindAnswered ForMemory = 3
 kindAnswered ForGiveBack = 4
 kindAnswered ForNone = 5
+
+abbrev pub isIdle : Question → Bool
+isIdle Idle = true
+isIdle (Committing id start n) = false
+isIdle (Purging id chunk w) = false
+isIdle (Reserving chunks bytes commit exclusive waiting) = false
+isIdle (GivingBack cause waiting) = false
 
 unfoldable pub isFor : Question → Kind → Bool
 isFor q kind = eqb (kindOpen q) (kindAnswered kind)
@@ -87,27 +71,27 @@ module _ (S : ℕ) (l : List Arena) (stamps : List ℕ) (k : ℕ) (mark : Bool) 
 
   -- the arena is registered, and who waits goes on: a claim "searches once more"
   abbrev pub resume : Arena → Waiting → Outcome
-  resume a Reserve = after (reply (Registered k) (calm (suc k) mark)) (withRecord l k a) (withStamps stamps k)
+  resume a Reserve = registered l stamps k mark a
   resume a (Claim n commits) =
       searchOf S (withRecord l k a) (withStamps stamps k) (suc k) mark (negsuc 0) n commits (turnDown NoRun (calm (suc k) mark))
 
-  -- "Reserve after yes: 6, 12, 7, 13." 6 keeps the question open.
+  -- "Reserve after yes: 6, 12, 7, 13." 6 keeps the question open; past it the block is given back.
+  abbrev pub yesRows : ℕ → ℕ → Bool → Bool → Waiting → ℕ → List (Row Outcome)
+  yesRows chunks bytes commit exclusive waiting base =
+      refuse (worldOf l stamps (stateOf k mark (Reserving chunks bytes commit exclusive waiting))) Range (badRange S l k base (chunks * S))
+      ∷ row (after (giveBackReply k mark base bytes Count waiting) l stamps) (badCount chunks)
+      ∷ row (after (giveBackReply k mark base bytes Misaligned waiting) l stamps) (not (eqb (base % S) 0))
+      ∷ row (after (giveBackReply k mark base bytes Full waiting) l stamps) (leb 32 k)
+      ∷ []
+
   abbrev pub answerMemory : ℕ → ℕ → Bool → Bool → Waiting → Bool → ℕ → Outcome
   answerMemory chunks bytes commit exclusive waiting false base = after (failReply k mark MemoryRefused waiting) l stamps
   answerMemory chunks bytes commit exclusive waiting true base =
-      cond (badRange S l k base (chunks * S)) (after (turnDown Range (stateOf k mark (Reserving chunks bytes commit exclusive waiting))) l stamps)
-      (cond (badCount chunks) (after (giveBackReply k mark base bytes Count waiting) l stamps)
-      (cond (eqb (base % S) 0)
-      (cond (leb 32 k) (after (giveBackReply k mark base bytes Full waiting) l stamps) (resume (reservedArena base chunks commit exclusive) waiting))
-      (after (giveBackReply k mark base bytes Misaligned waiting) l stamps)))
-
-  -- 3 keeps the question as it is
-  abbrev pub other : Question → Outcome
-  other q = after (turnDown NoSuchQuestion (stateOf k mark q)) l stamps
+      firstOf (yesRows chunks bytes commit exclusive waiting base) (resume (reservedArena base chunks commit exclusive) waiting)
 
   -- what the answer does, once it is for the question that is open
   abbrev pub answerTo : Question → Bool → ℕ → Outcome
-  answerTo Idle granted base = other Idle
+  answerTo Idle granted base = after (turnDown NoSuchQuestion (calm k mark)) l stamps
   answerTo (Committing i s n) granted base = answerCommit i s n granted
   answerTo (Purging i j w) granted base = answerPurge i j w granted
   answerTo (Reserving chunks bytes commit exclusive waiting) granted base = answerMemory chunks bytes commit exclusive waiting granted base
@@ -115,4 +99,5 @@ module _ (S : ℕ) (l : List Arena) (stamps : List ℕ) (k : ℕ) (mark : Bool) 
 
   -- row 3: "none open, or other kind"
   unfoldable pub answerOf : Question → Kind → Bool → ℕ → Outcome
-  answerOf q kind granted base = cond (isFor q kind) (answerTo q granted base) (other q)
+  answerOf q kind granted base =
+      firstOf (refuse (worldOf l stamps (stateOf k mark q)) NoSuchQuestion (not (isFor q kind)) ∷ []) (answerTo q granted base)

@@ -1,25 +1,6 @@
 -- The three claims, where no question is open. Document 01, "Claiming". k arenas stand; S is the size of a chunk. Assumes nothing.
-use mathlib.Core.Bool.{Bool, true, false, cond, not, _&&_}
-use mathlib.Core.List.{List}
-use Prim.Native.Nat.{ℕ, _+_, _*_}
-use lib.Dec.{eqb, leb}
-use lib.IntN.{ℤ, pos, negsuc}
-use lib.ListN.{set}
-use Rattle.refusals.specs.declared.Refusal.the-variants.{Zero, ArenasOff, NoRun}
-use Rattle.runs.specs.declared.Found.{Found}
-use Rattle.runs.specs.declared.Found.the-variants.{At, Nothing}
-use Rattle.runs.specs.Lowest.{least}
-use Rattle.options.specs.Options.{arenaAllowed}
-use Rattle.arena.specs.declared.Arena.{Arena}
-use Rattle.arena.specs.Flags.{isOn}
-use Rattle.arena.specs.Claiming.{findRun, runCommitted, runFresh, takeRun, dirtyRun}
-use Rattle.layer.specs.declared.Settings.{Settings}
-use Rattle.layer.specs.declared.Question.the-variants.{Committing}
-use Rattle.layer.specs.declared.Waiting.the-variants.{Claim}
-use Rattle.layer.specs.declared.Ask.the-variants.{AskCommit}
-use Rattle.layer.specs.declared.Answer.the-variants.{Asks, Claimed}
-use Rattle.layer.specs.declared.Reply.{Reply}
-use Rattle.layer.specs.World.{Outcome, stateOf, reply, after, turnDown, calm}
+use Rattle.layer.specs.Prelude.{Bool, true, false, cond, not, _&&_, List, [], _∷_, ℕ, _+_, _*_, eqb, leb, ℤ, pos, negsuc, set, Zero, ArenasOff, NoRun, arenaAllowed, Found, At, Nothing, least, Arena, isOn, findRun, runCommitted, runFresh, takeRun, dirtyRun, Settings, Committing, Claim, AskCommit, Asks, Claimed, Reply}
+use Rattle.layer.specs.World.{Outcome, stateOf, calm, worldOf, reply, after, turnDown, refuse, firstOf}
 use Rattle.layer.specs.Table.{at, isAt}
 use Rattle.layer.specs.Registering.{tooLarge, askMemory}
 
@@ -79,6 +60,6 @@ module _ (S : ℕ) (l : List Arena) (stamps : List ℕ) (k : ℕ) (mark : Bool) 
   -- "Claim: 4, 5, search."
   unfoldable pub claimOf : ℤ → ℕ → Bool → Settings → Outcome
   claimOf id n commits settings =
-      cond (eqb n 0) (after (turnDown Zero (calm k mark)) l stamps)
-      (cond (arenaAllowed (settings .off) id) (searchOf id n commits (missReply S k mark id n commits settings))
-      (after (turnDown ArenasOff (calm k mark)) l stamps))
+      let w = worldOf l stamps (calm k mark) in
+      firstOf (refuse w Zero (eqb n 0) ∷ refuse w ArenasOff (not (arenaAllowed (settings .off) id)) ∷ [])
+      (searchOf id n commits (missReply S k mark id n commits settings))

@@ -11,13 +11,14 @@ use lib.Dec.{leb, ltb, eqb}
 use Rattle.refusals.specs.Number.{number}
 use Rattle.layer.specs.declared.Settings.{Settings}
 use Rattle.layer.specs.declared.Question.{Question}
-use Rattle.layer.specs.declared.Question.the-variants.{Idle, Committing, Purging, Reserving, GivingBack}
+use Rattle.layer.specs.declared.Question.the-variants.{Idle}
 use Rattle.layer.specs.declared.Kind.the-variants.{ForCommit, ForMemory}
 use Rattle.layer.specs.declared.Answer.{Answer}
 use Rattle.layer.specs.declared.Answer.the-variants.{Refused, Asks, Registered, Claimed, Released, Swept, Owns, Area}
 use Rattle.layer.specs.World.{World, Outcome, sizeOf, empty}
 use Rattle.layer.specs.Table.{at, sound}
 use Rattle.layer.specs.Answering.{isFor}
+pub use Rattle.layer.specs.Answering.{isIdle}
 use Rattle.layer.specs.Step.{Act, reserve, manage, adopt, claim, release, sweep, owns, Call, act, query, answer, step}
 use Rattle.layer.specs.Book.{How, lowest, Fed, claims, releases, Say, refused, granted, released}
 
@@ -81,13 +82,6 @@ pub record Trail : Type 0 where
 -- the question that the rules put and have not closed
 abbrev pub openAt : Trail → Question
 openAt t = t .world .state .question
-
-abbrev pub isIdle : Question → Bool
-isIdle Idle = true
-isIdle (Committing i s n) = false
-isIdle (Purging i j w) = false
-isIdle (Reserving chunks bytes commit exclusive waiting) = false
-isIdle (GivingBack cause waiting) = false
 
 -- the rules go on from what they left; a call that row 1 turns down is nothing to them. Who calls while no question is open asks the one that the call puts.
 abbrev pub follow : Trail → Marked → Trail

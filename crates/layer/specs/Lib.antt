@@ -1,3 +1,4 @@
+pub mod Prelude
 pub mod World
 pub mod Table
 pub mod Registering

@@ -1,28 +1,7 @@
--- The calls that register arenas, where no question is open. Document 01, "Registering", and the orders of "Turned down". k arenas stand; S is the size
--- of a chunk. Assumes nothing.
-use mathlib.Core.Bool.{Bool, cond, not, _&&_, _||_}
-use mathlib.Core.List.{List}
-use Prim.Native.Nat.{ℕ, suc, _+_, _-_, _*_, _/_, _%_, _^_}
-use lib.Dec.{eqb, leb, ltb}
-use lib.IntN.{ℤ}
-use lib.ListN.{set}
-use Rattle.refusals.specs.declared.Refusal.the-variants.{Zero, Range, NotWhole, ChunkCount, TableFull, NoWholeChunk, HostRefused}
-use Rattle.runs.specs.declared.Found.{Found}
-use Rattle.runs.specs.declared.Found.the-variants.{At, Nothing}
-use Rattle.runs.specs.Lowest.{least}
-use Rattle.arena.specs.declared.Arena.{Arena}
-use Rattle.arena.specs.Flags.{isOn}
-use Rattle.arena.specs.Registering.{managedArena, adoptedArena, grownArena}
-use Rattle.arena.specs.Releasing.{stampRun}
-use Rattle.lookup.specs.Place.{endOf}
-use Rattle.layer.specs.declared.Question.the-variants.{Reserving}
-use Rattle.layer.specs.declared.Waiting.{Waiting}
-use Rattle.layer.specs.declared.Waiting.the-variants.{Reserve}
-use Rattle.layer.specs.declared.Ask.the-variants.{AskMemory}
-use Rattle.layer.specs.declared.Answer.the-variants.{Asks, Registered}
-use Rattle.layer.specs.declared.Reply.{Reply}
-use Rattle.layer.specs.World.{Outcome, stateOf, reply, after, turnDown, calm}
-use Rattle.layer.specs.Table.{at, badRange}
+-- The calls that register arenas, where no question is open. Document 01, "Registering". k arenas stand; S is the size of a chunk. Assumes nothing.
+use Rattle.layer.specs.Prelude.{Bool, cond, not, _&&_, _||_, List, [], _∷_, ℕ, suc, _+_, _-_, _*_, _/_, _%_, _^_, eqb, leb, ltb, ℤ, set, Zero, Range, NotWhole, ChunkCount, TableFull, NoWholeChunk, HostRefused, Found, least, Arena, isOn, managedArena, adoptedArena, grownArena, stampRun, endOf, Reserving, Waiting, Reserve, AskMemory, Asks, Registered, Reply}
+use Rattle.layer.specs.World.{Outcome, stateOf, calm, worldOf, reply, after, turnDown, row, refuse, firstOf}
+use Rattle.layer.specs.Table.{at, isAt, idFound, badRange}
 
 -- ---- reserving
 
@@ -44,25 +23,16 @@ askMemory S k mark size page commit large exclusive waiting =
     reply (Asks (AskMemory (bytesAsked S size page) S commit large))
     (stateOf k mark (Reserving (chunksFor S size) (bytesAsked S size page) commit exclusive waiting))
 
--- `reserve_os_memory_ex`
+-- `reserve_os_memory_ex`: 12 unasked
 unfoldable pub reserveReply : ℕ → ℕ → Bool → ℕ → Bool → Bool → Bool → ℕ → Reply
 reserveReply S k mark size commit large exclusive page =
-    cond (tooLarge S size) (turnDown ChunkCount (calm k mark)) (askMemory S k mark size page commit large exclusive Reserve)
+    firstOf (row (turnDown ChunkCount (calm k mark)) (tooLarge S size) ∷ []) (askMemory S k mark size page commit large exclusive Reserve)
 
 -- ---- registering
 
 -- row 12: "chunks 0 or above 1,024"
 unfoldable pub badCount : ℕ → Bool
 badCount chunks = eqb chunks 0 || ltb 1024 chunks
-
--- 12, then 13 ("32 arenas stand"), then the new arena's id
-unfoldable pub registerReply : ℕ → Bool → ℕ → Reply
-registerReply k mark chunks =
-    cond (badCount chunks) (turnDown ChunkCount (calm k mark))
-    (cond (leb 32 k) (turnDown TableFull (calm k mark)) (reply (Registered k) (calm (suc k) mark)))
-
-unfoldable pub registers : ℕ → ℕ → Bool
-registers k chunks = not (badCount chunks) && not (leb 32 k)
 
 -- "Registering writes the whole record and its 1,024 stamps"
 abbrev pub withRecord : List Arena → ℕ → Arena → List Arena
@@ -71,13 +41,12 @@ withRecord l k a = set l k a
 abbrev pub withStamps : List ℕ → ℕ → List ℕ
 withStamps stamps k = stampRun stamps (1024 * k) 1024 0
 
-abbrev pub register : List Arena → List ℕ → ℕ → Bool → ℕ → Arena → Outcome
-register l stamps k mark chunks a =
-    cond (registers k chunks) (after (registerReply k mark chunks) (withRecord l k a) (withStamps stamps k)) (after (registerReply k mark chunks) l stamps)
+abbrev pub registered : List Arena → List ℕ → ℕ → Bool → Arena → Outcome
+registered l stamps k mark a = after (reply (Registered k) (calm (suc k) mark)) (withRecord l k a) (withStamps stamps k)
 
--- ---- managing
+-- ---- managing: "keeps the whole chunks inside the range"
 
--- "keeps the whole chunks inside the range": the first address of the first, and past the last
+-- the first address of the first, and past the last
 abbrev pub firstWhole : ℕ → ℕ → ℕ
 firstWhole S start = chunksFor S start * S
 
@@ -96,31 +65,47 @@ noWholeChunk S start size =
 unfoldable pub grows : ℕ → Arena → ℕ → ℕ → Bool
 grows S a address n = isOn (a .owned) && (not (isOn (a .exclusive)) && (eqb (endOf S a) address && leb (a .chunks + n) 1024))
 
+-- the one of k arenas that grows by a block of n chunks at the address
+abbrev pub growing : ℕ → List Arena → ℕ → ℕ → ℕ → Found
+growing S l k address n = least (λ i. grows S (at l i) address n) 0 k
+
 -- ---- the calls
 
 module _ (S : ℕ) (l : List Arena) (stamps : List ℕ) (k : ℕ) (mark : Bool) where
   unfoldable pub reserveOf : ℕ → Bool → Bool → Bool → ℕ → Outcome
   reserveOf size commit large exclusive page = after (reserveReply S k mark size commit large exclusive page) l stamps
 
-  -- `manage_os_memory_ex`: 15, 16, 6, 12, 13. The two facts are the host's: in the segment map already; reserved.
+  -- `manage_os_memory_ex`. "Manage: 15, 16, 6, 12, 13." The two facts are the host's: in the segment map already; reserved.
   unfoldable pub manageOf : ℕ → ℕ → Bool → ℤ → Bool → Bool → Outcome
   manageOf start size exclusive node mapped reserved =
+      let w = worldOf l stamps (calm k mark) in
       let base = firstWhole S start in
       let bytes = pastWhole S start size - firstWhole S start in
-      cond (noWholeChunk S start size) (after (turnDown NoWholeChunk (calm k mark)) l stamps)
-      (cond (mapped || not reserved) (after (turnDown HostRefused (calm k mark)) l stamps)
-      (cond (badRange S l k base bytes) (after (turnDown Range (calm k mark)) l stamps)
-      (register l stamps k mark (bytes / S) (managedArena base (bytes / S) exclusive node))))
+      firstOf
+      (refuse w NoWholeChunk (noWholeChunk S start size)
+      ∷ refuse w HostRefused (mapped || not reserved)
+      ∷ refuse w Range (badRange S l k base bytes)
+      ∷ refuse w ChunkCount (badCount (bytes / S))
+      ∷ refuse w TableFull (leb 32 k)
+      ∷ [])
+      (registered l stamps k mark (managedArena base (bytes / S) exclusive node))
 
-  abbrev pub adoptAt : ℕ → ℕ → Found → Outcome
-  adoptAt address n (At i) = after (reply (Registered i) (calm k mark)) (set l i (grownArena (at l i) n)) stamps
-  adoptAt address n Nothing = register l stamps k mark n (adoptedArena address n)
+  -- "grows the [..] arena that ends at the block"
+  abbrev pub grown : ℕ → ℕ → Outcome
+  grown i n = after (reply (Registered i) (calm k mark)) (set l i (grownArena (at l i) n)) stamps
 
-  -- `adopt_os_block`: 4, 7, 6, growth, 12, 13
+  -- `adopt_os_block`. "Adopt: 4, 7, 6, growth, 12, 13."
   unfoldable pub adoptOf : ℕ → ℕ → Outcome
   adoptOf address size =
-      cond (eqb size 0) (after (turnDown Zero (calm k mark)) l stamps)
-      (cond (eqb (address % S) 0 && eqb (size % S) 0)
-      (cond (badRange S l k address size) (after (turnDown Range (calm k mark)) l stamps)
-      (adoptAt address (size / S) (least (λ i. grows S (at l i) address (size / S)) 0 k)))
-      (after (turnDown NotWhole (calm k mark)) l stamps))
+      let w = worldOf l stamps (calm k mark) in
+      let n = size / S in
+      let found = growing S l k address n in
+      firstOf
+      (refuse w Zero (eqb size 0)
+      ∷ refuse w NotWhole (not (eqb (address % S) 0 && eqb (size % S) 0))
+      ∷ refuse w Range (badRange S l k address size)
+      ∷ row (grown (idFound found) n) (isAt found)
+      ∷ refuse w ChunkCount (badCount n)
+      ∷ refuse w TableFull (leb 32 k)
+      ∷ [])
+      (registered l stamps k mark (adoptedArena address n))

@@ -1,57 +1,33 @@
 -- One call: the rules of document 01 put together. Assumes nothing.
-use mathlib.Core.Bool.{Bool, cond}
-use mathlib.Core.List.{List}
-use Prim.Native.Nat.{ℕ}
-use lib.Dec.{ltb}
-use lib.IntN.{ℤ, pos, negsuc}
-use Rattle.refusals.specs.declared.Refusal.the-variants.{Broken, QuestionOpen}
-use Rattle.clock.specs.Clock.{nowMs, delayMs}
-use Rattle.arena.specs.declared.Arena.{Arena}
-use Rattle.arena.specs.declared.Commitment.{Commitment}
-use Rattle.lookup.specs.Place.{bytesOf}
-use Rattle.layer.specs.declared.Settings.{Settings}
-use Rattle.layer.specs.declared.Sweep.{Sweep}
-use Rattle.layer.specs.declared.Question.{Question}
-use Rattle.layer.specs.declared.Question.the-variants.{Idle, Committing, Purging, Reserving, GivingBack}
-use Rattle.layer.specs.declared.Kind.{Kind}
-use Rattle.layer.specs.declared.Answer.{Answer}
-use Rattle.layer.specs.declared.Answer.the-variants.{Owns, Area}
-use Rattle.layer.specs.World.{World, Outcome, sizeOf, stateOf, reply, after, turnDown}
+use Rattle.layer.specs.Prelude.{Bool, cond, not, List, [], _∷_, ℕ, ltb, ℤ, pos, negsuc, Broken, QuestionOpen, nowMs, delayMs, Arena, Commitment, bytesOf, Settings, Sweep, Question, Kind, Answer, Owns, Area}
+use Rattle.layer.specs.World.{World, Outcome, sizeOf, stateOf, worldOf, reply, after, refuse, firstOf}
 use Rattle.layer.specs.Table.{at, isAt, findArena, sound}
 use Rattle.layer.specs.Registering.{reserveOf, manageOf, adoptOf}
 use Rattle.layer.specs.Claiming.{claimOf}
 use Rattle.layer.specs.Releasing.{releaseOf}
 use Rattle.layer.specs.Sweeping.{sweepFrom}
-use Rattle.layer.specs.Answering.{answerOf}
+use Rattle.layer.specs.Answering.{isIdle, answerOf}
 
 -- what is done where no question is open; later requests add cases
 pub data Act : Type 0 where
-  -- size, commit, allow large, exclusive
-  reserve : ℕ → Bool → Bool → Bool → Act
-  -- start, size, exclusive, node; the host's facts: in the segment map, reserved
-  manage : ℕ → ℕ → Bool → ℤ → Bool → Bool → Act
-  -- address, size
-  adopt : ℕ → ℕ → Act
+  reserve : ℕ → Bool → Bool → Bool → Act  -- size, commit, allow large, exclusive
+  manage : ℕ → ℕ → Bool → ℤ → Bool → Bool → Act  -- start, size, exclusive, node; the host's facts: in the segment map, reserved
+  adopt : ℕ → ℕ → Act  -- address, size
   -- arena id, chunks, whether a commit question is put: `chunk_alloc` (1, true), `chunk_claim` (1, false), `chunk_alloc_n` (n, true)
   claim : ℤ → ℕ → Bool → Act
-  -- address, chunks, what is told of commitment, pending
-  release : ℕ → ℕ → Commitment → Bool → Act
-  -- force
-  sweep : Bool → Act
+  release : ℕ → ℕ → Commitment → Bool → Act  -- address, chunks, what is told of commitment, pending
+  sweep : Bool → Act  -- force
 
 -- "Queries (`owns`, `arena_area`) know 1 only."
 pub data Query : Type 0 where
-  -- address
-  owns : ℕ → Query
-  -- arena id
-  area : ℤ → Query
+  owns : ℕ → Query  -- address
+  area : ℤ → Query  -- arena id
 
 -- the calls of the layer
 pub data Call : Type 0 where
   act : Act → Call
   query : Query → Call
-  -- kind, yes, base
-  answer : Kind → Bool → ℕ → Call
+  answer : Kind → Bool → ℕ → Call  -- kind, yes, base
 
 -- "A sweep keeps its first clock and settings until it ends."
 abbrev pub sweepOf : Bool → ℕ → Settings → Sweep
@@ -62,14 +38,6 @@ sweepOf force ns settings =
 abbrev pub areaOf : ℕ → List Arena → ℕ → ℤ → Answer
 areaOf S l k (pos i) = cond (ltb i k) (Area (at l i .base) (bytesOf S (at l i))) (Area 0 0)
 areaOf S l k (negsuc i) = Area 0 0
-
--- row 2: what is done where no question is open, and else the refusal
-abbrev pub gate : Question → Outcome → Outcome → Outcome
-gate Idle go stop = go
-gate (Committing id start n) go stop = stop
-gate (Purging id chunk w) go stop = stop
-gate (Reserving chunks bytes commit exclusive waiting) go stop = stop
-gate (GivingBack cause waiting) go stop = stop
 
 -- a call on a sound table
 module _ (S : ℕ) (l : List Arena) (stamps : List ℕ) (k : ℕ) (mark : Bool) (q : Question) (ns : ℕ) (settings : Settings) where
@@ -88,16 +56,15 @@ module _ (S : ℕ) (l : List Arena) (stamps : List ℕ) (k : ℕ) (mark : Bool) 
 
   -- "then 2, or 3 for answers; then the call's own"
   abbrev pub stepOn : Call → Outcome
-  stepOn (act a) = gate q (actOn a) (after (turnDown QuestionOpen (stateOf k mark q)) l stamps)
+  stepOn (act a) = firstOf (refuse (worldOf l stamps (stateOf k mark q)) QuestionOpen (not (isIdle q)) ∷ []) (actOn a)
   stepOn (query c) = after (reply (queryOn c) (stateOf k mark q)) l stamps
   stepOn (answer kind granted base) = answerOf S l stamps k mark q kind granted base
 
 -- THE RULES, of chunks of S bytes: any call on any lent table. "Order: 1; then 2, or 3 for answers; then the call's own."
 unfoldable pub rules : ℕ → World → ℕ → Settings → Call → Outcome
 rules S w ns settings c =
-    cond (sound S w (settings .page))
+    firstOf (refuse w Broken (not (sound S w (settings .page))) ∷ [])
     (stepOn S (w .records) (w .stamps) (w .state .count) (w .state .mark) (w .state .question) ns settings c)
-    (after (turnDown Broken (w .state)) (w .records) (w .stamps))
 
 -- a call of the layer, on a table of its own chunk size
 abbrev pub step : World → ℕ → Settings → Call → Outcome

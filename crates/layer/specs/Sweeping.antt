@@ -1,20 +1,7 @@
 -- `purge_due`: a sweep over the arenas, until it has a question or ends. Document 01, "Sweeping": "Arenas by id, chunks ascending." k arenas stand; S is
 -- the size of a chunk. Assumes nothing.
-use mathlib.Core.Bool.{Bool, cond}
-use mathlib.Core.List.{List}
-use Prim.Native.Nat.{ℕ, zero, suc, _+_, _*_}
-use lib.ListN.{set}
-use Rattle.runs.specs.declared.Found.{Found}
-use Rattle.runs.specs.declared.Found.the-variants.{At, Nothing}
-use Rattle.arena.specs.declared.Arena.{Arena}
-use Rattle.arena.specs.Sweeping.{sweepDue, disarm, nextAsked, borrowChunk, rearm}
-use Rattle.purge.specs.Stamps.{stampsOf}
-use Rattle.layer.specs.declared.Sweep.{Sweep}
-use Rattle.layer.specs.declared.Question.the-variants.{Purging}
-use Rattle.layer.specs.declared.Ask.the-variants.{AskPurge}
-use Rattle.layer.specs.declared.Answer.the-variants.{Asks, Swept}
-use Rattle.layer.specs.declared.Reply.{Reply}
-use Rattle.layer.specs.World.{Outcome, stateOf, reply, after, calm}
+use Rattle.layer.specs.Prelude.{Bool, cond, List, ℕ, zero, suc, _+_, _*_, set, Found, At, Nothing, Arena, sweepDue, disarm, nextAsked, borrowChunk, rearm, stampsOf, Sweep, Purging, AskPurge, Asks, Swept, Reply}
+use Rattle.layer.specs.World.{Outcome, stateOf, calm, reply, after}
 use Rattle.layer.specs.Table.{at}
 
 -- the question about chunk j of arena i, whose record is a

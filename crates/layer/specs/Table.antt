@@ -1,20 +1,5 @@
 -- The table of arenas: what row 1 of document 01's "Turned down" lets pass, and what is asked of it. S is the size of a chunk. Assumes nothing.
-use mathlib.Core.Bool.{Bool, true, false, not, _&&_, _||_}
-use mathlib.Core.List.{List}
-use Prim.Native.Nat.{ℕ, _+_, _*_, _^_}
-use lib.Dec.{eqb, leb, ltb}
-use lib.ListN.{length, getD}
-use Rattle.words.specs.Bits.{bitAt}
-use Rattle.runs.specs.declared.Found.{Found}
-use Rattle.runs.specs.declared.Found.the-variants.{At, Nothing}
-use Rattle.runs.specs.Lowest.{all, least}
-use Rattle.options.specs.Options.{pageSizeSound}
-use Rattle.arena.specs.declared.Arena.{Arena}
-use Rattle.lookup.specs.Place.{bytesOf, endOf, isInside}
-use Rattle.lookup.specs.Soundness.{soundArena}
-use Rattle.layer.specs.declared.State.{State}
-use Rattle.layer.specs.declared.Question.{Question}
-use Rattle.layer.specs.declared.Question.the-variants.{Idle, Committing, Purging, Reserving, GivingBack}
+use Rattle.layer.specs.Prelude.{Bool, true, false, not, _&&_, _||_, List, ℕ, _+_, _*_, _^_, eqb, leb, ltb, length, getD, bitAt, Found, At, Nothing, all, least, pageSizeSound, Arena, bytesOf, endOf, isInside, soundArena, State, Question, Idle, Committing, Purging, Reserving, GivingBack}
 use Rattle.layer.specs.World.{World, blank}
 
 -- the record at an id
@@ -24,6 +9,11 @@ at l i = getD l i blank
 abbrev pub isAt : Found → Bool
 isAt (At x) = true
 isAt Nothing = false
+
+-- the id that was found
+abbrev pub idFound : Found → ℕ
+idFound (At i) = i
+idFound Nothing = 0
 
 -- ---- ranges
 

@@ -1,37 +1,26 @@
--- What a call works on and what it leaves: the 32 records, the 32,768 stamps and the state. Assumes nothing.
-use mathlib.Core.Path.{_≡_}
-use mathlib.Core.Bool.{Bool, false}
-use mathlib.Core.List.{List}
-use Prim.Native.Nat.{ℕ}
-use lib.IntN.{pos}
-use lib.ListN.{replicate}
-use Rattle.refusals.specs.declared.Refusal.{Refusal}
-use Rattle.refusals.specs.Number.{number}
-use Rattle.arena.specs.declared.Arena.{Arena}
-use Rattle.arena.specs.Registering.{noBits}
-use Rattle.layer.specs.declared.State.{State}
-use Rattle.layer.specs.declared.Question.{Question}
-use Rattle.layer.specs.declared.Question.the-variants.{Idle}
-use Rattle.layer.specs.declared.Answer.{Answer}
-use Rattle.layer.specs.declared.Reply.{Reply}
-use Rattle.layer.specs.declared.Answer.the-variants.{Refused, Asks, Registered, Claimed, Released, Swept, Owns, Area}
+-- What a call works on and what it leaves: the 32 records, the 32,768 stamps and the state; and the rows that end a call. Assumes nothing.
+use Rattle.layer.specs.Prelude.{_≡_, Bool, false, cond, List, [], _∷_, ℕ, pos, replicate, Refusal, Arena, noBits, State, Question, Idle, Answer, Refused, Reply}
 
 pub record World : Type 0 where
   pub records : List Arena
   pub stamps : List ℕ
   pub state : State
 
--- "A chunk is S = 33,554,432 bytes"
-abbrev pub sizeOf : State → ℕ
-sizeOf state = 33554432
-
 -- what a call answers, and the world that it leaves
 pub record Outcome : Type 0 where
   pub answer : Answer
   pub world : World
 
+-- "A chunk is S = 33,554,432 bytes"
+abbrev pub sizeOf : State → ℕ
+sizeOf state = 33554432
+
 abbrev pub stateOf : ℕ → Bool → Question → State
 stateOf count mark question = record { count = count; mark = mark; question = question }
+
+-- no question open
+abbrev pub calm : ℕ → Bool → State
+calm count mark = stateOf count mark Idle
 
 abbrev pub worldOf : List Arena → List ℕ → State → World
 worldOf records stamps state = record { records = records; stamps = stamps; state = state }
@@ -53,41 +42,34 @@ replyOf o = reply (o .answer) (o .world .state)
 abbrev pub Leaves : Outcome → Reply → List Arena → List ℕ → Type 0
 Leaves o r records stamps = (r ≡ replyOf o) × (records ≡ o .world .records) × (stamps ≡ o .world .stamps)
 
--- "Each refusal leaves all state and lent memory untouched"
 abbrev pub turnDown : Refusal → State → Reply
 turnDown why state = reply (Refused why) state
 
--- no question open
-abbrev pub calm : ℕ → Bool → State
-calm count mark = stateOf count mark Idle
+-- ---- rows
+
+-- where a row of a call holds, the call ends so
+pub record Row (A : Type 0) : Type 0 where
+  pub ends : A
+  pub holds : Bool
+
+abbrev pub row : {A : Type 0} → A → Bool → Row A
+row ends holds = record { ends = ends; holds = holds }
+
+-- "Each refusal leaves all state and lent memory untouched"
+abbrev pub refuse : World → Refusal → Bool → Row Outcome
+refuse w why holds = row (outcome (Refused why) w) holds
+
+-- each call is the first of its rows that holds, and else its act
+abbrev pub firstOf : {A : Type 0} → List (Row A) → A → A
+firstOf [] go = go
+firstOf (r ∷ rows) go = cond (r .holds) (r .ends) (firstOf rows go)
+
+-- ---- the empty layer
 
 -- a record with nothing in it: what an id past the table stands for, and what the empty layer holds
 abbrev pub blank : Arena
-blank =
-    record {
-      base = 0;
-      chunks = 0;
-      exclusive = 0;
-      owned = 0;
-      node = pos 0;
-      deadline = 0;
-      used = noBits;
-      dirty = noBits;
-      committed = noBits;
-      pending = noBits;
-    }
+blank = record { base = 0; chunks = 0; exclusive = 0; owned = 0; node = pos 0; deadline = 0; used = noBits; dirty = noBits; committed = noBits; pending = noBits }
 
 -- "The empty layer has no arena, no open question, no give-up mark and zeros elsewhere."
 unfoldable pub empty : World
-empty = worldOf (replicate 32 blank) (replicate 32768 0) (stateOf 0 false Idle)
-
--- the document's number for each case of an answer: 0 for what is granted, 255 for a question, else the refusal's
-abbrev pub answerNumber : Answer → ℕ
-answerNumber (Refused why) = number why
-answerNumber (Asks ask) = 255
-answerNumber (Registered id) = 0
-answerNumber (Claimed address fresh committed) = 0
-answerNumber Released = 0
-answerNumber (Swept count) = 0
-answerNumber (Owns whether) = 0
-answerNumber (Area base bytes) = 0
+empty = worldOf (replicate 32 blank) (replicate 32768 0) (calm 0 false)

@@ -1,20 +1,33 @@
 -- The examples of document 01's table "Turned down", and the lines of "Worked by hand" that register arenas, over the layer's definitions: `computed` is
 -- what they give, `stated` what the document says. Assumes nothing.
-use mathlib.Core.Bool.{Bool, true, false}
+use mathlib.Core.Bool.{true, false}
 use mathlib.Core.List.{List, [], _∷_}
 use Prim.Native.Nat.{ℕ, zero, suc, _+_, _*_}
-use lib.IntN.{ℤ, pos, negsuc}
+use lib.IntN.{pos, negsuc}
 use lib.ListN.{replicate, set}
+use Rattle.refusals.specs.Number.{number}
 use Rattle.arena.specs.declared.Arena.{Arena}
 use Rattle.arena.specs.declared.Commitment.the-variants.{Untold}
 use Rattle.arena.specs.Registering.{reservedArena}
 use Rattle.layer.specs.declared.Settings.{Settings}
-use Rattle.layer.specs.declared.Sweep.{Sweep}
-use Rattle.layer.specs.declared.Question.the-variants.{Idle, Purging}
+use Rattle.layer.specs.declared.Question.the-variants.{Purging}
 use Rattle.layer.specs.declared.Kind.the-variants.{ForCommit, ForMemory}
-use Rattle.layer.specs.World.{World, Outcome, blank, stateOf, worldOf, calm, answerNumber}
+use Rattle.layer.specs.declared.Answer.{Answer}
+use Rattle.layer.specs.declared.Answer.the-variants.{Refused, Asks, Registered, Claimed, Released, Swept, Owns, Area}
+use Rattle.layer.specs.World.{World, blank, stateOf, worldOf, calm}
 use Rattle.layer.specs.Table.{at}
-use Rattle.layer.specs.Step.{Call, reserve, manage, adopt, claim, release, answer, step, act, rules}
+use Rattle.layer.specs.Step.{Call, reserve, manage, adopt, claim, release, answer, act, rules}
+
+-- the document's number for each case of an answer: 0 for what is granted, 255 for a question, else the refusal's
+abbrev pub answerNumber : Answer → ℕ
+answerNumber (Refused why) = number why
+answerNumber (Asks ask) = 255
+answerNumber (Registered id) = 0
+answerNumber (Claimed address fresh committed) = 0
+answerNumber Released = 0
+answerNumber (Swept count) = 0
+answerNumber (Owns whether) = 0
+answerNumber (Area base bytes) = 0
 
 -- a chunk: 33,554,432 bytes
 abbrev pub S : ℕ

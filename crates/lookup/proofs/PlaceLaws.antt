@@ -1,15 +1,13 @@
 -- Where an address lies to an arena, by facts and not by tests. Assumes nothing.
-use mathlib.Core.Path.{_≡_, sym, ap, ap₂}
-use mathlib.Core.Bool.{Bool, true, false, cond, _&&_}
+use mathlib.Core.Path.{_≡_, ap₂}
+use mathlib.Core.Bool.{true, false, _&&_}
 use mathlib.Core.Logic.{_↔_}
-use Prim.Native.Nat.{ℕ, _+_, _-_, _*_, _≤_, _<_}
+use Prim.Native.Nat.{ℕ, _+_, _*_, _≤_, _<_}
 use borrow.Author.Tests.{lt-ltb, ltb-true, le-leb, leb-true}
 use lib.Dec.{leb, ltb}
 use Rattle.runs.proofs.SearchLaws.{and-both}
 use Rattle.arena.specs.declared.Arena.{Arena}
-use Rattle.lookup.specs.declared.Place.{Place}
-use Rattle.lookup.specs.declared.Place.the-variants.{Inside, Outside}
-use Rattle.lookup.specs.Place.{bytesOf, endOf, isInside, placeOf}
+use Rattle.lookup.specs.Place.{bytesOf, endOf, isInside}
 use Rattle.lookup.proofs.SoundLaws.{never}
 
 module _ (S : ℕ) (a : Arena) (address : ℕ) where
@@ -33,11 +31,3 @@ module _ (S : ℕ) (a : Arena) (address : ℕ) where
 
   pub outside-test : (Within → ⊥) → isInside S a address ≡ false
   outside-test h = never (isInside S a address) (λ e. h (inside-facts e))
-
-  pub place-inside : Within → Inside (address - a .base) ≡ placeOf S a address
-  unfolding placeOf
-  place-inside h = sym (ap (λ (t : Bool). cond t (Inside (address - a .base)) Outside) (inside-test h))
-
-  pub place-outside : (Within → ⊥) → Outside ≡ placeOf S a address
-  unfolding placeOf
-  place-outside h = sym (ap (λ (t : Bool). cond t (Inside (address - a .base)) Outside) (outside-test h))

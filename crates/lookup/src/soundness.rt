@@ -1,8 +1,9 @@
 // Whether one record, any at all, is that of a sound arena: its range and its chunks; and no bit of a map past
 // them.
 ghost use mathlib.Core.Path.{_≡_};
-ghost use Prim.Native.Nat.{_+_, _/_, _^_, _<_, _≤_};
+ghost use Prim.Native.Nat.{_/_, _^_, _<_};
 ghost use lib.Bits.{bitOr};
+ghost use Rattle.arena.specs.ChunkSize.{ChunkSize};
 ghost use Rattle.lookup.specs.Soundness.{soundRange, clearPast};
 use arena::LAST;
 use arena::MOST_CHUNKS;
@@ -11,7 +12,7 @@ const WORDS: usize = 32;
 
 // Whether an arena can have this range.
 pub fn range_is_sound(base: u64, chunks: usize, chunk_size: u64) -> bool
-    requires { ⌜ (0 < «chunk_size») × («chunk_size» ≤ 4294967296) ⌝ }
+    requires { ⌜ ChunkSize «chunk_size» ⌝ }
     ensures { λ r. ⌜ r ≡ soundRange «chunk_size» base chunks ⌝ }
 {
     if base == 0 {

@@ -1,2 +1,3 @@
 pub mod StampLaws
-pub mod DueLaws
+pub mod Callable
+pub mod MapLaws

@@ -1,1 +1,2 @@
 pub mod Stamps
+pub mod Maps

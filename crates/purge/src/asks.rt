@@ -4,8 +4,8 @@ ghost use mathlib.Core.Bool.{false, not, _&&_};
 ghost use Prim.Native.Nat.{_+_, _<_, _≤_};
 ghost use lib.ListN.{length};
 ghost use Rattle.words.specs.Bits.{bitAt};
-ghost use Rattle.arena.specs.Sweeping.{young, nextAsked};
-use arena::Arena;
+ghost use Rattle.arena.specs.Sweeping.{young};
+ghost use Rattle.purge.specs.Maps.{nextIn};
 use runs::Found;
 
 // Whether chunk j is too young to be asked about; a forced sweep judges no age.
@@ -39,17 +39,25 @@ fn is_asked(used: &[u32; 32], stamps: &[u32], force: bool, ms: u32, delay: u32, 
 }
 
 // The next chunk to ask about, from `from` on. It goes from pending bit to pending bit.
-pub fn next_asked(a: Arena, stamps: &[u32], force: bool, ms: u32, delay: u32, from: usize) -> Found
-    requires { ⌜ (a .chunks ≤ 1024) × (length (now stamps) ≡ 1024) ⌝ }
-    ensures { λ r. ⌜ r ≡ nextAsked a (now (stamps .entry)) force ms delay from ⌝ }
+pub fn next_asked(
+    pending: &[u32; 32],
+    used: &[u32; 32],
+    chunks: usize,
+    stamps: &[u32],
+    force: bool,
+    ms: u32,
+    delay: u32,
+    from: usize,
+) -> Found
+    requires { ⌜ (chunks ≤ 1024) × (length (now stamps) ≡ 1024) ⌝ }
+    ensures { λ r. ⌜ r ≡ nextIn (now (pending .entry)) (now (used .entry)) chunks (now (stamps .entry)) force ms delay from ⌝ }
 {
-    let chunks = a.chunks;
     let mut at = from;
     while at < chunks {
-        let next = row_scans::next_set_in_row(&a.pending, at, chunks);
+        let next = row_scans::next_set_in_row(pending, at, chunks);
         match next {
             Found::At(j) => {
-                if is_asked(&a.used, stamps, force, ms, delay, j) {
+                if is_asked(used, stamps, force, ms, delay, j) {
                     return Found::At(j);
                 }
                 at = j + 1;

@@ -1,32 +1,16 @@
-// The sweep's work on the arena at an id: whether it is due, which of its chunks the host is asked about, and
-// when the next sweep is. And the stamps, which say since when each chunk is pending: one arena's are a part of
-// the lent slice of all.
+// What a sweep looks for in the arena at an id: which of its chunks the host is asked about, and when the next
+// sweep is. And the stamps, which say since when each chunk is pending: one arena's are a part of the lent slice
+// of all.
 pub mod asks;
 pub mod waits;
 
 ghost use mathlib.Core.Path.{_≡_};
-ghost use mathlib.Core.Bool.{false};
 ghost use Prim.Native.Nat.{_+_, _*_, _<_, _≤_};
 ghost use lib.ListN.{length};
 ghost use Rattle.arena.specs.Releasing.{stampRun};
-ghost use Rattle.arena.specs.Sweeping.{sweepDue, nextAsked, rearm};
 ghost use Rattle.purge.specs.Stamps.{stampsOf};
-use arena::Arena;
+ghost use Rattle.purge.specs.Maps.{nextIn, nextDeadline};
 use runs::Found;
-
-// Whether a sweep works on the arena at all: a deadline is set, and has come or is forced.
-pub fn sweep_due(a: Arena, force: bool, ms: u32) -> bool
-    ensures { λ r. ⌜ r ≡ sweepDue a force ms ⌝ }
-{
-    let due = a.deadline;
-    if due == 0 {
-        return false;
-    }
-    if force {
-        return true;
-    }
-    clock::is_due(due, ms)
-}
 
 // ---- the stamps
 
@@ -57,7 +41,9 @@ pub fn stamp_run_of(stamps: &mut [u32], id: usize, s: usize, n: usize, at: u32)
 
 // The next chunk of the arena `id` to ask about.
 pub fn next_asked_of(
-    a: Arena,
+    pending: &[u32; 32],
+    used: &[u32; 32],
+    chunks: usize,
     stamps: &[u32],
     id: usize,
     force: bool,
@@ -65,20 +51,38 @@ pub fn next_asked_of(
     delay: u32,
     from: usize,
 ) -> Found
-    requires { ⌜ (a .chunks ≤ 1024) × (id < 32) × (length (now stamps) ≡ 32768) ⌝ }
-    ensures { λ r. ⌜ r ≡ nextAsked a (stampsOf (now (stamps .entry)) id) force ms delay from ⌝ }
+    requires { ⌜ (chunks ≤ 1024) × (id < 32) × (length (now stamps) ≡ 32768) ⌝ }
+    ensures { λ r. ⌜ r ≡ nextIn (now (pending .entry)) (now (used .entry)) chunks (stampsOf (now (stamps .entry)) id) force ms delay from ⌝ }
 {
     let lo = 1024 * id;
     let hi = lo + 1024;
-    crate::asks::next_asked(a, &stamps[lo..hi], force, ms, delay, from)
+    crate::asks::next_asked(
+        pending,
+        used,
+        chunks,
+        &stamps[lo..hi],
+        force,
+        ms,
+        delay,
+        from,
+    )
 }
 
-// The arena `id` with its deadline armed anew.
-pub fn rearm_of(a: Arena, stamps: &[u32], id: usize, force: bool, ms: u32, delay: u32) -> Arena
-    requires { ⌜ (a .chunks ≤ 1024) × (id < 32) × (length (now stamps) ≡ 32768) ⌝ }
-    ensures { λ r. ⌜ r ≡ rearm a (stampsOf (now (stamps .entry)) id) force ms delay ⌝ }
+// The deadline of the arena `id` armed anew.
+pub fn next_deadline_of(
+    deadline: u32,
+    pending: &[u32; 32],
+    chunks: usize,
+    stamps: &[u32],
+    id: usize,
+    force: bool,
+    ms: u32,
+    delay: u32,
+) -> u32
+    requires { ⌜ (chunks ≤ 1024) × (id < 32) × (length (now stamps) ≡ 32768) ⌝ }
+    ensures { λ r. ⌜ r ≡ nextDeadline deadline (now (pending .entry)) chunks (stampsOf (now (stamps .entry)) id) force ms delay ⌝ }
 {
     let lo = 1024 * id;
     let hi = lo + 1024;
-    crate::waits::rearm_arena(a, &stamps[lo..hi], force, ms, delay)
+    crate::waits::next_deadline(deadline, pending, chunks, &stamps[lo..hi], force, ms, delay)
 }

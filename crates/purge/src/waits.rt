@@ -3,8 +3,8 @@ ghost use mathlib.Core.Path.{_≡_};
 ghost use mathlib.Core.Bool.{false, cond};
 ghost use Prim.Native.Nat.{_+_, _<_, _≤_};
 ghost use lib.ListN.{length};
-ghost use Rattle.arena.specs.Sweeping.{young, nearer, wait, nextWait, rearm};
-use arena::Arena;
+ghost use Rattle.arena.specs.Sweeping.{young, nearer, wait};
+ghost use Rattle.purge.specs.Maps.{waitIn, nextDeadline};
 use runs::Found;
 
 // The lesser of a number and one that was found.
@@ -30,15 +30,14 @@ fn with_wait(stamps: &[u32], ms: u32, delay: u32, j: usize, best: Found) -> Foun
 }
 
 // The shortest time from now to the deadline of a young pending chunk.
-pub fn next_wait(a: Arena, stamps: &[u32], ms: u32, delay: u32) -> Found
-    requires { ⌜ (a .chunks ≤ 1024) × (length (now stamps) ≡ 1024) ⌝ }
-    ensures { λ r. ⌜ r ≡ nextWait a (now (stamps .entry)) ms delay ⌝ }
+fn next_wait(pending: &[u32; 32], chunks: usize, stamps: &[u32], ms: u32, delay: u32) -> Found
+    requires { ⌜ (chunks ≤ 1024) × (length (now stamps) ≡ 1024) ⌝ }
+    ensures { λ r. ⌜ r ≡ waitIn (now (pending .entry)) chunks (now (stamps .entry)) ms delay ⌝ }
 {
-    let chunks = a.chunks;
     let mut at: usize = 0;
     let mut best = Found::Nothing;
     while at < chunks {
-        let next = row_scans::next_set_in_row(&a.pending, at, chunks);
+        let next = row_scans::next_set_in_row(pending, at, chunks);
         match next {
             Found::At(j) => {
                 best = with_wait(stamps, ms, delay, j, best);
@@ -53,20 +52,24 @@ pub fn next_wait(a: Arena, stamps: &[u32], ms: u32, delay: u32) -> Found
 }
 
 // The deadline armed anew after an unforced sweep, for the pending chunks that were too young.
-pub fn rearm_arena(a: Arena, stamps: &[u32], force: bool, ms: u32, delay: u32) -> Arena
-    requires { ⌜ (a .chunks ≤ 1024) × (length (now stamps) ≡ 1024) ⌝ }
-    ensures { λ r. ⌜ r ≡ rearm a (now (stamps .entry)) force ms delay ⌝ }
+pub fn next_deadline(
+    deadline: u32,
+    pending: &[u32; 32],
+    chunks: usize,
+    stamps: &[u32],
+    force: bool,
+    ms: u32,
+    delay: u32,
+) -> u32
+    requires { ⌜ (chunks ≤ 1024) × (length (now stamps) ≡ 1024) ⌝ }
+    ensures { λ r. ⌜ r ≡ nextDeadline deadline (now (pending .entry)) chunks (now (stamps .entry)) force ms delay ⌝ }
 {
     if force {
-        return a;
+        return deadline;
     }
-    let next = next_wait(a, stamps, ms, delay);
+    let next = next_wait(pending, chunks, stamps, ms, delay);
     match next {
-        Found::At(w) => {
-            let mut b = a;
-            b.deadline = clock::arm(a.deadline, clock::due_at(ms, w as u32));
-            b
-        }
-        Found::Nothing => a,
+        Found::At(w) => clock::arm(deadline, clock::due_at(ms, w as u32)),
+        Found::Nothing => deadline,
     }
 }

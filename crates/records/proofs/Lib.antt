@@ -1,8 +1,6 @@
 pub mod Ends
 mod Leaf
 pub mod Steps
-pub mod Deadline
-pub mod Fields
 pub mod Looks
 pub mod MapFields
 pub mod Callable

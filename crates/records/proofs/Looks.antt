@@ -27,12 +27,13 @@ use contract.Lifetimes.{Lfts}
 use denote.RattleType.{RattleType, Denots, Valss, flat, owns, mirs}
 use denote.Shadow.{pureL, pureI}
 use denote.Memory.{mem, partAt, shares, lone}
-use denote.Ref.{ShrRef}
+use denote.Exit.{yes}
+use denote.Ref.{RefT, ShrRef}
 use denote.Slice.{heres, codedHoleys}
 use denote.Lend.{lends-shr}
 use denote.Index.{place, place-is, others, takes, puts-back, row, looks-slice, shuts-slice}
 use denote.Laws.{Is, Rel, Shows, Tells, Copy, shows}
-use denote.Signature.{Slot, typesAt}
+use denote.Signature.{Slot, plain, shrRef, typesAt}
 use denote.Steps.{facts, heard, nothing, peeks, only as the-one}
 use denote.Struct.Field.{rows}
 use denote.Struct.Values.{Values, intos}
@@ -50,7 +51,14 @@ use borrow.Table.OneValue.{One, part-out, part-in}
 use borrow.Struct.Apart.{apart, part-apart}
 use Rattle.walks.proofs.Walk.{Loan, shared, at-list}
 use Rattle.walks.proofs.Calls.{Site, Con, framed}
-use Rattle.records.proofs.Fields.{shrPart, thin}
+
+-- the signature of the callee
+abbrev pub shrPart : (P S : RattleType) (rest : List (Slot 1)) → Kepts rest → Ended
+shrPart P S rest ks = record { signature = record { lifetimes = 1; outlives = []; params = shrRef 0 tt (λ _. P) ∷ rest; result = plain (λ _. S) }; kept = (yes, ks) }
+
+-- a thin reference
+abbrev pub thin : {X : Type 0} → ℕ → ℕ → GName → X → RefT X
+thin b o γ x = record { ptr = (b, o); name = γ; now = x }
 
 module _ {M : Type 1} (𝓤 : URA M) (H : Heap 𝓤) (A : Atoms 𝓤) (R P : RattleType) (d : ℕ) (get : R .Denot → P .Denot) where
   pub record Look : Type 2 where

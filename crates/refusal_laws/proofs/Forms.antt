@@ -1,6 +1,6 @@
 -- Every outcome of a call is of one of six forms: what holds of each of them holds of the call. Assumes nothing.
 use mathlib.Core.Path.{_≡_, refl, sym, ap, _∙_, subst}
-use mathlib.Core.Bool.{Bool, true, false}
+use mathlib.Core.Bool.{Bool, true, false, not}
 use mathlib.Core.List.{List, [], _∷_}
 use mathlib.Core.Logic.{_⊎_, inl, inr, ⊎-elim}
 use Prim.Native.Nat.{ℕ, zero, suc, _+_, _-_, _*_, _/_, _%_, _<_, _≤_}
@@ -38,16 +38,16 @@ use Rattle.layer.specs.declared.Ask.the-variants.{AskCommit, AskPurge, AskGiveB
 use Rattle.layer.specs.declared.Answer.{Answer}
 use Rattle.layer.specs.declared.Answer.the-variants.{Refused, Asks, Registered, Claimed, Released, Swept, Owns, Area}
 use Rattle.layer.specs.declared.Reply.{Reply}
-use Rattle.layer.specs.World.{World, Outcome, blank, stateOf, worldOf, outcome, after, turnDown, calm}
+use Rattle.layer.specs.World.{World, Outcome, blank, stateOf, worldOf, outcome, after, turnDown, calm, refuse, firstOf}
 use Rattle.layer.specs.Table.{at, badRange, sound}
-use Rattle.layer.specs.Registering.{askMemory, badCount, withRecord, withStamps, register, grows}
+use Rattle.layer.specs.Registering.{askMemory, badCount, withRecord, withStamps, grows}
 use Rattle.layer.specs.Claiming.{searchOf, claimOf}
 use Rattle.layer.specs.Sweeping.{purgeReply, sweptReply, visitAt, visit, sweepFrom}
-use Rattle.layer.specs.Answering.{isFor, counted, failReply, answerCommit, resume, answerMemory, answerTo, answerOf}
-use Rattle.layer.specs.Step.{Call, reserve, manage, adopt, claim, release, sweep, answer, owns, area, sweepOf, gate, stepOn, act, query, rules}
-use Rattle.layer.proofs.Tools.{at-other}
+use Rattle.layer.specs.Answering.{isIdle, isFor, counted, failReply, answerCommit, resume, answerMemory, answerTo, answerOf}
+use Rattle.layer.specs.Step.{Call, reserve, manage, adopt, claim, release, sweep, answer, owns, area, sweepOf, stepOn, act, query, rules}
+use Rattle.layer.proofs.Tools.{at-other, by-not}
 use Rattle.layer.proofs.Rules.{grows-facts}
-use Rattle.layer.proofs.Cases.{grant-cases, search-cases, miss-cases, claim-cases, release-in-cases, release-cases, reserve-cases, register-cases, manage-cases, adopt-cases}
+use Rattle.layer.proofs.Cases.{register, grant-cases, search-cases, miss-cases, claim-cases, release-in-cases, release-cases, reserve-cases, register-cases, manage-cases, adopt-cases}
 use Rattle.layer.proofs.Kept.{take-range}
 use Rattle.refusal_laws.specs.Standing.{headOf, longer, Grown, GoesOn, ArenasStand}
 
@@ -248,7 +248,7 @@ module _ (S : ℕ) (l : List Arena) (stamps : List ℕ) (k : ℕ) (mark : Bool) 
       by-cond P (badRange S l k base (chunks * S)) _ _
       (λ g. subst (λ (x : Question). P (outcome (Refused Range) (worldOf l stamps (stateOf k mark x)))) e (f .as-it-was (Refused Range) refl))
       (λ g. by-cond P (badCount chunks) _ _ (λ h. unusable g Count)
-      (λ h. by-cond P (eqb (base % S) 0) _ _
+      (λ h. by-not P (eqb (base % S) 0) _ _
       (λ i. by-cond P (leb 32 k) _ _ (λ j. unusable g Full) (λ j. resume-forms (answer kind true base) f chunks bytes commit exclusive waiting _ e)) (λ i. unusable g Misaligned)))
     where
       unusable : badRange S l k base (chunks * S) ≡ false → (cause : Unusable) → P (outcome (Asks (AskGiveBack base bytes)) (worldOf l stamps (stateOf k mark (GivingBack cause waiting))))
@@ -256,7 +256,7 @@ module _ (S : ℕ) (l : List Arena) (stamps : List ℕ) (k : ℕ) (mark : Bool) 
 
   answer-forms : (kind : Kind) (granted : Bool) (base : ℕ) → Forms (answer kind granted base) → P (answerOf S l stamps k mark q kind granted base)
   unfolding answerOf
-  answer-forms kind granted base f = by-cond P (isFor q kind) _ _ (λ e. go q refl) (λ e. f .as-it-was _ refl)
+  answer-forms kind granted base f = by-not P (isFor q kind) _ _ (λ e. go q refl) (λ e. f .as-it-was _ refl)
     where
       go : (p : Question) → q ≡ p → P (answerTo S l stamps k mark p granted base)
       go Idle e = down (answer kind granted base) f _
@@ -270,15 +270,8 @@ module _ (S : ℕ) (l : List Arena) (stamps : List ℕ) (k : ℕ) (mark : Bool) 
   -- ---- the calls
 
   -- row 2
-  gate-forms : (c : Call) → Forms c → (go : Outcome) → P go → P (gate q go (after (turnDown QuestionOpen (stateOf k mark q)) l stamps))
-  gate-forms c f go x = at-gate q (f .as-it-was (Refused QuestionOpen) refl)
-    where
-      at-gate : (p : Question) → P (outcome (Refused QuestionOpen) (worldOf l stamps (stateOf k mark q))) → P (gate p go (after (turnDown QuestionOpen (stateOf k mark q)) l stamps))
-      at-gate Idle y = x
-      at-gate (Committing i s n) y = y
-      at-gate (Purging i j w) y = y
-      at-gate (Reserving chunks bytes commit exclusive waiting) y = y
-      at-gate (GivingBack cause waiting) y = y
+  act-forms : (c : Call) → Forms c → (go : Outcome) → P go → P (firstOf (refuse (worldOf l stamps (stateOf k mark q)) QuestionOpen (not (isIdle q)) ∷ []) go)
+  act-forms c f go x = by-not P (isIdle q) _ _ (λ e. x) (λ e. f .as-it-was (Refused QuestionOpen) refl)
 
   claim-forms : (id : ℤ) (n : ℕ) (asks : Bool) (settings : Settings) → Forms (act (claim id n asks)) → P (claimOf S l stamps k mark id n asks settings)
   claim-forms id n asks settings f =
@@ -293,25 +286,25 @@ module _ (S : ℕ) (l : List Arena) (stamps : List ℕ) (k : ℕ) (mark : Bool) 
   module _ (ns : ℕ) (settings : Settings) where
     pub step-on-forms : (c : Call) → Forms c → P (stepOn S l stamps k mark q ns settings c)
     step-on-forms (act (reserve size commit large exclusive)) f =
-        gate-forms _ f _
+        act-forms _ f _
         (reserve-cases S l stamps k mark P size commit large exclusive (settings .page) (down (act (reserve size commit large exclusive)) f _) (f .reserves size (settings .page) commit large exclusive Reserve tt))
     step-on-forms (act (manage start size exclusive node mapped reserved)) f =
-        gate-forms _ f _
+        act-forms _ f _
         (manage-cases S l stamps k mark P start size exclusive node mapped reserved (down (act (manage start size exclusive node mapped reserved)) f _)
         (down (act (manage start size exclusive node mapped reserved)) f _) (down (act (manage start size exclusive node mapped reserved)) f _) (λ g. register-forms (act (manage start size exclusive node mapped reserved)) f _ _))
     step-on-forms (act (adopt address size)) f =
-        gate-forms _ f _
+        act-forms _ f _
         (adopt-cases S l stamps k mark P address size (down (act (adopt address size)) f _) (down (act (adopt address size)) f _) (down (act (adopt address size)) f _)
         (λ i w h g. f .ended _ refl _ stamps k mark (stand-grown l k i (size / S) (owned-grows S (at l i) address (size / S) g) (grows-facts S (at l i) address (size / S) g .0)) (λ x. x)) (λ w. register-forms (act (adopt address size)) f _ _))
-    step-on-forms (act (claim id n asks)) f = gate-forms _ f _ (claim-forms id n asks settings f)
+    step-on-forms (act (claim id n asks)) f = act-forms _ f _ (claim-forms id n asks settings f)
     step-on-forms (act (release address n told pending)) f =
-        gate-forms _ f _
+        act-forms _ f _
         (release-cases S l stamps k mark P n told pending _ _ address (λ e. down c f _) (λ e g. down c f _)
         (λ i e h g. release-in-cases S l stamps k mark P n told pending _ _ i _ (λ x. down c f _) (λ x y. down c f _) (λ x y. f .ended _ refl _ _ k mark (stand-put l k l k i _ (release-head (at l i) _ n told pending _ _) (stand-same l k)) (λ z. z))))
       where
         c : Call
         c = act (release address n told pending)
-    step-on-forms (act (sweep force)) f = gate-forms _ f _ (sweep-forms (act (sweep force)) f (sweepOf force ns settings) k 0 l (stand-same l k))
+    step-on-forms (act (sweep force)) f = act-forms _ f _ (sweep-forms (act (sweep force)) f (sweepOf force ns settings) k 0 l (stand-same l k))
     step-on-forms (answer kind granted base) f = answer-forms kind granted base f
     step-on-forms (query (owns address)) f = f .as-it-was _ refl
     step-on-forms (query (area (pos i))) f =
@@ -322,7 +315,7 @@ pub step-forms : (S : ℕ) (w : World) (ns : ℕ) (settings : Settings) (c : Cal
     → Forms S (w .records) (w .stamps) (w .state .count) (w .state .mark) (w .state .question) P c → P (rules S w ns settings c)
 unfolding rules
 step-forms S w ns settings c P f =
-    by-cond P (sound S w (settings .page)) _ _
+    by-not P (sound S w (settings .page)) _ _
     (λ e. step-on-forms S (w .records) (w .stamps) (w .state .count) (w .state .mark) (w .state .question) P ns settings c f) (λ e. f .as-it-was (Refused Broken) refl)
 
 -- an arena that is registered stands for good

@@ -11,7 +11,6 @@ use lib.IntN.{negsuc}
 use lib.ListN.{length, set}
 use lib.Seq.{set-getD}
 use Rattle.refusals.specs.declared.Refusal.the-variants.{NoRun, CommitRefused}
-use Rattle.words.proofs.Tests.{unless}
 use Rattle.words.proofs.RowLaws.{lt-or-le}
 use Rattle.runs.specs.declared.Found.{Found}
 use Rattle.runs.specs.declared.Found.the-variants.{At, Nothing}
@@ -31,18 +30,17 @@ use Rattle.layer.specs.declared.Waiting.{Waiting}
 use Rattle.layer.specs.declared.Waiting.the-variants.{Reserve, Claim}
 use Rattle.layer.specs.declared.Kind.the-variants.{ForCommit, ForMemory}
 use Rattle.layer.specs.declared.Answer.the-variants.{Refused, Claimed}
-use Rattle.layer.specs.World.{Outcome, blank, stateOf, worldOf, outcome, turnDown, calm}
-use Rattle.layer.specs.Table.{at, isAt, sound}
+use Rattle.layer.specs.World.{Outcome, blank, stateOf, worldOf, outcome, turnDown, calm, Row, firstOf}
+use Rattle.layer.specs.Table.{at, isAt}
 use Rattle.layer.specs.Registering.{askMemory, withRecord, withStamps}
 use Rattle.layer.specs.Claiming.{eligible, serves, asksCommit, grantArena, grantReply, grantFound, searchAt, searchOf}
-use Rattle.layer.specs.Answering.{isFor, answerCommit, answerTo}
+use Rattle.layer.specs.Answering.{isFor, answerCommit, yesRows, answerTo}
 use Rattle.layer.proofs.Tools.{by-set}
 use Rattle.layer.proofs.Facts.{SoundQuestion}
 use Rattle.layer.proofs.Registered.{reserved-rows}
 use Rattle.layer.proofs.Stepped.{sound-facts}
-use Rattle.refusal_laws.specs.Order.{Check, firstOf, yesChecks}
+use Rattle.layer.proofs.Calls.{past-3}
 use Rattle.refusal_laws.specs.Free.{isEmpty, NoneMade, emptyCommit, EmptyCommit, emptyRun, emptyClaim, EmptyClaim}
-use Rattle.refusal_laws.proofs.Order.{Passed, answer-order, yes-order}
 use Rattle.refusal_laws.proofs.Forms.{Waits, step-forms}
 
 -- ---- none is made
@@ -107,9 +105,7 @@ unfolding isFor
 empty-commit S w ns settings i s granted base lent e =
     let f = sound-facts S w (settings .page) (lent .0) (lent .1) .0 in
     let q : SoundQuestion (w .records) (w .state .count) (Committing i s 0) = subst (SoundQuestion (w .records) (w .state .count)) e (f .question) in
-    answer-order S w settings ns ForCommit granted base
-    ∙ unless (not (sound S w (settings .page))) _ _ (ap not (lent .1))
-    ∙ unless (not (isFor (w .state .question) ForCommit)) _ _ (ap (λ (x : Question). not (isFor x ForCommit)) e)
+    past-3 S w ns settings (lent .1) ForCommit (ap (λ (x : Question). isFor x ForCommit) e) granted base
     ∙ ap (λ (x : Question). answerTo S (w .records) (w .stamps) (w .state .count) (w .state .mark) x granted base) e
     ∙ commit-none-answered S (w .records) (w .stamps) (w .state .count) (w .state .mark) (w .state .question) i s granted (lent .0 i (q .0)) (omega (arith, q .1, f .table .each i (q .0) .range .few))
 
@@ -160,8 +156,12 @@ module _ (S : ℕ) (l : List Arena) (stamps : List ℕ) (k : ℕ) (mark : Bool) 
       ap (searchAt S l stamps k mark 0 commits (turnDown NoRun (calm k mark))) (least-same (serves (negsuc 0) 0 l) (λ i. not (isOn (at l i .exclusive))) (serves-none l) 0 k)
       ∙ found commits (least (λ i. not (isOn (at l i .exclusive))) 0 k) (first-says (λ i. not (isOn (at l i .exclusive))) 0 k)
 
--- checks whose way on is the same where none of them holds
-first-same : (cs : List Check) (a b : Outcome) → (Passed cs → a ≡ b) → firstOf cs a ≡ firstOf cs b
+abbrev Passed : List (Row Outcome) → Type 0
+Passed [] = Unit {0}
+Passed (r ∷ rows) = (r .holds ≡ false) × Passed rows
+
+-- rows whose act is the same where none of them holds
+first-same : (cs : List (Row Outcome)) (a b : Outcome) → (Passed cs → a ≡ b) → firstOf cs a ≡ firstOf cs b
 first-same [] a b h = h tt
 first-same (c ∷ cs) a b h = go (c .holds) refl (λ e. first-same cs a b (λ p. h (e, p)))
   where
@@ -173,10 +173,9 @@ pub empty-claim : (S : ℕ) → EmptyClaim S
 unfolding isFor
 empty-claim S w ns settings chunks bytes commit exclusive commits base lent e =
     let f = sound-facts S w (settings .page) (lent .0) (lent .1) .0 in
-    yes-order S w settings ns base chunks bytes commit exclusive (Claim 0 commits) e
-    ∙ unless (not (sound S w (settings .page))) _ _ (ap not (lent .1))
-    ∙ unless (not (isFor (w .state .question) ForMemory)) _ _ (ap (λ (x : Question). not (isFor x ForMemory)) e)
-    ∙ first-same (yesChecks S w settings chunks bytes (Claim 0 commits) base) _ _
+    past-3 S w ns settings (lent .1) ForMemory (ap (λ (x : Question). isFor x ForMemory) e) true base
+    ∙ ap (λ (q : Question). answerTo S (w .records) (w .stamps) (w .state .count) (w .state .mark) q true base) e
+    ∙ first-same (yesRows S (w .records) (w .stamps) (w .state .count) (w .state .mark) chunks bytes commit exclusive (Claim 0 commits) base) _ _
     (λ p. search-none S (withRecord (w .records) (w .state .count) a) (withStamps (w .stamps) (w .state .count)) (suc (w .state .count)) (w .state .mark)
     (rows (omega (arith, f .table .long, leb-false 32 (w .state .count) (p .1 .1 .1 .0)))) commits)
   where

@@ -1,7 +1,7 @@
 -- What each refusal leaves: one theorem over every call, `refusal-leaves`. Assumes nothing.
 use mathlib.Core.Path.{_≡_, refl, sym, subst}
 use mathlib.Core.Bool.{Bool, true, false, not, _&&_}
-use mathlib.Core.List.{List, [], _∷_}
+use mathlib.Core.List.{List}
 use mathlib.Core.Logic.{_⊎_, inl, inr}
 use Prim.Native.Nat.{ℕ, zero, suc, _+_, _-_, _*_, _%_}
 use lib.Dec.{eqb, leb}
@@ -31,13 +31,14 @@ use Rattle.layer.specs.declared.Reply.{Reply}
 use Rattle.layer.specs.World.{World, Outcome, stateOf, worldOf, after, turnDown, calm}
 use Rattle.layer.specs.Table.{at, badRange, sound}
 use Rattle.layer.specs.Registering.{tooLarge, askMemory, badCount, withRecord, withStamps}
-use Rattle.layer.specs.Claiming.{serves, asksCommit, grantArena, grantReply, isNegative, missReply, grantFound, searchAt, searchOf}
+use Rattle.layer.specs.Claiming.{serves, asksCommit, grantArena, grantReply, isNegative, missReply, grantFound, searchAt, searchOf, claimOf}
 use Rattle.layer.specs.Sweeping.{purgeReply, sweptReply, visitAt, visit, sweepFrom}
-use Rattle.layer.specs.Answering.{causeRefusal, counted, failReply, answerCommit, answerPurge, resume, answerMemory, answerTo}
-use Rattle.layer.specs.Step.{Call, reserve, manage, adopt, claim, release, sweep, answer, owns, area, sweepOf, act, query, rules}
+use Rattle.layer.specs.Answering.{causeRefusal, counted, failReply, answerCommit, answerPurge, resume, answerMemory, isFor, answerTo, answerOf}
+use Rattle.layer.specs.Step.{Act, Call, reserve, manage, adopt, claim, release, sweep, answer, owns, area, sweepOf, act, actOn, query, rules}
+use Rattle.layer.proofs.Tools.{by-not}
+use Rattle.layer.proofs.Cases.{register, claim-cases, release-in-cases, release-cases, reserve-cases, register-cases, manage-cases, adopt-cases}
+use Rattle.layer.proofs.Calls.{calm-world, act-cases}
 use Rattle.refusal_laws.proofs.Answers.{same-refusal, asks-not, registered-not, claimed-not, released-not, swept-not}
-use Rattle.refusal_laws.proofs.Order.{first-each, idle-of, claim-order, release-order, adopt-order, manage-order, reserve-order, sweep-order, answer-order}
-use Rattle.refusal_laws.specs.Order.{broken, questionOpen, noSuchQuestion, claimChecks, releaseChecks, adoptChecks, manageChecks, reserveChecks}
 use Rattle.refusal_laws.specs.Left.{closed, markSet, LeftByAnswer, LeftBy}
 
 -- an outcome that is a refusal leaves what document 01 says
@@ -129,7 +130,7 @@ module _ (S : ℕ) (l : List Arena) (stamps : List ℕ) (k : ℕ) (mark : Bool) 
   memory-says chunks bytes commit exclusive waiting true =
       by-cond P (badRange S l k base (chunks * S)) _ _ (λ e why f. line _ base _ Range why refl f)
       (λ e. by-cond P (badCount chunks) _ _ (λ f why g. absurd (asks-not _ why g))
-      (λ f. by-cond P (eqb (base % S) 0) _ _
+      (λ f. by-not P (eqb (base % S) 0) _ _
       (λ g. by-cond P (leb 32 k) _ _ (λ h why i. absurd (asks-not _ why i)) (λ h. resume-says chunks bytes commit exclusive waiting))
       (λ g why h. absurd (asks-not _ why h))))
     where
@@ -157,12 +158,14 @@ Untouched w o = (why : Refusal) → o .answer ≡ Refused why → o .world ≡ w
 abbrev pub Marked : World → Outcome → Type 0
 Marked w o = (why : Refusal) → o .answer ≡ Refused why → (o .world ≡ w) ⊎ ((why ≡ NoRun) × (o .world ≡ markSet w))
 
--- a row, and a row of a claim
-same : (w : World) (x why : Refusal) → Refused x ≡ Refused why → w ≡ w
-same w x why e = refl
-
-kept : (w : World) (x why : Refusal) → Refused x ≡ Refused why → (w ≡ w) ⊎ ((why ≡ NoRun) × (w ≡ markSet w))
-kept w x why e = inl refl
+-- every act but a claim
+abbrev Unclaiming : Act → Type 0
+Unclaiming (reserve size commit large exclusive) = Unit {0}
+Unclaiming (manage start size exclusive node mapped reserved) = Unit {0}
+Unclaiming (adopt address size) = Unit {0}
+Unclaiming (claim id n commits) = ⊥
+Unclaiming (release address n told pending) = Unit {0}
+Unclaiming (sweep force) = Unit {0}
 
 -- a miss, where no question is open
 miss-leaves : (S : ℕ) (l : List Arena) (stamps : List ℕ) (k : ℕ) (mark : Bool) (id : ℤ) (n : ℕ) (commits : Bool) (settings : Settings)
@@ -176,42 +179,58 @@ miss-leaves S l stamps k mark id n commits settings =
     M : Reply → Type 0
     M r = Marked (worldOf l stamps (calm k mark)) (after r l stamps)
 
-claim-leaves : (S : ℕ) (l : List Arena) (stamps : List ℕ) (k : ℕ) (mark : Bool) (q : Question) (id : ℤ) (n : ℕ) (commits : Bool) (settings : Settings) → q ≡ Idle
-    → Marked (worldOf l stamps (stateOf k mark q)) (searchOf S l stamps k mark id n commits (missReply S k mark id n commits settings))
-claim-leaves S l stamps k mark q id n commits settings e =
-    subst (λ (x : Question). Marked (worldOf l stamps (stateOf k mark x)) (searchOf S l stamps k mark id n commits (missReply S k mark id n commits settings))) (sym e)
-    (search-leaves S l stamps k mark (λ why v. (v ≡ worldOf l stamps (calm k mark)) ⊎ ((why ≡ NoRun) × (v ≡ worldOf l stamps (calm k true)))) id n commits
+claim-leaves : (S : ℕ) (l : List Arena) (stamps : List ℕ) (k : ℕ) (mark : Bool) (id : ℤ) (n : ℕ) (commits : Bool) (settings : Settings)
+    → Marked (worldOf l stamps (calm k mark)) (claimOf S l stamps k mark id n commits settings)
+claim-leaves S l stamps k mark id n commits settings =
+    claim-cases S l stamps k mark (Marked (worldOf l stamps (calm k mark))) id n commits settings (λ e why f. inl refl) (λ e f why g. inl refl)
+    (λ e f. search-leaves S l stamps k mark (λ why v. (v ≡ worldOf l stamps (calm k mark)) ⊎ ((why ≡ NoRun) × (v ≡ worldOf l stamps (calm k true)))) id n commits
     (missReply S k mark id n commits settings) (inl refl) (miss-leaves S l stamps k mark id n commits settings))
+
+-- the calls that register and release, where no question is open
+module _ (S : ℕ) (l : List Arena) (stamps : List ℕ) (k : ℕ) (mark : Bool) where
+  abbrev U : Outcome → Type 0
+  U = Untouched (worldOf l stamps (calm k mark))
+
+  register-leaves : (chunks : ℕ) (a : Arena) → U (register l stamps k mark chunks a)
+  register-leaves chunks a = register-cases S l stamps k mark U chunks a (λ why e. refl) (λ why e. refl) (λ e f why g. absurd (registered-not _ why g))
+
+  act-leaves : (q : Question) (ns : ℕ) (settings : Settings) (a : Act) → Unclaiming a → U (actOn S l stamps k mark q ns settings a)
+  unfolding askMemory
+  act-leaves q ns settings (reserve size commit large exclusive) h =
+      reserve-cases S l stamps k mark U size commit large exclusive (settings .page) (λ why e. refl) (λ why e. absurd (asks-not _ why e))
+  act-leaves q ns settings (manage start size exclusive node mapped reserved) h =
+      manage-cases S l stamps k mark U start size exclusive node mapped reserved (λ why e. refl) (λ why e. refl) (λ why e. refl) (λ e. register-leaves _ _)
+  act-leaves q ns settings (adopt address size) h =
+      adopt-cases S l stamps k mark U address size (λ why e. refl) (λ why e. refl) (λ why e. refl) (λ i w u e why f. absurd (registered-not _ why f)) (λ w. register-leaves _ _)
+  act-leaves q ns settings (claim id n commits) h = absurd h
+  act-leaves q ns settings (release address n told pending) h =
+      release-cases S l stamps k mark U n told pending _ _ address (λ e why f. refl) (λ e f why g. refl)
+      (λ i e u f. release-in-cases S l stamps k mark U n told pending _ _ i _ (λ g why x. refl) (λ g v why x. refl) (λ g v why x. absurd (released-not why x)))
+  act-leaves q ns settings (sweep force) h = λ why e. absurd (sweep-grants S stamps k mark (sweepOf force ns settings) k 0 l why e)
+
+unclaiming : (S : ℕ) (w : World) (ns : ℕ) (settings : Settings) (a : Act) → Unclaiming a → Untouched w (rules S w ns settings (act a))
+unclaiming S w ns settings a h =
+    act-cases S w ns settings (Untouched w) (λ why x e. refl) a
+    (λ e idle. subst (λ (v : World). Untouched v (actOn S (w .records) (w .stamps) (w .state .count) (w .state .mark) (w .state .question) ns settings a)) (calm-world w idle)
+    (act-leaves S (w .records) (w .stamps) (w .state .count) (w .state .mark) (w .state .question) ns settings a h))
 
 -- "Each refusal leaves all state and lent memory untouched, but [..]": of every call, on every lent table
 pub refusal-leaves : (S : ℕ) (w : World) (ns : ℕ) (settings : Settings) (c : Call) (why : Refusal) → rules S w ns settings c .answer ≡ Refused why
     → LeftBy w c why (rules S w ns settings c .world)
-unfolding rules askMemory
-refusal-leaves S w ns settings (act (reserve size commit large exclusive)) =
-    subst (Untouched w) (sym (reserve-order S w settings ns size commit large exclusive))
-    (first-each (Untouched w) (broken S w settings ∷ questionOpen S w settings ∷ reserveChecks S w settings size) _ (same w _, (same w _, (same w _, tt))) (λ p why e. absurd (asks-not _ why e)))
-refusal-leaves S w ns settings (act (manage start size exclusive node mapped reserved)) =
-    subst (Untouched w) (sym (manage-order S w settings ns start size exclusive node mapped reserved))
-    (first-each (Untouched w) (broken S w settings ∷ questionOpen S w settings ∷ manageChecks S w settings start size mapped reserved) _ (same w _, (same w _, (same w _, (same w _, (same w _, (same w _, (same w _, tt))))))) (λ p why e. absurd (registered-not _ why e)))
-refusal-leaves S w ns settings (act (adopt address size)) =
-    subst (Untouched w) (sym (adopt-order S w settings ns address size))
-    (first-each (Untouched w) (broken S w settings ∷ questionOpen S w settings ∷ adoptChecks S w settings address size) _
-    (same w _, (same w _, (same w _, (same w _, (same w _, ((λ why e. absurd (registered-not _ why e)), (same w _, (same w _, tt))))))))
-    (λ p why e. absurd (registered-not _ why e)))
+unfolding rules
+refusal-leaves S w ns settings (act (reserve size commit large exclusive)) = unclaiming S w ns settings (reserve size commit large exclusive) tt
+refusal-leaves S w ns settings (act (manage start size exclusive node mapped reserved)) = unclaiming S w ns settings (manage start size exclusive node mapped reserved) tt
+refusal-leaves S w ns settings (act (adopt address size)) = unclaiming S w ns settings (adopt address size) tt
 refusal-leaves S w ns settings (act (claim id n commits)) =
-    subst (Marked w) (sym (claim-order S w settings ns id n commits))
-    (first-each (Marked w) (broken S w settings ∷ questionOpen S w settings ∷ claimChecks S w settings id n) _ (kept w _, (kept w _, (kept w _, (kept w _, tt))))
-    (λ p. claim-leaves S (w .records) (w .stamps) (w .state .count) (w .state .mark) (w .state .question) id n commits settings (idle-of (w .state .question) (p .1 .0))))
-refusal-leaves S w ns settings (act (release address n told pending)) =
-    subst (Untouched w) (sym (release-order S w settings ns address n told pending))
-    (first-each (Untouched w) (broken S w settings ∷ questionOpen S w settings ∷ releaseChecks S w settings address n) _ (same w _, (same w _, (same w _, (same w _, (same w _, (same w _, tt)))))) (λ p why e. absurd (released-not why e)))
-refusal-leaves S w ns settings (act (sweep force)) =
-    subst (Untouched w) (sym (sweep-order S w settings ns force))
-    (first-each (Untouched w) (broken S w settings ∷ questionOpen S w settings ∷ []) _ (same w _, (same w _, tt))
-    (λ p why e. absurd (sweep-grants S (w .stamps) (w .state .count) (w .state .mark) (sweepOf force ns settings) (w .state .count) 0 (w .records) why e)))
+    act-cases S w ns settings (Marked w) (λ why x e. inl refl) (claim id n commits)
+    (λ e idle. subst (λ (v : World). Marked v (claimOf S (w .records) (w .stamps) (w .state .count) (w .state .mark) id n commits settings)) (calm-world w idle)
+    (claim-leaves S (w .records) (w .stamps) (w .state .count) (w .state .mark) id n commits settings))
+refusal-leaves S w ns settings (act (release address n told pending)) = unclaiming S w ns settings (release address n told pending) tt
+refusal-leaves S w ns settings (act (sweep force)) = unclaiming S w ns settings (sweep force) tt
 refusal-leaves S w ns settings (answer kind granted base) =
-    subst (Says w base) (sym (answer-order S w settings ns kind granted base))
-    (first-each (Says w base) (broken S w settings ∷ noSuchQuestion S w settings kind ∷ []) _ ((λ why e. line w base w Broken why refl e), ((λ why e. line w base w NoSuchQuestion why refl e), tt))
-    (λ p. answer-to-says S (w .records) (w .stamps) (w .state .count) (w .state .mark) base (w .state .question) granted))
-refusal-leaves S w ns settings (query (owns address)) = by-cond (Untouched w) (sound S w (settings .page)) _ _ (λ e why f. refl) (λ e why f. refl)
-refusal-leaves S w ns settings (query (area id)) = by-cond (Untouched w) (sound S w (settings .page)) _ _ (λ e why f. refl) (λ e why f. refl)
+    by-not (Says w base) (sound S w (settings .page)) _ _
+    (λ e. unfold answerOf in by-not (Says w base) (isFor (w .state .question) kind) _ _
+    (λ f. answer-to-says S (w .records) (w .stamps) (w .state .count) (w .state .mark) base (w .state .question) granted) (λ f why g. line w base w NoSuchQuestion why refl g))
+    (λ e why f. line w base w Broken why refl f)
+refusal-leaves S w ns settings (query (owns address)) = by-not (Untouched w) (sound S w (settings .page)) _ _ (λ e why f. refl) (λ e why f. refl)
+refusal-leaves S w ns settings (query (area id)) = by-not (Untouched w) (sound S w (settings .page)) _ _ (λ e why f. refl) (λ e why f. refl)

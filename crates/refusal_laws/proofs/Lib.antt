@@ -1,5 +1,4 @@
 pub mod Answers
-pub mod Order
 pub mod Left
 pub mod Restored
 pub mod Forms

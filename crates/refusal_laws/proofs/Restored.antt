@@ -1,6 +1,6 @@
 -- "11 restores the used bits": a grant whose commit is answered no leaves the world as it was before the grant. "11 [may leave] a new arena": the one that
 -- the grant's search was made in. Assumes nothing.
-use mathlib.Core.Path.{_≡_, refl, sym, ap, _∙_, subst}
+use mathlib.Core.Path.{_≡_, refl, ap, _∙_, subst}
 use mathlib.Core.Bool.{Bool, true, false, not, _&&_}
 use mathlib.Core.List.{List, [], _∷_}
 use mathlib.Core.Logic.{⊎-elim}
@@ -13,7 +13,7 @@ use lib.ListN.{length, set, length-set}
 use lib.Seq.{set-getD}
 use Rattle.refusals.specs.declared.Refusal.{Refusal}
 use Rattle.refusals.specs.declared.Refusal.the-variants.{NoRun, CommitRefused}
-use Rattle.words.proofs.Tests.{when, by-cond}
+use Rattle.words.proofs.Tests.{unless, by-cond}
 use Rattle.words.proofs.RowLaws.{lt-or-le}
 use Rattle.runs.specs.declared.Found.{Found}
 use Rattle.runs.specs.declared.Found.the-variants.{At, Nothing}
@@ -37,16 +37,16 @@ use Rattle.layer.specs.declared.Reply.{Reply}
 use Rattle.layer.specs.World.{World, Outcome, blank, stateOf, worldOf, outcome, after, turnDown, calm}
 use Rattle.layer.specs.Table.{at, badRange, sound}
 use Rattle.layer.specs.Registering.{tooLarge, askMemory, badCount, withRecord, withStamps}
-use Rattle.layer.specs.Claiming.{serves, asksCommit, grantArena, grantReply, missReply, isNegative, grantFound, searchAt, searchOf}
+use Rattle.layer.specs.Claiming.{serves, asksCommit, grantArena, grantReply, missReply, isNegative, grantFound, searchAt, searchOf, claimOf}
 use Rattle.layer.specs.Answering.{isFor, resume, answerOf}
 use Rattle.layer.specs.Step.{claim, answer, act, rules}
-use Rattle.layer.proofs.Tools.{or-false, at-same, by-set}
+use Rattle.layer.proofs.Tools.{or-false, at-same, by-set, by-not}
+use Rattle.layer.proofs.Cases.{claim-cases}
+use Rattle.layer.proofs.Calls.{calm-world, act-cases}
 use Rattle.layer.proofs.Registered.{reserved-rows}
 use Rattle.layer.proofs.Stepped.{Words, sound-facts, step-sound}
 use Rattle.refusal_laws.specs.Left.{Reserved}
-use Rattle.refusal_laws.specs.Order.{broken, questionOpen, claimChecks}
 use Rattle.refusal_laws.proofs.Answers.{refused-no-commit, registered-no-commit, claimed-no-commit, memory-no-commit, give-back-no-commit}
-use Rattle.refusal_laws.proofs.Order.{first-each, idle-of, claim-order}
 
 -- ---- the record as it was
 
@@ -69,7 +69,7 @@ module _ (S : ℕ) (later : ℕ) (others : Settings) (base : ℕ) where
       → rules S (worldOf l stamps (stateOf k mark (Committing i s n))) later others (answer ForCommit false base)
       ≡ outcome (Refused CommitRefused) (worldOf (set l i (giveBackRun (at l i) s n)) stamps (calm k mark))
   unfolding rules answerOf isFor
-  no-step l stamps k mark i s n e = when (sound S (worldOf l stamps (stateOf k mark (Committing i s n))) (others .page)) _ _ e
+  no-step l stamps k mark i s n e = unless (not (sound S (worldOf l stamps (stateOf k mark (Committing i s n))) (others .page))) _ _ (ap not e)
 
   -- the outcome that asks for a commit is undone by a no: the world v is left
   abbrev Undone : World → Outcome → Type 0
@@ -103,13 +103,15 @@ module _ (S : ℕ) (later : ℕ) (others : Settings) (base : ℕ) where
         go Nothing h = m
 
     claim-undone : (id : ℤ) (n : ℕ) (commits : Bool) (settings : Settings)
-        → Undone (worldOf l stamps (calm k mark)) (searchOf S l stamps k mark id n commits (missReply S k mark id n commits settings))
+        → Undone (worldOf l stamps (calm k mark)) (claimOf S l stamps k mark id n commits settings)
     unfolding missReply askMemory
     claim-undone id n commits settings =
-        search-undone id n commits (missReply S k mark id n commits settings)
+        claim-cases S l stamps k mark (Undone (worldOf l stamps (calm k mark))) id n commits settings (λ e address bytes g t. refused-no-commit _ address bytes g)
+        (λ e f address bytes g t. refused-no-commit _ address bytes g)
+        (λ e f. search-undone id n commits (missReply S k mark id n commits settings)
         (by-cond U (isNegative id && (leb S (settings .reserve) && not mark)) _ _
         (λ g. by-cond U (tooLarge S (settings .reserve)) _ _ (λ h address bytes i t. refused-no-commit _ address bytes i) (λ h address bytes i t. memory-no-commit _ _ _ _ address bytes i))
-        (λ g address bytes h t. refused-no-commit _ address bytes h))
+        (λ g address bytes h t. refused-no-commit _ address bytes h)))
       where
         U : Reply → Type 0
         U r = Undone (worldOf l stamps (calm k mark)) (after r l stamps)
@@ -120,11 +122,9 @@ pub claim-then-no : (S : ℕ) → 0 < S → (w : World) (ns later : ℕ) (settin
     → rules S (rules S w ns settings (act (claim id n commits)) .world) later others (answer ForCommit false base) ≡ outcome (Refused CommitRefused) w
 claim-then-no S pos w ns later settings others id n commits address bytes base words e p asked =
     let f = sound-facts S w (settings .page) words e .0 in
-    subst (U w) (sym (claim-order S w settings ns id n commits))
-    (first-each (U w) (broken S w settings ∷ questionOpen S w settings ∷ claimChecks S w settings id n) _ (turned _, (turned _, (turned _, (turned _, tt))))
-    (λ h. subst (λ (q : Question). U (worldOf (w .records) (w .stamps) (stateOf (w .state .count) (w .state .mark) q)) (searchOf S (w .records) (w .stamps) (w .state .count) (w .state .mark) id n commits (missReply S (w .state .count) (w .state .mark) id n commits settings)))
-    (sym (idle-of (w .state .question) (h .1 .0)))
-    (claim-undone S later others base (w .records) (w .stamps) (w .state .count) (w .state .mark) (f .table .long) (f .table .few) (λ i u. (f .table .rows i u, f .table .each i u .range .few)) id n commits settings)))
+    act-cases S w ns settings (U w) turned (claim id n commits)
+    (λ g idle. subst (λ (v : World). U v (claimOf S (w .records) (w .stamps) (w .state .count) (w .state .mark) id n commits settings)) (calm-world w idle)
+    (claim-undone S later others base (w .records) (w .stamps) (w .state .count) (w .state .mark) (f .table .long) (f .table .few) (λ i u. (f .table .rows i u, f .table .each i u .range .few)) id n commits settings))
     address bytes asked (step-sound S pos w ns settings (act (claim id n commits)) words e (others .page) p .0)
   where
     U : World → Outcome → Type 0
@@ -173,7 +173,7 @@ module _ (S : ℕ) (later : ℕ) (others : Settings) (base : ℕ) (l : List Aren
   memory-stays (Reserving chunks bytes commit exclusive waiting) =
       by-cond Q (badRange S l k place (chunks * S)) _ _ (λ e a b f t. refused-no-commit _ a b f)
       (λ e. by-cond Q (badCount chunks) _ _ (λ f a b g t. give-back-no-commit _ _ a b g)
-      (λ f. by-cond Q (eqb (place % S) 0) _ _
+      (λ f. by-not Q (eqb (place % S) 0) _ _
       (λ g. by-cond Q (leb 32 k) _ _ (λ h a b i t. give-back-no-commit _ _ a b i)
       (λ h. resume-stays chunks bytes commit exclusive waiting (leb-false 32 k h) (ltb-false 1024 chunks (or-false (eqb chunks 0) _ f .1))))
       (λ g a b h t. give-back-no-commit _ _ a b h)))
@@ -189,7 +189,7 @@ pub yes-then-no : (S : ℕ) → 0 < S → (w : World) (ns later : ℕ) (settings
 unfolding rules
 yes-then-no S pos w ns later settings others place address bytes base words e p asked =
     let f = sound-facts S w (settings .page) words e .0 in
-    by-cond Q (sound S w (settings .page)) _ _
+    by-not Q (sound S w (settings .page)) _ _
     (λ g. memory-stays S later others base (w .records) (w .stamps) (w .state .count) (w .state .mark) place (f .table .long) (f .table .few) (λ i u. (f .table .rows i u, f .table .each i u .range .few)) (w .state .question))
     (λ g a b h t. refused-no-commit _ a b h)
     address bytes asked (step-sound S pos w ns settings (answer ForMemory true place) words e (others .page) p .0)

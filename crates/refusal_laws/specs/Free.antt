@@ -17,11 +17,11 @@ use Rattle.layer.specs.declared.Question.the-variants.{Idle, Committing, Purgin
 use Rattle.layer.specs.declared.Waiting.the-variants.{Reserve, Claim}
 use Rattle.layer.specs.declared.Kind.the-variants.{ForCommit, ForMemory}
 use Rattle.layer.specs.declared.Answer.the-variants.{Refused, Claimed}
-use Rattle.layer.specs.World.{World, Outcome, outcome}
+use Rattle.layer.specs.World.{World, Outcome, outcome, firstOf}
 use Rattle.layer.specs.Table.{at, sound}
+use Rattle.layer.specs.Answering.{yesRows}
 use Rattle.layer.specs.Step.{Call, answer, rules}
 use Rattle.refusal_laws.specs.Left.{closed, withArena}
-use Rattle.refusal_laws.specs.Order.{firstOf, yesChecks}
 
 -- an open commit question of no chunk, or a memory question for which a claim of no chunk waits
 abbrev pub isEmpty : Question → Bool
@@ -52,7 +52,7 @@ EmptyCommit S =
     (w : World) (ns : ℕ) (settings : Settings) (i s : ℕ) (granted : Bool) (base : ℕ) → Lent S w settings → w .state .question ≡ Committing i s 0
     → rules S w ns settings (answer ForCommit granted base) ≡ emptyCommit S w i s granted
 
--- The claim of no chunk that waits for memory. A no is answered as to every claim: 10, and the mark (`Left`). A yes goes through the same checks as
+-- The claim of no chunk that waits for memory. A no is answered as to every claim: 10, and the mark (`Left`). A yes goes through the same rows as
 -- for every claim; where the memory is registered, the claim is granted the empty run at the base of the lowest arena that is not exclusive, fresh
 -- and committed, or refused with 10 if there is none. The new arena stands, and nothing else changes.
 abbrev pub emptyRun : World → Found → Outcome
@@ -67,4 +67,5 @@ EmptyClaim S =
     (w : World) (ns : ℕ) (settings : Settings) (chunks bytes : ℕ) (commit exclusive commits : Bool) (base : ℕ) → Lent S w settings
     → w .state .question ≡ Reserving chunks bytes commit exclusive (Claim 0 commits)
     → rules S w ns settings (answer ForMemory true base)
-    ≡ firstOf (yesChecks S w settings chunks bytes (Claim 0 commits) base) (emptyClaim (withArena w (reservedArena base chunks commit exclusive)))
+    ≡ firstOf (yesRows S (w .records) (w .stamps) (w .state .count) (w .state .mark) chunks bytes commit exclusive (Claim 0 commits) base)
+    (emptyClaim (withArena w (reservedArena base chunks commit exclusive)))

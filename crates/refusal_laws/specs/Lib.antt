@@ -1,5 +1,4 @@
 pub mod Left
-pub mod Order
 pub mod Mark
 pub mod Free
 pub mod Standing

@@ -1,5 +1,10 @@
-pub mod Around
-pub mod ReserveStep
-pub mod ManageStep
-pub mod AdoptStep
+pub mod TestLaws
+pub mod CountLaws
+pub mod RangeLaws
+pub mod ReserveLaws
+pub mod WholeLaws
+pub mod RegisterLaws
+pub mod ManageLaws
+pub mod AdoptLaws
+pub mod EntryLaws
 pub mod Callable

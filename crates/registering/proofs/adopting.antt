@@ -1,1 +1,1 @@
-pub mod AdoptLaws
+pub mod Callable

@@ -1,1 +1,1 @@
-pub mod ManageLaws
+pub mod Callable

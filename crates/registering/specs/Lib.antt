@@ -1,3 +1,1 @@
-pub mod Reserving
-pub mod Managing
-pub mod Adopting
+pub mod New

@@ -1,22 +1,29 @@
-// Adopting by value: what an adopt answers, and which record it writes where. Scans of the lent records say
-// whether the block meets an arena, and which arena grows.
+// Adopting: a block of the allocator's own becomes an arena, or part of the one that ends at it.
 ghost use mathlib.Core.Path.{_≡_};
-ghost use Prim.Native.Nat.{ℕ, _+_, _/_, _<_, _≤_};
-ghost use Rattle.runs.specs.declared.Found.the-variants.{At, Nothing};
-ghost use Rattle.arena.specs.Registering.{adoptedArena};
-ghost use Rattle.registering.specs.Adopting.{adoptPasses, adoptCount, adoptReply, adoptAnswer, adoptTarget, adoptId, isWhole, adoptOwn, adoptArena, adoptStamped};
+ghost use mathlib.Core.Bool.{_&&_};
+ghost use Prim.Native.Nat.{_+_, _%_, _<_, _≤_};
+ghost use lib.Dec.{eqb};
+ghost use lib.ListN.{length, set};
+ghost use Rattle.arena.specs.ChunkSize.{ChunkSize};
+ghost use Rattle.arena.specs.Registering.{adoptedArena, grownArena};
+ghost use Rattle.layer.specs.declared.Answer.the-variants.{Registered};
+ghost use Rattle.layer.specs.World.{sizeOf, reply, Leaves, calm};
+ghost use Rattle.layer.specs.Table.{at};
+ghost use Rattle.layer.specs.Registering.{adoptOf};
+ghost use Rattle.state.specs.Ready.{Ready, Stamped};
+ghost use Rattle.registering.specs.New.{newArena};
 use arena::Arena;
 use layer::Answer;
 use layer::Reply;
 use layer::State;
 use refusals::Refusal;
-use registers::Registering;
-use runs::Found;
 
-// Row 7 turned round: address and size are whole.
+// ---- rows 4 and 7
+
+// Whether address and size are whole chunks.
 fn is_whole(address: u64, size: u64, chunk_size: u64) -> bool
-    requires { ⌜ (0 < «chunk_size») × («chunk_size» ≤ 4294967296) ⌝ }
-    ensures { λ r. ⌜ r ≡ isWhole «chunk_size» address size ⌝ }
+    requires { ⌜ ChunkSize «chunk_size» ⌝ }
+    ensures { λ r. ⌜ r ≡ (eqb (address % «chunk_size») 0 && eqb (size % «chunk_size») 0) ⌝ }
 {
     if address % chunk_size != 0 {
         return false;
@@ -24,164 +31,80 @@ fn is_whole(address: u64, size: u64, chunk_size: u64) -> bool
     size % chunk_size == 0
 }
 
-// Whether an adopt gets past 4 and 7.
-fn adopt_passes(ok: bool, state: State, address: u64, size: u64, chunk_size: u64) -> bool
-    requires { ⌜ (0 < «chunk_size») × («chunk_size» ≤ 4294967296) ⌝ }
-    ensures { λ r. ⌜ r ≡ adoptPasses «chunk_size» ok state address size ⌝ }
+// ---- growth
+
+// The id of an arena that stands already.
+fn grown(state: State, i: usize) -> Reply
+    ensures { λ r. ⌜ r ≡ reply (Registered i) (calm (state .count) (state .mark)) ⌝ }
 {
-    if !ok {
-        return false;
-    }
-    let q = state.question;
-    if !registers::is_idle(q) {
-        return false;
-    }
-    if size == 0 {
-        return false;
-    }
-    is_whole(address, size, chunk_size)
+    state::settled(Answer::Registered(i), state.count, state.mark)
 }
 
-// How many records the scans for overlaps and for growth look at.
-pub fn adopt_count(ok: bool, state: State, address: u64, size: u64, chunk_size: u64) -> usize
-    requires { ⌜ (0 < «chunk_size») × («chunk_size» ≤ 4294967296) ⌝ }
-    ensures { λ r. ⌜ r ≡ adoptCount «chunk_size» ok state address size ⌝ }
+// Arena i has n chunks more.
+fn grow_at(records: &mut [Arena], state: State, i: usize, n: u64) -> Reply
+    requires { ⌜ (i < length (now records)) × (at (now records) i .chunks + n ≤ 1024) ⌝ }
+    ensures { λ r. ⌜ (r ≡ reply (Registered i) (calm (state .count) (state .mark))) × (now (records .exit) ≡ set (now (records .entry)) i (grownArena (at (now (records .entry)) i) n)) ⌝ }
 {
-    if adopt_passes(ok, state, address, size, chunk_size) {
-        return state.count;
-    }
-    0
+    let more = crate::counts::as_recorded(n);
+    let a = records::load(records, i);
+    let longer = arena::grow(a, more);
+    records::store(records, i, longer);
+    grown(state, i)
 }
 
-// The arena that grows, or a registering.
-fn adopt_reply(state: State, size: u64, growing: Found, chunk_size: u64) -> Reply
-    requires { ⌜ (0 < «chunk_size») × («chunk_size» ≤ 4294967296) ⌝ }
-    ensures { λ r. ⌜ r ≡ adoptReply «chunk_size» state size growing ⌝ }
-{
-    match growing {
-        Found::At(i) => {
-            let left = registers::calm(state.count, state.mark);
-            Reply {
-                answer: Answer::Registered(i),
-                state: left,
-            }
-        }
-        Found::Nothing => registers::register_reply(state.count, state.mark, size / chunk_size),
-    }
-}
+// ---- the core
 
-// What an adopt answers where no question is open: 4, 7, 6, growth, then the registering.
-fn adopt_own(
+// 12, 13, then the new arena of so many chunks from the address on.
+fn adopt_new(
+    records: &mut [Arena],
+    stamps: &mut [u32],
     state: State,
     address: u64,
-    size: u64,
-    met: Found,
-    growing: Found,
-    chunk_size: u64,
+    chunks: u64,
 ) -> Reply
-    requires { ⌜ (0 < «chunk_size») × («chunk_size» ≤ 4294967296) ⌝ }
-    ensures { λ r. ⌜ r ≡ adoptOwn «chunk_size» state address size met growing ⌝ }
+    requires { ⌜ Ready (now records) state × Stamped (now stamps) ⌝ }
+    ensures { λ r. ⌜ Leaves (newArena (now (records .entry)) (now (stamps .entry)) (state .count) (state .mark) chunks (adoptedArena address chunks)) r (now (records .exit)) (now (stamps .exit)) ⌝ }
+{
+    if crate::counts::has_bad_count(chunks) {
+        return state::refuse(Refusal::ChunkCount, state);
+    }
+    let k = state.count;
+    if crate::counts::is_full(k) {
+        return state::refuse(Refusal::TableFull, state);
+    }
+    let n = crate::counts::as_recorded(chunks);
+    let a = arena::adopted_arena(address, n);
+    crate::writing::write_new(records, stamps, k, a);
+    crate::writing::registered(state)
+}
+
+// An adopt, on a table that rows 1 and 2 let pass: 4, 7, 6, growth, 12, 13, then the new arena.
+pub fn adopt(
+    records: &mut [Arena],
+    stamps: &mut [u32],
+    state: State,
+    address: u64,
+    size: u64,
+) -> Reply
+    requires { ⌜ Ready (now records) state × Stamped (now stamps) ⌝ }
+    ensures { λ r. ⌜ Leaves (adoptOf (sizeOf state) (now (records .entry)) (now (stamps .entry)) (state .count) (state .mark) address size) r (now (records .exit)) (now (stamps .exit)) ⌝ }
 {
     if size == 0 {
-        return registers::turn_down(Refusal::Zero, registers::calm(state.count, state.mark));
+        return state::refuse(Refusal::Zero, state);
     }
+    let chunk_size = state::chunk_size(state);
     if !is_whole(address, size, chunk_size) {
-        return registers::turn_down(Refusal::NotWhole, registers::calm(state.count, state.mark));
+        return state::refuse(Refusal::NotWhole, state);
     }
-    if registers::range_bad(address, size, met) {
-        return registers::turn_down(Refusal::Range, registers::calm(state.count, state.mark));
+    let k = state.count;
+    if crate::ranges::range_bad(records, k, chunk_size, address, size) {
+        return state::refuse(Refusal::Range, state);
     }
-    adopt_reply(state, size, growing, chunk_size)
-}
-
-// The id of the record that grows or is registered; 32 for none.
-fn adopt_target(state: State, size: u64, growing: Found, chunk_size: u64) -> usize
-    requires { ⌜ (0 < «chunk_size») × («chunk_size» ≤ 4294967296) ⌝ }
-    ensures { λ r. ⌜ r ≡ adoptTarget «chunk_size» state size growing ⌝ }
-{
-    match growing {
-        Found::At(i) => i,
-        Found::Nothing => {
-            if registers::does_register(state.count, size / chunk_size) {
-                return state.count;
-            }
-            32
-        }
+    let n = crate::counts::whole_chunks(size, chunk_size);
+    let f = table::find_growing(records, k, chunk_size, address, n);
+    if judge::row_parts::is_at(f) {
+        let i = judge::row_parts::id_of(f);
+        return grow_at(records, state, i, n);
     }
-}
-
-// The id that an adopt writes; 32 for none.
-fn adopt_id(
-    ok: bool,
-    state: State,
-    address: u64,
-    size: u64,
-    met: Found,
-    growing: Found,
-    chunk_size: u64,
-) -> usize
-    requires { ⌜ (0 < «chunk_size») × («chunk_size» ≤ 4294967296) ⌝ }
-    ensures { λ r. ⌜ r ≡ adoptId «chunk_size» ok state address size met growing ⌝ }
-{
-    if !adopt_passes(ok, state, address, size, chunk_size) {
-        return 32;
-    }
-    if registers::range_bad(address, size, met) {
-        return 32;
-    }
-    adopt_target(state, size, growing, chunk_size)
-}
-
-// A new arena of so many chunks; any where they are too many.
-fn adopt_new(address: u64, chunks: u64) -> Arena
-    ensures { λ r. ⌜ (chunks ≤ 1024 → r ≡ adoptedArena address chunks) ⌝ }
-{
-    if 1024 < chunks {
-        return arena::adopted_arena(0, 0);
-    }
-    arena::adopted_arena(address, chunks as usize)
-}
-
-// The record that grew, or the new one.
-fn adopt_arena(growing: Found, a: Arena, address: u64, size: u64, chunk_size: u64) -> Arena
-    requires { ⌜ (0 < «chunk_size») × («chunk_size» ≤ 4294967296) × ((i : ℕ) → growing ≡ At i → a .chunks + size / «chunk_size» ≤ 1024) ⌝ }
-    ensures { λ r. ⌜ ((growing ≡ Nothing → size / «chunk_size» ≤ 1024) → r ≡ adoptArena «chunk_size» a address size growing) ⌝ }
-{
-    let n = size / chunk_size;
-    match growing {
-        Found::At(_) => arena::grow(a, n as usize),
-        Found::Nothing => adopt_new(address, n),
-    }
-}
-
-// An adopt, the scan for overlaps having found `met`, the one for growth `growing`, and a being the record
-// that grows.
-pub fn adopt_core(
-    ok: bool,
-    state: State,
-    address: u64,
-    size: u64,
-    met: Found,
-    growing: Found,
-    a: Arena,
-    chunk_size: u64,
-) -> Registering
-    requires { ⌜ (0 < «chunk_size») × («chunk_size» ≤ 4294967296) × ((i : ℕ) → growing ≡ At i → a .chunks + size / «chunk_size» ≤ 1024) ⌝ }
-    ensures { λ r. ⌜ (r .reply ≡ adoptAnswer «chunk_size» ok state address size met growing) × (r .id ≡ adoptId «chunk_size» ok state address size met growing) × (adoptId «chunk_size» ok state address size met growing < 32 → r .arena ≡ adoptArena «chunk_size» a address size growing) ⌝ }
-{
-    let own = adopt_own(state, address, size, met, growing, chunk_size);
-    let reply = registers::gate(ok, state, own);
-    let id = adopt_id(ok, state, address, size, met, growing, chunk_size);
-    let arena = adopt_arena(growing, a, address, size, chunk_size);
-    Registering { id, arena, reply }
-}
-
-// The id whose stamps an adopt writes; an arena that grows keeps its own.
-pub fn adopt_stamped(growing: Found, id: usize) -> usize
-    ensures { λ r. ⌜ r ≡ adoptStamped growing id ⌝ }
-{
-    match growing {
-        Found::At(_) => 32,
-        Found::Nothing => id,
-    }
+    adopt_new(records, stamps, state, address, n)
 }

@@ -1,22 +1,24 @@
-// Managing by value: what a manage answers, and which record it writes where. A scan of the lent records says
-// whether the range meets an arena.
+// Managing: the whole chunks inside memory that the host has already become an arena.
 ghost use mathlib.Core.Path.{_≡_};
-ghost use mathlib.Core.Bool.{not, _||_};
-ghost use Prim.Native.Nat.{_/_, _<_, _≤_};
+ghost use mathlib.Core.Bool.{false, not, _||_};
+ghost use Prim.Native.Nat.{_-_};
+ghost use Rattle.arena.specs.ChunkSize.{ChunkSize};
 ghost use Rattle.arena.specs.Registering.{managedArena};
-ghost use Rattle.layer.specs.Registering.{firstWhole, noWholeChunk};
-ghost use Rattle.registering.specs.Managing.{managePasses, manageCount, manageBytes, manageAnswer, manageId, manageBase, manageLength, manageChunks, manageReply};
+ghost use Rattle.layer.specs.World.{sizeOf, Leaves};
+ghost use Rattle.layer.specs.Registering.{firstWhole, pastWhole, noWholeChunk, manageOf};
+ghost use Rattle.state.specs.Ready.{Ready, Stamped};
+ghost use Rattle.registering.specs.New.{newArena};
 use arena::Arena;
 use arena::LAST;
 use layer::Reply;
 use layer::State;
 use refusals::Refusal;
-use registers::Registering;
-use runs::Found;
 
-// Row 15: start 0, a sum past the last address, or no whole chunk inside.
+// ---- rows 15 and 16
+
+// "start 0, a sum past 2^64 − 1, no whole chunk".
 fn no_whole_chunk(start: u64, size: u64, chunk_size: u64) -> bool
-    requires { ⌜ (0 < «chunk_size») × («chunk_size» ≤ 4294967296) ⌝ }
+    requires { ⌜ ChunkSize «chunk_size» ⌝ }
     ensures { λ r. ⌜ r ≡ noWholeChunk «chunk_size» start size ⌝ }
 {
     if start == 0 {
@@ -28,40 +30,10 @@ fn no_whole_chunk(start: u64, size: u64, chunk_size: u64) -> bool
     if LAST - start < chunk_size - 1 {
         return true;
     }
-    (start + size) / chunk_size <= registers::chunks_for(start, chunk_size)
+    (start + size) / chunk_size <= crate::counts::chunks_for(start, chunk_size)
 }
 
-// The first address of the whole chunks inside; 0 where there are none.
-pub fn manage_base(start: u64, size: u64, chunk_size: u64) -> u64
-    requires { ⌜ (0 < «chunk_size») × («chunk_size» ≤ 4294967296) ⌝ }
-    ensures { λ r. ⌜ r ≡ manageBase «chunk_size» start size ⌝ }
-{
-    if no_whole_chunk(start, size, chunk_size) {
-        return 0;
-    }
-    registers::chunks_for(start, chunk_size) * chunk_size
-}
-
-// The number of the whole chunks inside.
-fn manage_chunks(start: u64, size: u64, chunk_size: u64) -> u64
-    requires { ⌜ (0 < «chunk_size») × («chunk_size» ≤ 4294967296) ⌝ }
-    ensures { λ r. ⌜ r ≡ manageChunks «chunk_size» start size ⌝ }
-{
-    if no_whole_chunk(start, size, chunk_size) {
-        return 0;
-    }
-    (start + size) / chunk_size - registers::chunks_for(start, chunk_size)
-}
-
-// Their bytes.
-pub fn manage_bytes(start: u64, size: u64, chunk_size: u64) -> u64
-    requires { ⌜ (0 < «chunk_size») × («chunk_size» ≤ 4294967296) ⌝ }
-    ensures { λ r. ⌜ r ≡ manageLength «chunk_size» start size ⌝ }
-{
-    manage_chunks(start, size, chunk_size) * chunk_size
-}
-
-// Row 16: in the segment map already, or not reserved.
+// In the segment map already, or not reserved.
 fn host_refuses(mapped: bool, reserved: bool) -> bool
     ensures { λ r. ⌜ r ≡ mapped || not reserved ⌝ }
 {
@@ -71,123 +43,56 @@ fn host_refuses(mapped: bool, reserved: bool) -> bool
     !reserved
 }
 
-// Whether a manage gets past 15 and 16.
-fn manage_passes(
-    ok: bool,
-    state: State,
-    start: u64,
-    size: u64,
-    mapped: bool,
-    reserved: bool,
-    chunk_size: u64,
-) -> bool
-    requires { ⌜ (0 < «chunk_size») × («chunk_size» ≤ 4294967296) ⌝ }
-    ensures { λ r. ⌜ r ≡ managePasses «chunk_size» ok state start size mapped reserved ⌝ }
+// ---- the whole chunks inside the range
+
+// The first address of the first.
+fn first_whole(start: u64, size: u64, chunk_size: u64) -> u64
+    requires { ⌜ ChunkSize «chunk_size» × (noWholeChunk «chunk_size» start size ≡ false) ⌝ }
+    ensures { λ r. ⌜ r ≡ firstWhole «chunk_size» start ⌝ }
 {
-    if !ok {
-        return false;
-    }
-    let q = state.question;
-    if !registers::is_idle(q) {
-        return false;
-    }
-    if no_whole_chunk(start, size, chunk_size) {
-        return false;
-    }
-    !host_refuses(mapped, reserved)
+    crate::counts::chunks_for(start, chunk_size) * chunk_size
 }
 
-// How many records the scan for overlaps looks at.
-pub fn manage_count(
-    ok: bool,
-    state: State,
-    start: u64,
-    size: u64,
-    mapped: bool,
-    reserved: bool,
-    chunk_size: u64,
-) -> usize
-    requires { ⌜ (0 < «chunk_size») × («chunk_size» ≤ 4294967296) ⌝ }
-    ensures { λ r. ⌜ r ≡ manageCount «chunk_size» ok state start size mapped reserved ⌝ }
+// The bytes from there to past the last.
+fn bytes_from(base: u64, start: u64, size: u64, chunk_size: u64) -> u64
+    requires { ⌜ ChunkSize «chunk_size» × (noWholeChunk «chunk_size» start size ≡ false) × (base ≡ firstWhole «chunk_size» start) ⌝ }
+    ensures { λ r. ⌜ r ≡ pastWhole «chunk_size» start size - base ⌝ }
 {
-    if manage_passes(ok, state, start, size, mapped, reserved, chunk_size) {
-        return state.count;
-    }
-    0
+    (start + size) / chunk_size * chunk_size - base
 }
 
-// What a manage answers where no question is open: 15, 16, 6, then the registering.
-fn manage_reply(
-    k: usize,
-    mark: bool,
-    start: u64,
-    size: u64,
-    mapped: bool,
-    reserved: bool,
-    met: Found,
-    chunk_size: u64,
+// ---- the core
+
+// 12, 13, then the new arena of so many chunks from base on.
+fn manage_new(
+    records: &mut [Arena],
+    stamps: &mut [u32],
+    state: State,
+    base: u64,
+    chunks: u64,
+    exclusive: bool,
+    node: i32,
 ) -> Reply
-    requires { ⌜ (0 < «chunk_size») × («chunk_size» ≤ 4294967296) ⌝ }
-    ensures { λ r. ⌜ r ≡ manageReply «chunk_size» k mark start size mapped reserved met ⌝ }
+    requires { ⌜ Ready (now records) state × Stamped (now stamps) ⌝ }
+    ensures { λ r. ⌜ Leaves (newArena (now (records .entry)) (now (stamps .entry)) (state .count) (state .mark) chunks (managedArena base chunks exclusive node)) r (now (records .exit)) (now (stamps .exit)) ⌝ }
 {
-    if no_whole_chunk(start, size, chunk_size) {
-        return registers::turn_down(Refusal::NoWholeChunk, registers::calm(k, mark));
+    if crate::counts::has_bad_count(chunks) {
+        return state::refuse(Refusal::ChunkCount, state);
     }
-    if host_refuses(mapped, reserved) {
-        return registers::turn_down(Refusal::HostRefused, registers::calm(k, mark));
+    let k = state.count;
+    if crate::counts::is_full(k) {
+        return state::refuse(Refusal::TableFull, state);
     }
-    let base = manage_base(start, size, chunk_size);
-    let bytes = manage_bytes(start, size, chunk_size);
-    if registers::range_bad(base, bytes, met) {
-        return registers::turn_down(Refusal::Range, registers::calm(k, mark));
-    }
-    registers::register_reply(k, mark, manage_chunks(start, size, chunk_size))
+    let n = crate::counts::as_recorded(chunks);
+    let a = arena::managed_arena(base, n, exclusive, node);
+    crate::writing::write_new(records, stamps, k, a);
+    crate::writing::registered(state)
 }
 
-// The id that a manage registers; 32 for none.
-fn manage_id(
-    ok: bool,
-    state: State,
-    start: u64,
-    size: u64,
-    mapped: bool,
-    reserved: bool,
-    met: Found,
-    chunk_size: u64,
-) -> usize
-    requires { ⌜ (0 < «chunk_size») × («chunk_size» ≤ 4294967296) ⌝ }
-    ensures { λ r. ⌜ r ≡ manageId «chunk_size» ok state start size mapped reserved met ⌝ }
-{
-    if !manage_passes(ok, state, start, size, mapped, reserved, chunk_size) {
-        return 32;
-    }
-    let base = manage_base(start, size, chunk_size);
-    let bytes = manage_bytes(start, size, chunk_size);
-    if registers::range_bad(base, bytes, met) {
-        return 32;
-    }
-    if registers::does_register(state.count, manage_chunks(start, size, chunk_size)) {
-        return state.count;
-    }
-    32
-}
-
-// The record of the whole chunks inside; any where they are too many.
-fn manage_arena(start: u64, size: u64, exclusive: bool, node: i32, chunk_size: u64) -> Arena
-    requires { ⌜ (0 < «chunk_size») × («chunk_size» ≤ 4294967296) ⌝ }
-    ensures { λ r. ⌜ (manageChunks «chunk_size» start size ≤ 1024 → r ≡ managedArena (manageBase «chunk_size» start size) (manageChunks «chunk_size» start size) exclusive node) ⌝ }
-{
-    let base = manage_base(start, size, chunk_size);
-    let chunks = manage_chunks(start, size, chunk_size);
-    if 1024 < chunks {
-        return arena::adopted_arena(0, 0);
-    }
-    arena::managed_arena(base, chunks as usize, exclusive, node)
-}
-
-// A manage, the scan for overlaps having found `met`.
-pub fn manage_core(
-    ok: bool,
+// A manage, on a table that rows 1 and 2 let pass: 15, 16, 6, 12, 13, then the new arena.
+pub fn manage(
+    records: &mut [Arena],
+    stamps: &mut [u32],
     state: State,
     start: u64,
     size: u64,
@@ -195,24 +100,23 @@ pub fn manage_core(
     node: i32,
     mapped: bool,
     reserved: bool,
-    met: Found,
-    chunk_size: u64,
-) -> Registering
-    requires { ⌜ (0 < «chunk_size») × («chunk_size» ≤ 4294967296) ⌝ }
-    ensures { λ r. ⌜ (r .reply ≡ manageAnswer «chunk_size» ok state start size mapped reserved met) × (r .id ≡ manageId «chunk_size» ok state start size mapped reserved met) × (manageId «chunk_size» ok state start size mapped reserved met < 32 → r .arena ≡ managedArena (firstWhole «chunk_size» start) (manageBytes «chunk_size» start size / «chunk_size») exclusive node) ⌝ }
+) -> Reply
+    requires { ⌜ Ready (now records) state × Stamped (now stamps) ⌝ }
+    ensures { λ r. ⌜ Leaves (manageOf (sizeOf state) (now (records .entry)) (now (stamps .entry)) (state .count) (state .mark) start size exclusive node mapped reserved) r (now (records .exit)) (now (stamps .exit)) ⌝ }
 {
-    let own = manage_reply(
-        state.count,
-        state.mark,
-        start,
-        size,
-        mapped,
-        reserved,
-        met,
-        chunk_size,
-    );
-    let reply = registers::gate(ok, state, own);
-    let id = manage_id(ok, state, start, size, mapped, reserved, met, chunk_size);
-    let arena = manage_arena(start, size, exclusive, node, chunk_size);
-    Registering { id, arena, reply }
+    let chunk_size = state::chunk_size(state);
+    if no_whole_chunk(start, size, chunk_size) {
+        return state::refuse(Refusal::NoWholeChunk, state);
+    }
+    if host_refuses(mapped, reserved) {
+        return state::refuse(Refusal::HostRefused, state);
+    }
+    let base = first_whole(start, size, chunk_size);
+    let bytes = bytes_from(base, start, size, chunk_size);
+    let k = state.count;
+    if crate::ranges::range_bad(records, k, chunk_size, base, bytes) {
+        return state::refuse(Refusal::Range, state);
+    }
+    let chunks = crate::counts::whole_chunks(bytes, chunk_size);
+    manage_new(records, stamps, state, base, chunks, exclusive, node)
 }

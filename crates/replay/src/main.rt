@@ -75,5 +75,5 @@ fn replay_all(words: &mut [u32]) -> Tally {
 
 fn main() {
     let mut words = [0u32; 2048];
-    sample_report::print(replay_all(&mut words));
+    samples::report::print(replay_all(&mut words));
 }

@@ -37,17 +37,21 @@ pub fn clear_run(lent: &mut [u32], start: usize, n: usize)
     write_run(lent, start, n, false)
 }
 
-// The same two over a row of 1,024 bits as an array: an arena's bitmap where it lies.
-pub fn set_row(row: &mut [u32; 32], start: usize, n: usize)
+// The same two of a row of 1,024 bits by value: an arena's bitmap.
+pub fn row_set(row: [u32; 32], start: usize, n: usize) -> [u32; 32]
     requires { ⌜ start + n ≤ 1024 ⌝ }
-    ensures { λ _. ⌜ now (row .exit) ≡ setRun (now (row .entry)) start n ⌝ }
+    ensures { λ r. ⌜ r ≡ setRun row start n ⌝ }
 {
-    write_run(row, start, n, true)
+    let mut left = row;
+    write_run(&mut left, start, n, true);
+    left
 }
 
-pub fn clear_row(row: &mut [u32; 32], start: usize, n: usize)
+pub fn row_cleared(row: [u32; 32], start: usize, n: usize) -> [u32; 32]
     requires { ⌜ start + n ≤ 1024 ⌝ }
-    ensures { λ _. ⌜ now (row .exit) ≡ clearRun (now (row .entry)) start n ⌝ }
+    ensures { λ r. ⌜ r ≡ clearRun row start n ⌝ }
 {
-    write_run(row, start, n, false)
+    let mut left = row;
+    write_run(&mut left, start, n, false);
+    left
 }

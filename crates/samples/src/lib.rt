@@ -3,5 +3,6 @@
 pub mod hash;
 pub mod hex;
 pub mod lines;
+pub mod report;
 pub mod signed;
 pub mod tally;

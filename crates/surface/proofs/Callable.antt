@@ -1,6 +1,6 @@
--- Functions of `surface` that a walk calls, each in one step: is-state-step, reply-of-step, state-of-step, kind-of-step, settings-of-step, told-of-step. Written by tools/walks.
+-- Functions of `surface` that a walk calls, each in one step: is-state-step, answered-step, no-state-step, reply-of-step, state-of-step, kind-of-step, settings-of-step, told-of-step. Written by tools/walks.
 -- Assumes `Given`, the callee's theorem, and that the table of calls is monotone under a frame.
-use Rattle.walks.proofs.Walking.{_≡_, refl, sym, _∙_, ap, subst, Bool, ℕ, _<_, _^_, List, [], _∷_, w32, Operand, Val, vint, vbool, Fits, toZ, URA, SProp, id⊢, Memory, Routine, Heap, Env, Calls, Atoms, Given, Item, Goal, Seq, Opds, Fun, bool, u32, i32, yes, Is, Ises, owns-make, uint-makes, bool-tells, bool-makes, plain, sint-makes, only, tripleOf, Contract, Triple, signed, Site, plain-call}
+use Rattle.walks.proofs.Walking.{_≡_, refl, sym, _∙_, ap, subst, ℕ, _<_, _^_, List, [], _∷_, w32, Operand, Val, vint, vbool, Fits, toZ, URA, SProp, id⊢, Memory, Routine, Heap, Env, Calls, Atoms, Given, Item, Goal, Seq, Opds, Fun, bool, u32, i32, yes, Is, Ises, owns-make, uint-makes, bool-tells, plain, sint-makes, only, tripleOf, Contract, Triple, signed, Site, plain-call}
 use Rattle.surface.proofs.StateNumbers as T-StateNumbers
 use Rattle.surface.proofs.StateNumbers.Laws as L-StateNumbers
 use denote.Struct.Laws as LL
@@ -17,7 +17,7 @@ use Rattle.surface.specs.declared.StateNumbers.{StateNumbers}
 use Rattle.surface.specs.Numbers.{isState, stateOf}
 use Rattle.layer.specs.declared.Reply.{Reply}
 use Rattle.surface.specs.declared.reply.ReplyNumbers.{ReplyNumbers}
-use Rattle.surface.specs.Replies.{replyOf}
+use Rattle.surface.specs.Replies.{answerNumbers, brokenNumbers, replyOf}
 use Rattle.layer.specs.declared.State.{State}
 use Rattle.layer.specs.declared.Kind.{Kind}
 use Rattle.surface.specs.Told.{kindOf, settingsOf, toldOf}
@@ -26,6 +26,10 @@ use Rattle.layer.specs.declared.Settings.{Settings}
 use Rattle.arena.specs.declared.Commitment.{Commitment}
 use Rattle.surface.proofs.is_state as is-state′
 use Rattle.surface.proofs.is_state.Symbol.{name as #surface·is-state}
+use Rattle.surface.proofs.reply.answered as answered′
+use Rattle.surface.proofs.reply.answered.Symbol.{name as #surface·reply·answered}
+use Rattle.surface.proofs.reply.no_state as no-state′
+use Rattle.surface.proofs.reply.no_state.Symbol.{name as #surface·reply·no-state}
 use Rattle.surface.proofs.reply.reply_of as reply-of′
 use Rattle.surface.proofs.reply.reply_of.Symbol.{name as #surface·reply·reply-of}
 use Rattle.surface.proofs.state_of as state-of′
@@ -39,26 +43,32 @@ use Rattle.surface.proofs.told.told_of.Symbol.{name as #surface·told·
 
 -- the contracts that a walk cites
 module _ {M : Type 1} (𝓤 : URA M) (H : Heap 𝓤) (A : Atoms 𝓤) (mem : Memory → SProp 𝓤) (run : Routine → Fun 𝓤) where
-  abbrev pub IsState : Contract 𝓤
-  IsState = tripleOf 𝓤 H A is-state′.signature (is-state′.spec 𝓤 H A mem run)
+  abbrev pub IsStateSpec : Contract 𝓤
+  IsStateSpec = tripleOf 𝓤 H A is-state′.signature (is-state′.spec 𝓤 H A mem run)
 
-  abbrev pub ReplyOf : Contract 𝓤
-  ReplyOf = tripleOf 𝓤 H A reply-of′.signature (reply-of′.spec 𝓤 H A mem run)
+  abbrev pub AnsweredSpec : Contract 𝓤
+  AnsweredSpec = tripleOf 𝓤 H A answered′.signature (answered′.spec 𝓤 H A mem run)
 
-  abbrev pub StateOf : Contract 𝓤
-  StateOf = tripleOf 𝓤 H A state-of′.signature (state-of′.spec 𝓤 H A mem run)
+  abbrev pub NoStateSpec : Contract 𝓤
+  NoStateSpec = tripleOf 𝓤 H A no-state′.signature (no-state′.spec 𝓤 H A mem run)
 
-  abbrev pub KindOf : Contract 𝓤
-  KindOf = tripleOf 𝓤 H A kind-of′.signature (kind-of′.spec 𝓤 H A mem run)
+  abbrev pub ReplyOfSpec : Contract 𝓤
+  ReplyOfSpec = tripleOf 𝓤 H A reply-of′.signature (reply-of′.spec 𝓤 H A mem run)
 
-  abbrev pub SettingsOf : Contract 𝓤
-  SettingsOf = tripleOf 𝓤 H A settings-of′.signature (settings-of′.spec 𝓤 H A mem run)
+  abbrev pub StateOfSpec : Contract 𝓤
+  StateOfSpec = tripleOf 𝓤 H A state-of′.signature (state-of′.spec 𝓤 H A mem run)
 
-  abbrev pub ToldOf : Contract 𝓤
-  ToldOf = tripleOf 𝓤 H A told-of′.signature (told-of′.spec 𝓤 H A mem run)
+  abbrev pub KindOfSpec : Contract 𝓤
+  KindOfSpec = tripleOf 𝓤 H A kind-of′.signature (kind-of′.spec 𝓤 H A mem run)
+
+  abbrev pub SettingsOfSpec : Contract 𝓤
+  SettingsOfSpec = tripleOf 𝓤 H A settings-of′.signature (settings-of′.spec 𝓤 H A mem run)
+
+  abbrev pub ToldOfSpec : Contract 𝓤
+  ToldOfSpec = tripleOf 𝓤 H A told-of′.signature (told-of′.spec 𝓤 H A mem run)
 
 module _ {M : Type 1} {𝓤 : URA M} {H : Heap 𝓤} {A : Atoms 𝓤} {K : Type 0} {W : Given 𝓤 H A} {Γ : List (Item 𝓤)} {C : Calls 𝓤 H} {E : Env 𝓤 H} {xs : List Operand} {G : Goal 𝓤 H} {after : Val → Goal 𝓤 H} {more : Item 𝓤} where
-  pub is-state-step : K → Site K W Γ C E #surface·is-state xs G after → (mem : Memory → SProp 𝓤) (run : Routine → Fun 𝓤) → Triple 𝓤 (C #surface·is-state) (IsState 𝓤 H A mem run)
+  pub is-state-step : K → Site K W Γ C E #surface·is-state xs G after → (mem : Memory → SProp 𝓤) (run : Routine → Fun 𝓤) → Triple 𝓤 (C #surface·is-state) (IsStateSpec 𝓤 H A mem run)
       → (f : StateNumbers) (v-f : Val) → Is T-StateNumbers.the-row f (v-f ∷ [])
       → ((hd′ : Item 𝓤) → Opds K W (hd′ ∷ Γ) E xs (v-f ∷ []))
       → (Seq K W (more ∷ Γ) (after (vbool (isState f))))
@@ -68,17 +78,37 @@ module _ {M : Type 1} {𝓤 : URA M} {H : Heap 𝓤} {A : Atoms 𝓤} {K : Type 
       (owns-make 𝓤 H A (T-StateNumbers.the-row ∷ []) (Ises (T-StateNumbers.the-row ∷ [])) (LL.makes T-StateNumbers.the-type L-StateNumbers.the-plain 𝓤 H A, tt) (f, tt) (v-f ∷ [], tt) (g-f, tt)) tt (id⊢ 𝓤 _)
       (λ out. out ≡ isState f) (λ out ws. id⊢ 𝓤 _) ops (λ val′ out rel′ eq′. subst (λ (new′ : Val). Seq K W (more ∷ Γ) (after new′)) (sym (ap only (bool-tells out (val′ ∷ []) rel′) ∙ ap vbool eq′)) (then′))
 
-  pub reply-of-step : K → Site K W Γ C E #surface·reply·reply-of xs G after → (mem : Memory → SProp 𝓤) (run : Routine → Fun 𝓤) → Triple 𝓤 (C #surface·reply·reply-of) (ReplyOf 𝓤 H A mem run)
-      → (ok : Bool) → (f : StateNumbers) (v-f : Val) → Is T-StateNumbers.the-row f (v-f ∷ []) → (r : Reply) (v-r : Val) → Is T-Reply.the-row r (v-r ∷ [])
-      → ((hd′ : Item 𝓤) → Opds K W (hd′ ∷ Γ) E xs (vbool ok ∷ v-f ∷ v-r ∷ []))
-      → ((val′ : Val) → Is T-ReplyNumbers.the-row (replyOf ok f r) (val′ ∷ []) → Seq K W (more ∷ Γ) (after val′))
+  pub answered-step : K → Site K W Γ C E #surface·reply·answered xs G after → (mem : Memory → SProp 𝓤) (run : Routine → Fun 𝓤) → Triple 𝓤 (C #surface·reply·answered) (AnsweredSpec 𝓤 H A mem run)
+      → (r : Reply) (v-r : Val) → Is T-Reply.the-row r (v-r ∷ []) → (f : StateNumbers) (v-f : Val) → Is T-StateNumbers.the-row f (v-f ∷ [])
+      → ((hd′ : Item 𝓤) → Opds K W (hd′ ∷ Γ) E xs (v-r ∷ v-f ∷ []))
+      → ((val′ : Val) → Is T-ReplyNumbers.the-row (answerNumbers (r .answer) f) (val′ ∷ []) → Seq K W (more ∷ Γ) (after val′))
       → Seq K W (more ∷ Γ) G
-  reply-of-step bang site mem run known ok f v-f g-f r v-r g-r ops then′ =
-      plain-call bang site T-ReplyNumbers.the-row (plain (λ _. bool) ∷ plain (λ _. T-StateNumbers.the-row) ∷ plain (λ _. T-Reply.the-row) ∷ []) (yes, (yes, (yes, tt))) (reply-of′.clauses 𝓤 H A mem run) known (ok, (f, (r, tt))) (vbool ok ∷ [], (v-f ∷ [], (v-r ∷ [], tt)))
-      (owns-make 𝓤 H A (bool ∷ T-StateNumbers.the-row ∷ T-Reply.the-row ∷ []) (Ises (bool ∷ T-StateNumbers.the-row ∷ T-Reply.the-row ∷ [])) (bool-makes 𝓤 H A W, (LL.makes T-StateNumbers.the-type L-StateNumbers.the-plain 𝓤 H A, (LL.makes T-Reply.the-type L-Reply.the-plain 𝓤 H A, tt))) (ok, (f, (r, tt))) (vbool ok ∷ [], (v-f ∷ [], (v-r ∷ [], tt))) (refl, (g-f, (g-r, tt)))) tt (id⊢ 𝓤 _)
-      (λ out. out ≡ replyOf ok f r) (λ out ws. id⊢ 𝓤 _) ops (λ val′ out rel′ eq′. then′ val′ (subst (λ (obj′ : ReplyNumbers). Is T-ReplyNumbers.the-row obj′ (val′ ∷ [])) eq′ rel′))
+  answered-step bang site mem run known r v-r g-r f v-f g-f ops then′ =
+      plain-call bang site T-ReplyNumbers.the-row (plain (λ _. T-Reply.the-row) ∷ plain (λ _. T-StateNumbers.the-row) ∷ []) (yes, (yes, tt)) (answered′.clauses 𝓤 H A mem run) known (r, (f, tt)) (v-r ∷ [], (v-f ∷ [], tt))
+      (owns-make 𝓤 H A (T-Reply.the-row ∷ T-StateNumbers.the-row ∷ []) (Ises (T-Reply.the-row ∷ T-StateNumbers.the-row ∷ [])) (LL.makes T-Reply.the-type L-Reply.the-plain 𝓤 H A, (LL.makes T-StateNumbers.the-type L-StateNumbers.the-plain 𝓤 H A, tt)) (r, (f, tt)) (v-r ∷ [], (v-f ∷ [], tt)) (g-r, (g-f, tt))) tt (id⊢ 𝓤 _)
+      (λ out. out ≡ answerNumbers (r .answer) f) (λ out ws. id⊢ 𝓤 _) ops (λ val′ out rel′ eq′. then′ val′ (subst (λ (obj′ : ReplyNumbers). Is T-ReplyNumbers.the-row obj′ (val′ ∷ [])) eq′ rel′))
 
-  pub state-of-step : K → Site K W Γ C E #surface·state-of xs G after → (mem : Memory → SProp 𝓤) (run : Routine → Fun 𝓤) → Triple 𝓤 (C #surface·state-of) (StateOf 𝓤 H A mem run)
+  pub no-state-step : K → Site K W Γ C E #surface·reply·no-state xs G after → (mem : Memory → SProp 𝓤) (run : Routine → Fun 𝓤) → Triple 𝓤 (C #surface·reply·no-state) (NoStateSpec 𝓤 H A mem run)
+      → (f : StateNumbers) (v-f : Val) → Is T-StateNumbers.the-row f (v-f ∷ [])
+      → ((hd′ : Item 𝓤) → Opds K W (hd′ ∷ Γ) E xs (v-f ∷ []))
+      → ((val′ : Val) → Is T-ReplyNumbers.the-row (brokenNumbers f) (val′ ∷ []) → Seq K W (more ∷ Γ) (after val′))
+      → Seq K W (more ∷ Γ) G
+  no-state-step bang site mem run known f v-f g-f ops then′ =
+      plain-call bang site T-ReplyNumbers.the-row (plain (λ _. T-StateNumbers.the-row) ∷ []) (yes, tt) (no-state′.clauses 𝓤 H A mem run) known (f, tt) (v-f ∷ [], tt)
+      (owns-make 𝓤 H A (T-StateNumbers.the-row ∷ []) (Ises (T-StateNumbers.the-row ∷ [])) (LL.makes T-StateNumbers.the-type L-StateNumbers.the-plain 𝓤 H A, tt) (f, tt) (v-f ∷ [], tt) (g-f, tt)) tt (id⊢ 𝓤 _)
+      (λ out. out ≡ brokenNumbers f) (λ out ws. id⊢ 𝓤 _) ops (λ val′ out rel′ eq′. then′ val′ (subst (λ (obj′ : ReplyNumbers). Is T-ReplyNumbers.the-row obj′ (val′ ∷ [])) eq′ rel′))
+
+  pub reply-of-step : K → Site K W Γ C E #surface·reply·reply-of xs G after → (mem : Memory → SProp 𝓤) (run : Routine → Fun 𝓤) → Triple 𝓤 (C #surface·reply·reply-of) (ReplyOfSpec 𝓤 H A mem run)
+      → (r : Reply) (v-r : Val) → Is T-Reply.the-row r (v-r ∷ [])
+      → ((hd′ : Item 𝓤) → Opds K W (hd′ ∷ Γ) E xs (v-r ∷ []))
+      → ((val′ : Val) → Is T-ReplyNumbers.the-row (replyOf r) (val′ ∷ []) → Seq K W (more ∷ Γ) (after val′))
+      → Seq K W (more ∷ Γ) G
+  reply-of-step bang site mem run known r v-r g-r ops then′ =
+      plain-call bang site T-ReplyNumbers.the-row (plain (λ _. T-Reply.the-row) ∷ []) (yes, tt) (reply-of′.clauses 𝓤 H A mem run) known (r, tt) (v-r ∷ [], tt)
+      (owns-make 𝓤 H A (T-Reply.the-row ∷ []) (Ises (T-Reply.the-row ∷ [])) (LL.makes T-Reply.the-type L-Reply.the-plain 𝓤 H A, tt) (r, tt) (v-r ∷ [], tt) (g-r, tt)) tt (id⊢ 𝓤 _)
+      (λ out. out ≡ replyOf r) (λ out ws. id⊢ 𝓤 _) ops (λ val′ out rel′ eq′. then′ val′ (subst (λ (obj′ : ReplyNumbers). Is T-ReplyNumbers.the-row obj′ (val′ ∷ [])) eq′ rel′))
+
+  pub state-of-step : K → Site K W Γ C E #surface·state-of xs G after → (mem : Memory → SProp 𝓤) (run : Routine → Fun 𝓤) → Triple 𝓤 (C #surface·state-of) (StateOfSpec 𝓤 H A mem run)
       → (f : StateNumbers) (v-f : Val) → Is T-StateNumbers.the-row f (v-f ∷ [])
       → ((hd′ : Item 𝓤) → Opds K W (hd′ ∷ Γ) E xs (v-f ∷ []))
       → ((val′ : Val) → Is T-State.the-row (stateOf f) (val′ ∷ []) → Seq K W (more ∷ Γ) (after val′))
@@ -88,7 +118,7 @@ module _ {M : Type 1} {𝓤 : URA M} {H : Heap 𝓤} {A : Atoms 𝓤} {K : Type 
       (owns-make 𝓤 H A (T-StateNumbers.the-row ∷ []) (Ises (T-StateNumbers.the-row ∷ [])) (LL.makes T-StateNumbers.the-type L-StateNumbers.the-plain 𝓤 H A, tt) (f, tt) (v-f ∷ [], tt) (g-f, tt)) tt (id⊢ 𝓤 _)
       (λ out. out ≡ stateOf f) (λ out ws. id⊢ 𝓤 _) ops (λ val′ out rel′ eq′. then′ val′ (subst (λ (obj′ : State). Is T-State.the-row obj′ (val′ ∷ [])) eq′ rel′))
 
-  pub kind-of-step : K → Site K W Γ C E #surface·told·kind-of xs G after → (mem : Memory → SProp 𝓤) (run : Routine → Fun 𝓤) → Triple 𝓤 (C #surface·told·kind-of) (KindOf 𝓤 H A mem run)
+  pub kind-of-step : K → Site K W Γ C E #surface·told·kind-of xs G after → (mem : Memory → SProp 𝓤) (run : Routine → Fun 𝓤) → Triple 𝓤 (C #surface·told·kind-of) (KindOfSpec 𝓤 H A mem run)
       → (kind : ℕ) → kind < 2 ^ 32
       → ((hd′ : Item 𝓤) → Opds K W (hd′ ∷ Γ) E xs (vint w32 kind ∷ []))
       → ((val′ : Val) → Is T-Kind.the-row (kindOf kind) (val′ ∷ []) → Seq K W (more ∷ Γ) (after val′))
@@ -98,17 +128,17 @@ module _ {M : Type 1} {𝓤 : URA M} {H : Heap 𝓤} {A : Atoms 𝓤} {K : Type 
       (owns-make 𝓤 H A (u32 ∷ []) (Ises (u32 ∷ [])) (uint-makes 𝓤 H A W w32, tt) (kind, tt) (vint w32 kind ∷ [], tt) ((refl, f-kind), tt)) tt (id⊢ 𝓤 _)
       (λ out. out ≡ kindOf kind) (λ out ws. id⊢ 𝓤 _) ops (λ val′ out rel′ eq′. then′ val′ (subst (λ (obj′ : Kind). Is T-Kind.the-row obj′ (val′ ∷ [])) eq′ rel′))
 
-  pub settings-of-step : K → Site K W Γ C E #surface·told·settings-of xs G after → (mem : Memory → SProp 𝓤) (run : Routine → Fun 𝓤) → Triple 𝓤 (C #surface·told·settings-of) (SettingsOf 𝓤 H A mem run)
-      → (ok : Bool) → (s : SettingsNumbers) (v-s : Val) → Is T-SettingsNumbers.the-row s (v-s ∷ [])
-      → ((hd′ : Item 𝓤) → Opds K W (hd′ ∷ Γ) E xs (vbool ok ∷ v-s ∷ []))
-      → ((val′ : Val) → Is T-Settings.the-row (settingsOf ok s) (val′ ∷ []) → Seq K W (more ∷ Γ) (after val′))
+  pub settings-of-step : K → Site K W Γ C E #surface·told·settings-of xs G after → (mem : Memory → SProp 𝓤) (run : Routine → Fun 𝓤) → Triple 𝓤 (C #surface·told·settings-of) (SettingsOfSpec 𝓤 H A mem run)
+      → (s : SettingsNumbers) (v-s : Val) → Is T-SettingsNumbers.the-row s (v-s ∷ [])
+      → ((hd′ : Item 𝓤) → Opds K W (hd′ ∷ Γ) E xs (v-s ∷ []))
+      → ((val′ : Val) → Is T-Settings.the-row (settingsOf s) (val′ ∷ []) → Seq K W (more ∷ Γ) (after val′))
       → Seq K W (more ∷ Γ) G
-  settings-of-step bang site mem run known ok s v-s g-s ops then′ =
-      plain-call bang site T-Settings.the-row (plain (λ _. bool) ∷ plain (λ _. T-SettingsNumbers.the-row) ∷ []) (yes, (yes, tt)) (settings-of′.clauses 𝓤 H A mem run) known (ok, (s, tt)) (vbool ok ∷ [], (v-s ∷ [], tt))
-      (owns-make 𝓤 H A (bool ∷ T-SettingsNumbers.the-row ∷ []) (Ises (bool ∷ T-SettingsNumbers.the-row ∷ [])) (bool-makes 𝓤 H A W, (LL.makes T-SettingsNumbers.the-type L-SettingsNumbers.the-plain 𝓤 H A, tt)) (ok, (s, tt)) (vbool ok ∷ [], (v-s ∷ [], tt)) (refl, (g-s, tt))) tt (id⊢ 𝓤 _)
-      (λ out. out ≡ settingsOf ok s) (λ out ws. id⊢ 𝓤 _) ops (λ val′ out rel′ eq′. then′ val′ (subst (λ (obj′ : Settings). Is T-Settings.the-row obj′ (val′ ∷ [])) eq′ rel′))
+  settings-of-step bang site mem run known s v-s g-s ops then′ =
+      plain-call bang site T-Settings.the-row (plain (λ _. T-SettingsNumbers.the-row) ∷ []) (yes, tt) (settings-of′.clauses 𝓤 H A mem run) known (s, tt) (v-s ∷ [], tt)
+      (owns-make 𝓤 H A (T-SettingsNumbers.the-row ∷ []) (Ises (T-SettingsNumbers.the-row ∷ [])) (LL.makes T-SettingsNumbers.the-type L-SettingsNumbers.the-plain 𝓤 H A, tt) (s, tt) (v-s ∷ [], tt) (g-s, tt)) tt (id⊢ 𝓤 _)
+      (λ out. out ≡ settingsOf s) (λ out ws. id⊢ 𝓤 _) ops (λ val′ out rel′ eq′. then′ val′ (subst (λ (obj′ : Settings). Is T-Settings.the-row obj′ (val′ ∷ [])) eq′ rel′))
 
-  pub told-of-step : K → Site K W Γ C E #surface·told·told-of xs G after → (mem : Memory → SProp 𝓤) (run : Routine → Fun 𝓤) → Triple 𝓤 (C #surface·told·told-of) (ToldOf 𝓤 H A mem run)
+  pub told-of-step : K → Site K W Γ C E #surface·told·told-of xs G after → (mem : Memory → SProp 𝓤) (run : Routine → Fun 𝓤) → Triple 𝓤 (C #surface·told·told-of) (ToldOfSpec 𝓤 H A mem run)
       → (told : ℕ) → Fits w32 told
       → ((hd′ : Item 𝓤) → Opds K W (hd′ ∷ Γ) E xs (vint w32 told ∷ []))
       → ((val′ : Val) → Is T-Commitment.the-row (toldOf (toZ w32 told)) (val′ ∷ []) → Seq K W (more ∷ Γ) (after val′))

@@ -21,14 +21,15 @@ use Rattle.layer.specs.declared.Kind.{Kind}
 use Rattle.layer.specs.declared.Ask.the-variants.{AskCommit, AskPurge, AskMemory, AskGiveBack}
 use Rattle.layer.specs.declared.Answer.{Answer}
 use Rattle.layer.specs.declared.Answer.the-variants.{Refused, Asks, Registered, Claimed, Released, Swept, Owns, Area}
-use Rattle.layer.specs.World.{World, Outcome, outcome, worldOf, after}
+use Rattle.layer.specs.World.{World, Outcome, sizeOf, outcome, worldOf, after}
 use Rattle.layer.specs.Table.{sound}
-use Rattle.layer.specs.Registering.{askMemory, withRecord, withStamps, register}
+use Rattle.layer.specs.Registering.{askMemory, withRecord, withStamps}
 use Rattle.layer.specs.Answering.{isFor, counted, failReply, resume, answerTo, answerOf as answerOn}
 use Rattle.layer.specs.Step.{Act, reserve, manage, adopt, claim, release, sweep, Query, owns, area, Call, act, query, answer, sweepOf, actOn, queryOn, stepOn, rules, step}
 use Rattle.layer.specs.Demand.{Demand3}
+use Rattle.layer.proofs.Tools.{by-not}
 use Rattle.layer.proofs.Rules.{Again, again}
-use Rattle.layer.proofs.Cases.{grant-cases, search-cases, miss-cases, claim-cases, release-in-cases, release-cases, reserve-cases, register-cases, manage-cases, adopt-cases, memory-cases}
+use Rattle.layer.proofs.Cases.{register, grant-cases, search-cases, miss-cases, claim-cases, release-in-cases, release-cases, reserve-cases, register-cases, manage-cases, adopt-cases, memory-cases}
 use Rattle.layer.proofs.Sweeps.{visit-cases, sweep-cases}
 use Rattle.layer.proofs.Elsewhere.{demand3}
 use Rattle.surface.specs.declared.StateNumbers.{StateNumbers}
@@ -86,7 +87,7 @@ module _ (S : ℕ) (l : List Arena) (stamps : List ℕ) (k : ℕ) (mark : Bool) 
 
   answer-shape : (q : Question) (kind : Kind) (accepted : Bool) (base : ℕ) → ShapeOf (grantOfQuestion q) (answerOn S l stamps k mark q kind accepted base)
   unfolding answerOn
-  answer-shape q kind accepted base = by-cond (ShapeOf (grantOfQuestion q)) (isFor q kind) _ _ (λ e. go q accepted) (λ e. tt)
+  answer-shape q kind accepted base = by-not (ShapeOf (grantOfQuestion q)) (isFor q kind) _ _ (λ e. go q accepted) (λ e. tt)
     where
       go : (p : Question) (accepted : Bool) → ShapeOf (grantOfQuestion p) (answerTo S l stamps k mark p accepted base)
       go Idle accepted = tt
@@ -161,7 +162,7 @@ reply-state (Swept count) st = refl
 reply-state (Owns whether) st = refl
 reply-state (Area base bytes) st = refl
 
-settings-read : (s : Settings) → settingsOf true (settingsNumbers s) ≡ s
+settings-read : (s : Settings) → settingsOf (settingsNumbers s) ≡ s
 unfolding settingsOf
 settings-read s = λ i. record { delay = s .delay; decommits = flag-read (s .decommits) i; off = flag-read (s .off) i; reserve = s .reserve; page = s .page }
 
@@ -170,8 +171,8 @@ settings-read s = λ i. record { delay = s .delay; decommits = flag-read (s .dec
 step-shape : (w : World) (ns : ℕ) (settings : Settings) (c : Call) → Shape (grantOf (w .state .question) c) (step w ns settings c .answer)
 unfolding rules
 step-shape w ns settings c =
-    by-cond (ShapeOf (grantOf (w .state .question) c)) (sound 33554432 w (settings .page)) _ _
-    (λ e. call-shape 33554432 (w .records) (w .stamps) (w .state .count) (w .state .mark) (w .state .question) ns settings c) (λ e. tt)
+    by-not (ShapeOf (grantOf (w .state .question) c)) (sound (sizeOf (w .state)) w (settings .page)) _ _
+    (λ e. call-shape (sizeOf (w .state)) (w .records) (w .stamps) (w .state .count) (w .state .mark) (w .state .question) ns settings c) (λ e. tt)
 
 pub exported-rules : (w : World) (ns : ℕ) (settings : Settings) (c : Call) → exported w ns settings c ≡ step w ns settings c
 unfolding stepNumbers

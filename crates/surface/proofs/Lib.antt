@@ -1,5 +1,6 @@
 mod Cases
 pub mod NumberLaws
+mod FieldLaws
 pub mod CallLaws
 pub mod Exported
 pub mod Callable

@@ -1,4 +1,5 @@
 pub mod Numbers
+pub mod Fields
 pub mod Told
 pub mod Replies
 pub mod Exported

@@ -37,6 +37,7 @@ replyNumbers number kind address bytes align id count fresh committed owns decom
       decommit = decommit;
       commit = commit;
       large = large;
+      spare = 0;
       state = state;
     }
 
@@ -61,8 +62,8 @@ answerNumbers (Area base bytes) = replyNumbers 0 0 base bytes 0 0 0 false false 
 abbrev pub brokenNumbers : StateNumbers → ReplyNumbers
 brokenNumbers = answerNumbers (Refused Broken)
 
-unfoldable pub replyOf : Bool → StateNumbers → Reply → ReplyNumbers
-replyOf ok f r = cond ok (answerNumbers (r .answer) (numbersOf (r .state))) (brokenNumbers f)
+unfoldable pub replyOf : Reply → ReplyNumbers
+replyOf r = answerNumbers (r .answer) (numbersOf (r .state))
 
 -- ---- a call
 
@@ -79,7 +80,7 @@ inNumbers o =
 -- a call of the layer; numbers that are no state's make the table broken: 1
 unfoldable pub stepNumbers : List Arena → List ℕ → StateNumbers → ℕ → SettingsNumbers → Call → Left
 stepNumbers l stamps f ns s call =
-    cond (isState f) (inNumbers (step (worldOf l stamps (stateOf f)) ns (settingsOf true s) call))
+    cond (isState f) (inNumbers (step (worldOf l stamps (stateOf f)) ns (settingsOf s) call))
     (record { reply = brokenNumbers f; records = l; stamps = stamps })
 
 abbrev pub LeavesNumbers : Left → ReplyNumbers → List Arena → List ℕ → Type 0

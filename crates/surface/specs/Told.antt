@@ -1,5 +1,5 @@
 -- What an exported call is told in numbers, as include/sirqobal.h declares them. Assumes nothing.
-use mathlib.Core.Bool.{Bool, cond}
+use mathlib.Core.Bool.{cond}
 use Prim.Native.Nat.{ℕ}
 use lib.Dec.{eqb}
 use lib.IntN.{ℤ, pos, negsuc}
@@ -11,13 +11,8 @@ use Rattle.layer.specs.declared.Kind.{Kind}
 use Rattle.layer.specs.declared.Kind.the-variants.{ForCommit, ForPurge, ForMemory, ForGiveBack, ForNone}
 use Rattle.surface.specs.declared.told.SettingsNumbers.{SettingsNumbers}
 
-abbrev pub pageOf : Bool → ℕ → ℕ
-pageOf ok page = cond ok page 0
-
--- where the state is none, the page is 0, which row 1 turns down
-unfoldable pub settingsOf : Bool → SettingsNumbers → Settings
-settingsOf ok s =
-    record { delay = s .delay; decommits = isOn (s .decommits); off = isOn (s .off); reserve = s .reserve; page = pageOf ok (s .page) }
+unfoldable pub settingsOf : SettingsNumbers → Settings
+settingsOf s = record { delay = s .delay; decommits = isOn (s .decommits); off = isOn (s .off); reserve = s .reserve; page = s .page }
 
 abbrev pub toldOf : ℤ → Commitment
 toldOf (pos n) = cond (eqb n 0) Uncommitted Committed

@@ -6,7 +6,8 @@ pub mod told;
 ghost use mathlib.Core.Path.{_≡_};
 ghost use Rattle.layer.specs.declared.Question.the-variants.{Purging};
 ghost use Rattle.arena.specs.Flags.{asFlag};
-ghost use Rattle.surface.specs.Numbers.{sweepOf, waitingOf, causeOf, questionOf, stateOf, stateNumbers, waits, waitingChunks, waitingCommits, causeNumber, questionNumbers, numbersOf, sameNumbers, isState};
+ghost use Rattle.surface.specs.Numbers.{sweepOf, waitingOf, causeOf, questionOf, stateOf, stateNumbers, waits, waitingChunks, waitingCommits, causeNumber, questionNumbers, numbersOf, isState};
+ghost use Rattle.surface.specs.Fields.{noPlace, noMemory, noWaiting, noSweep, isWaiting, isCause, isCalm, isPlaced, isOfMemory};
 use layer::Question;
 use layer::State;
 use layer::Sweep;
@@ -293,24 +294,106 @@ pub fn numbers_of(s: State) -> StateNumbers
     question_numbers(s.count, mark, q)
 }
 
-// ---- whether numbers are a state's
+// ---- whether numbers are a state's: by the question, the fields that it uses are in order and the rest are 0
 
-fn same_numbers(f: StateNumbers, g: StateNumbers) -> bool
-    ensures { λ r. ⌜ r ≡ sameNumbers f g ⌝ }
+fn no_place(f: StateNumbers) -> bool
+    ensures { λ r. ⌜ r ≡ noPlace f ⌝ }
 {
-    let asked = (f.count == g.count) & (f.mark == g.mark) & (f.question == g.question);
-    let place = (f.id == g.id) & (f.start == g.start) & (f.n == g.n);
-    let memory = (f.chunks == g.chunks) & (f.bytes == g.bytes) & (f.commit == g.commit);
-    let whose = (f.exclusive == g.exclusive) & (f.waiting == g.waiting) & (f.commits == g.commits);
-    let sweep = (f.cause == g.cause) & (f.force == g.force) & (f.now == g.now);
-    let rest = (f.delay == g.delay) & (f.decommit == g.decommit) & (f.purged == g.purged);
-    asked & place & memory & whose & sweep & rest
+    (f.id == 0) & (f.start == 0)
+}
+
+fn no_memory(f: StateNumbers) -> bool
+    ensures { λ r. ⌜ r ≡ noMemory f ⌝ }
+{
+    (f.chunks == 0) & (f.bytes == 0) & (f.commit == 0) & (f.exclusive == 0)
+}
+
+fn no_waiting(f: StateNumbers) -> bool
+    ensures { λ r. ⌜ r ≡ noWaiting f ⌝ }
+{
+    (f.waiting == 0) & (f.commits == 0) & (f.cause == 0)
+}
+
+fn no_sweep(f: StateNumbers) -> bool
+    ensures { λ r. ⌜ r ≡ noSweep f ⌝ }
+{
+    let flags = (f.force == 0) & (f.decommit == 0);
+    let ages = (f.now == 0) & (f.delay == 0);
+    flags & ages & (f.purged == 0)
+}
+
+// Who waits for memory: a reserve, or a claim of n chunks.
+fn is_waiting(f: StateNumbers) -> bool
+    ensures { λ r. ⌜ r ≡ isWaiting f ⌝ }
+{
+    let waiting = f.waiting;
+    if waiting == 1 {
+        return f.commits <= 1;
+    }
+    (waiting == 0) & (f.commits == 0) & (f.n == 0)
+}
+
+fn is_cause(cause: u32) -> bool
+    ensures { λ r. ⌜ r ≡ isCause cause ⌝ }
+{
+    (cause == 12) | (cause == 7) | (cause == 13)
+}
+
+// No question is open.
+fn is_calm(f: StateNumbers) -> bool
+    ensures { λ r. ⌜ r ≡ isCalm f ⌝ }
+{
+    let place = no_place(f);
+    let memory = no_memory(f);
+    let waiting = no_waiting(f);
+    let sweep = no_sweep(f);
+    place & (f.n == 0) & memory & waiting & sweep
+}
+
+// A question about chunks of an arena.
+fn is_placed(f: StateNumbers) -> bool
+    ensures { λ r. ⌜ r ≡ isPlaced f ⌝ }
+{
+    let memory = no_memory(f);
+    let waiting = no_waiting(f);
+    if f.question == 1 {
+        let sweep = no_sweep(f);
+        return memory & waiting & sweep;
+    }
+    let flags = (f.force <= 1) & (f.decommit <= 1);
+    memory & waiting & flags & (f.n == 0)
+}
+
+// A question about memory.
+fn is_of_memory(f: StateNumbers) -> bool
+    ensures { λ r. ⌜ r ≡ isOfMemory f ⌝ }
+{
+    let place = no_place(f);
+    let waiting = is_waiting(f);
+    let sweep = no_sweep(f);
+    let others = place & waiting & sweep;
+    if f.question == 3 {
+        let flags = (f.commit <= 1) & (f.exclusive <= 1);
+        return others & flags & (f.cause == 0);
+    }
+    let memory = no_memory(f);
+    let cause = is_cause(f.cause);
+    others & memory & cause
 }
 
 pub fn is_state(f: StateNumbers) -> bool
     ensures { λ r. ⌜ r ≡ isState f ⌝ }
 {
-    let s = state_of(f);
-    let g = numbers_of(s);
-    same_numbers(g, f)
+    let kind = f.question;
+    let marked = f.mark <= 1;
+    if kind == 0 {
+        let calm = is_calm(f);
+        return marked & calm;
+    }
+    if kind <= 2 {
+        let placed = is_placed(f);
+        return marked & placed;
+    }
+    let asks = is_of_memory(f);
+    marked & ((kind <= 4) & asks)
 }

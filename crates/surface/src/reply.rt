@@ -1,7 +1,7 @@
 // The layer's answers in numbers: what the C surface hands out. include/sirqobal.h declares the struct.
 ghost use mathlib.Core.Path.{_≡_};
 ghost use mathlib.Core.Bool.{false};
-ghost use Rattle.surface.specs.Replies.{replyNumbers, askNumbers, answerNumbers, replyOf};
+ghost use Rattle.surface.specs.Replies.{replyNumbers, askNumbers, answerNumbers, brokenNumbers, replyOf};
 use crate::StateNumbers;
 use layer::Answer;
 use layer::Ask;
@@ -24,6 +24,8 @@ pub struct ReplyNumbers {
     pub decommit: bool,
     pub commit: bool,
     pub large: bool,
+    // always 0: it stands where C would leave two bytes unwritten
+    pub spare: u16,
     pub state: StateNumbers,
 }
 
@@ -44,6 +46,7 @@ fn refused(number: u32, state: StateNumbers) -> ReplyNumbers
         decommit: false,
         commit: false,
         large: false,
+        spare: 0,
         state,
     }
 }
@@ -74,6 +77,7 @@ fn asked(
         decommit,
         commit,
         large,
+        spare: 0,
         state,
     }
 }
@@ -104,6 +108,7 @@ fn granted(
         decommit: false,
         commit: false,
         large: false,
+        spare: 0,
         state,
     }
 }
@@ -165,13 +170,24 @@ fn answer_numbers(answer: Answer, state: StateNumbers) -> ReplyNumbers
     }
 }
 
-// Where the state was none, the call is turned down with 1 and leaves the numbers as they came.
-pub fn reply_of(ok: bool, f: StateNumbers, r: Reply) -> ReplyNumbers
-    ensures { λ x. ⌜ x ≡ replyOf ok f r ⌝ }
+// The numbers that came are no state's: row 1, with all as it came.
+pub fn no_state(f: StateNumbers) -> ReplyNumbers
+    ensures { λ r. ⌜ r ≡ brokenNumbers f ⌝ }
 {
-    if !ok {
-        return answer_numbers(Answer::Refused(Refusal::Broken), f);
-    }
+    answer_numbers(Answer::Refused(Refusal::Broken), f)
+}
+
+// The answer of a call that leaves the state as it came, in those numbers.
+pub fn answered(r: Reply, f: StateNumbers) -> ReplyNumbers
+    ensures { λ x. ⌜ x ≡ answerNumbers (r .answer) f ⌝ }
+{
+    let a = r.answer;
+    answer_numbers(a, f)
+}
+
+pub fn reply_of(r: Reply) -> ReplyNumbers
+    ensures { λ x. ⌜ x ≡ replyOf r ⌝ }
+{
     let s = r.state;
     let g = crate::numbers_of(s);
     let a = r.answer;

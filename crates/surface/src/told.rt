@@ -1,7 +1,7 @@
 // What a call of the C surface is told in numbers: the settings, the commitment of a run, the kind of an
 // answer. include/sirqobal.h declares the struct.
 ghost use mathlib.Core.Path.{_≡_};
-ghost use Rattle.surface.specs.Told.{pageOf, settingsOf, toldOf, kindOf};
+ghost use Rattle.surface.specs.Told.{settingsOf, toldOf, kindOf};
 use arena::Commitment;
 use layer::Kind;
 use layer::Settings;
@@ -16,20 +16,9 @@ pub struct SettingsNumbers {
     pub page: u64,
 }
 
-fn page_of(ok: bool, page: u64) -> u64
-    ensures { λ r. ⌜ r ≡ pageOf ok page ⌝ }
+pub fn settings_of(s: SettingsNumbers) -> Settings
+    ensures { λ r. ⌜ r ≡ settingsOf s ⌝ }
 {
-    if ok {
-        return page;
-    }
-    0
-}
-
-// Where the state is none, the page is 0, which row 1 turns down.
-pub fn settings_of(ok: bool, s: SettingsNumbers) -> Settings
-    ensures { λ r. ⌜ r ≡ settingsOf ok s ⌝ }
-{
-    let page = page_of(ok, s.page);
     let decommits = arena::is_on(s.decommits);
     let off = arena::is_on(s.off);
     Settings {
@@ -37,7 +26,7 @@ pub fn settings_of(ok: bool, s: SettingsNumbers) -> Settings
         decommits,
         off,
         reserve: s.reserve,
-        page,
+        page: s.page,
     }
 }
 

@@ -14,7 +14,7 @@ use lib.ListN.{length, set, getD, take, drop, length-set}
 use lib.Seq.{getD-drop}
 use Rattle.words.specs.Bits.{bitAt}
 use Rattle.words.specs.Rows.{clearRun}
-use Rattle.words.proofs.Tests.{by-cond, when}
+use Rattle.words.proofs.Tests.{by-cond}
 use Rattle.words.proofs.RowLaws.{Stands, before, inside, after, stands, within-before, within-after, lt-or-le}
 use Rattle.runs.specs.declared.Found.{Found}
 use Rattle.runs.specs.declared.Found.the-variants.{At, Nothing}
@@ -39,7 +39,8 @@ use Rattle.layer.specs.Table.{at, sound}
 use Rattle.layer.specs.Sweeping.{purgeReply, sweptReply, visitAt, visit, sweepFrom}
 use Rattle.layer.specs.Answering.{isFor, answerPurge, answerOf}
 use Rattle.layer.specs.Step.{Call, reserve, manage, adopt, claim, release, sweep, answer, owns, area, sweepOf, stepOn, act, query, rules}
-use Rattle.layer.proofs.Tools.{at-same, at-other}
+use Rattle.layer.proofs.Tools.{at-same, at-other, by-not}
+use Rattle.layer.proofs.Calls.{past-1}
 use Rattle.layer.proofs.Kept.{SoundWorld, return-range}
 use Rattle.layer.proofs.Stepped.{Words, sound-facts, step-on-kept}
 use Rattle.sweep_laws.specs.Run.{isPurging, Made, Run, isOpen, more, goOn, withCount}
@@ -287,7 +288,7 @@ module _ (S : ℕ) (some : 0 < S) (l₀ : List Arena) (stamps : List ℕ) (k : �
       → Fares (rules S (worldOf l stamps (stateOf k mark (Purging i j (withCount first n)))) ns settings c .world)
   unfolding rules
   called l i j n ns settings c t q =
-      by-cond (λ (o : Outcome). Fares (o .world)) (sound S (worldOf l stamps (stateOf k mark (Purging i j (withCount first n)))) (settings .page)) _ _
+      by-not (λ (o : Outcome). Fares (o .world)) (sound S (worldOf l stamps (stateOf k mark (Purging i j (withCount first n)))) (settings .page)) _ _
       (λ e. go (during S l stamps k mark i j (withCount first n) ns settings c) (step-on-kept S some l stamps k mark (t .table) (t .stamps) (Purging i j (withCount first n)) ns settings c (t .question)))
       (λ e. going l i j n t q refl)
     where
@@ -363,7 +364,7 @@ sweep-leaves S some w ns settings force calls words small passed idle = go _ (go
     begins =
         let f = sound-facts S w (settings .page) words passed .0 in
         subst (λ (o : Outcome). Fares S some l (w .stamps) k (w .state .mark) first clocked (o .world))
-        (sym (when (sound S w (settings .page)) _ _ passed ∙ ap (λ (q : Question). stepOn S l (w .stamps) k (w .state .mark) q ns settings (act (sweep force))) idle))
+        (sym (past-1 S w ns settings passed (act (sweep force)) ∙ ap (λ (q : Question). stepOn S l (w .stamps) k (w .state .mark) q ns settings (act (sweep force))) idle))
         (fares S some l (w .stamps) k (w .state .mark) first clocked 0 _ (step-on-kept S some l (w .stamps) k (w .state .mark) (f .table) (f .stamps) Idle ns settings (act (sweep force)) tt)
         (sweep-goes S l (w .stamps) k (w .state .mark) first clocked k 0 l (omega arith) (omega (arith, f .table .long, f .table .few)) (λ i u. (λ v. absurd (omega arith), λ v. refl))))
 

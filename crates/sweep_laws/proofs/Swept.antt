@@ -27,6 +27,8 @@ use Rattle.layer.specs.Table.{at, isAt, findArena, sound}
 use Rattle.layer.specs.Sweeping.{sweepFrom}
 use Rattle.layer.specs.Answering.{isFor, counted, answerPurge, answerOf}
 use Rattle.layer.specs.Step.{Call, reserve, manage, adopt, claim, release, sweep, answer, owns, area, areaOf, sweepOf, stepOn, act, query, rules}
+use Rattle.layer.proofs.Tools.{by-not}
+use Rattle.layer.proofs.Calls.{past-1}
 use Rattle.layer.proofs.Kept.{SoundWorld}
 use Rattle.layer.proofs.Stepped.{Words, sound-facts, step-on-kept}
 use Rattle.sweep_laws.specs.Run.{pendingIn, pendingBits, asksPurge, isRefused, isYes, saysYes, isPurging, Made, Run, isOpen, more, goOn, withCount, runSweep}
@@ -153,7 +155,7 @@ module _ (first : Sweep) (S bits : ℕ) (some : 0 < S) (l : List Arena) (stamps 
   called : (call : Call) → After call (rules S (worldOf l stamps (stateOf k mark (Purging i j w))) ns settings call)
   unfolding rules
   called call =
-      by-cond (After call) (sound S (worldOf l stamps (stateOf k mark (Purging i j w))) (settings .page)) _ _
+      by-not (After call) (sound S (worldOf l stamps (stateOf k mark (Purging i j w))) (settings .page)) _ _
       (λ e. during call (step-on-kept S some l stamps k mark (t .table) (t .stamps) (Purging i j w) ns settings call (t .question))) (λ e. refused call Broken)
 
 -- ---- call after call
@@ -191,7 +193,7 @@ module _ (S : ℕ) (some : 0 < S) (w : World) (ns : ℕ) (settings : Settings) (
       let k = w .state .count in
       let m = w .state .mark in
       subst (λ (o : Outcome). Fares first S (pendingBits l k) (record { questions = asksPurge (o .answer); yes = 0; last = o }))
-      (sym (when (sound S w (settings .page)) _ _ passed ∙ ap (λ (q : Question). stepOn S l (w .stamps) k m q ns settings (act (sweep force))) idle))
+      (sym (past-1 S w ns settings passed (act (sweep force)) ∙ ap (λ (q : Question). stepOn S l (w .stamps) k m q ns settings (act (sweep force))) idle))
       (let o = sweepFrom S (w .stamps) k m (sweepOf force ns settings) k 0 l in
       subst (λ (n : ℕ). Fares first S (pendingBits l k) (record { questions = n; yes = 0; last = o })) (zero-add (asksPurge (o .answer)))
       (fares first S (pendingBits l k) (pendingBits l k) (w .stamps) k m (sweepOf force ns settings) 0 0 refl (omega arith) o

@@ -1,4 +1,6 @@
-pub mod GoingLaws
-pub mod LentLaws
-pub mod Steps
+pub mod VisitLaws
+pub mod SweepLaws
+pub mod AnswerLaws
+pub mod EntryLaws
+pub mod Looked
 pub mod Callable

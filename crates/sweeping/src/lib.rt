@@ -1,172 +1,308 @@
-// A sweep over the lent records from a place on, until it has a question or ends. What a sweep does at one
-// arena stands in `sweeps`.
+// Sweeps: `purge_due`, and the answer to the question that a sweep has put. "Arenas by id, chunks ascending", until
+// a chunk is to be asked about or no arena is left.
 ghost use mathlib.Core.Path.{_≡_};
-ghost use Prim.Native.Nat.{ℕ, _+_, _-_, _*_, _^_, _<_, _≤_};
+ghost use mathlib.Core.Bool.{true};
+ghost use Prim.Native.Nat.{_+_, _-_, _*_, _^_, _<_, _≤_};
 ghost use lib.ListN.{length, set};
-ghost use mathlib.Core.Bool.{false};
+ghost use Rattle.words.specs.Rows.{clearRun};
+ghost use Rattle.arena.specs.Sweeping.{sweepDue, nextAsked};
 ghost use Rattle.purge.specs.Stamps.{stampsOf};
-ghost use Rattle.layer.specs.World.{replyOf};
-ghost use Rattle.layer.specs.Sweeping.{sweepFrom, sweptReply};
-ghost use Rattle.layer.specs.Table.{at};
-ghost use Rattle.sweeps.specs.Core.{isAsked, arriveFound, arriveArena, arriveReply};
-ghost use Rattle.sweeping.specs.Going.{Ranged, nextPlace, passes, visitOf};
+ghost use Rattle.purge.specs.Maps.{nextDeadline};
+ghost use Rattle.layer.specs.World.{sizeOf, worldOf, Leaves};
+ghost use Rattle.layer.specs.Table.{at, isAt};
+ghost use Rattle.layer.specs.Sweeping.{purgeReply, sweptReply, sweepFrom};
+ghost use Rattle.layer.specs.Answering.{counted, answerPurge};
+ghost use Rattle.layer.specs.Step.{sweep, sweepOf, step, act};
+ghost use Rattle.judge.specs.Heads.{headed};
+ghost use Rattle.state.specs.Ready.{Ready, Stamped};
+ghost use Rattle.sweeping.specs.Visit.{comesDue, chunkOf, askedAt, visited, Sweepable, Borrowed};
 use arena::Arena;
+use judge::Head;
+use layer::Answer;
+use layer::Ask;
+use layer::Question;
 use layer::Reply;
+use layer::Settings;
 use layer::State;
 use layer::Sweep;
-use sweeps::Stay;
+use refusals::Refusal;
+use runs::Found;
 
-// The sweep as it comes to arena id, whose record is a.
-fn stay_at(
-    stamps: &[u32],
-    id: usize,
-    a: Arena,
-    w: Sweep,
-    count: usize,
-    mark: bool,
-    chunk_size: u64,
-) -> Stay
-    requires { ⌜ («chunk_size» ≤ 4294967296) × (a .chunks ≤ 1024) × (a .base + a .chunks * «chunk_size» < 2 ^ 64) × (id < 32) × (length (now stamps) ≡ 32768) ⌝ }
-    ensures { λ r. ⌜ (r .arena ≡ arriveArena w a (stampsOf (now (stamps .entry)) id)) × (r .asked ≡ isAsked (arriveFound w a (stampsOf (now (stamps .entry)) id))) × (r .reply ≡ arriveReply «chunk_size» count mark w id a (stampsOf (now (stamps .entry)) id)) ⌝ }
+// ---- replies
+
+// The question about chunk j of arena i.
+fn purge_question(h: Head, state: State, i: usize, j: usize, w: Sweep, chunk_size: u64) -> Reply
+    requires { ⌜ h .base + j * «chunk_size» < 2 ^ 64 ⌝ }
+    ensures { λ r. ⌜ r ≡ purgeReply «chunk_size» (state .count) (state .mark) w i (headed h) j ⌝ }
 {
-    sweeps::arrive(a, stamps, id, w, count, mark, chunk_size)
+    let address = h.base + (j as u64) * chunk_size;
+    let ask = Ask::AskPurge {
+        address,
+        bytes: chunk_size,
+        decommit: w.decommit,
+    };
+    let question = Question::Purging {
+        id: i,
+        chunk: j,
+        sweep: w,
+    };
+    state::asked(Answer::Asks(ask), state.count, state.mark, question)
 }
 
-// The record that a stay leaves.
-pub fn arena_left(s: Stay) -> Arena
-    ensures { λ r. ⌜ r ≡ s .arena ⌝ }
+// The same, its address from the record where it lies.
+fn question_at(records: &[Arena], state: State, i: usize, j: usize, w: Sweep) -> Reply
+    requires { ⌜ (i < length (now records)) × (at (now records) i .base + j * sizeOf state < 2 ^ 64) ⌝ }
+    ensures { λ r. ⌜ r ≡ purgeReply (sizeOf state) (state .count) (state .mark) w i (at (now (records .entry)) i) j ⌝ }
 {
-    s.arena
+    let size = state::chunk_size(state);
+    let h = table::head_at(records, i);
+    purge_question(h, state, i, j, w, size)
 }
 
-// ---- a visit
-
-// What a visit to an arena says, beside the record that it leaves there: whether a chunk is asked about, and the
-// reply.
-pub struct Visit {
-    pub asked: bool,
-    pub reply: Reply,
+// The end of a sweep: "The count is the number of yes answers."
+fn swept(state: State, w: Sweep) -> Reply
+    ensures { λ r. ⌜ r ≡ sweptReply (state .count) (state .mark) w ⌝ }
+{
+    state::settled(Answer::Swept(w.purged), state.count, state.mark)
 }
 
-// Whether the sweep passes an arena of that deadline by.
-fn passes_by(due: &u32, w: Sweep) -> bool
-    ensures { λ r. ⌜ r ≡ passes (now (due .entry)) w ⌝ }
+// ---- at one arena
+
+// Whether a sweep works on an arena of that deadline: one is set, and has come or is forced.
+fn comes_due(due: &u32, w: Sweep) -> bool
+    ensures { λ r. ⌜ r ≡ comesDue (now (due .entry)) w ⌝ }
 {
     let d = *due;
     if d == 0 {
-        return true;
-    }
-    if w.force {
         return false;
     }
-    !clock::is_due(d, w.now)
+    if w.force {
+        return true;
+    }
+    clock::is_due(d, w.now)
 }
 
-// The same of the record at an id, whose deadline is read where it lies.
-fn passes_at(records: &[Arena], i: usize, w: Sweep) -> bool
+// The same of the arena at an id, whose deadline is read where it lies.
+fn is_due_at(records: &[Arena], i: usize, w: Sweep) -> bool
     requires { ⌜ i < length (now records) ⌝ }
-    ensures { λ r. ⌜ r ≡ passes (at (now (records .entry)) i .deadline) w ⌝ }
+    ensures { λ r. ⌜ r ≡ sweepDue (at (now (records .entry)) i) (w .force) (w .now) ⌝ }
 {
-    passes_by(&records[i].deadline, w)
+    comes_due(&records[i].deadline, w)
 }
 
-// At any id: what stands past the end has no deadline.
-fn passes_or(records: &[Arena], i: usize, w: Sweep) -> bool
-    ensures { λ r. ⌜ r ≡ passes (at (now (records .entry)) i .deadline) w ⌝ }
+// The next chunk of arena i to ask about, from a place on.
+fn next_chunk(stamps: &[u32], a: Arena, i: usize, w: Sweep, from: usize) -> Found
+    requires { ⌜ (a .chunks ≤ 1024) × (i < 32) × Stamped (now stamps) ⌝ }
+    ensures { λ r. ⌜ r ≡ nextAsked a (stampsOf (now (stamps .entry)) i) (w .force) (w .now) (w .delay) from ⌝ }
 {
-    if i < records.len() {
-        return passes_at(records, i, w);
+    let pending = a.pending;
+    let used = a.used;
+    purge::next_asked_of(
+        &pending,
+        &used,
+        a.chunks,
+        stamps,
+        i,
+        w.force,
+        w.now,
+        w.delay,
+        from,
+    )
+}
+
+// The chunk that was found.
+fn chunk_of(f: Found) -> usize
+    requires { ⌜ isAt f ≡ true ⌝ }
+    ensures { λ r. ⌜ r ≡ chunkOf f ⌝ }
+{
+    match f {
+        Found::At(j) => j,
+        Found::Nothing => 0,
     }
-    true
 }
 
-// Nothing is asked.
-fn quiet(count: usize, mark: bool, w: Sweep) -> Visit
-    ensures { λ r. ⌜ r ≡ record { asked = false; reply = sweptReply count mark w } ⌝ }
+// The deadline of arena i, armed anew after it was disarmed.
+fn deadline_anew(stamps: &[u32], a: Arena, i: usize, w: Sweep) -> u32
+    requires { ⌜ (a .chunks ≤ 1024) × (i < 32) × Stamped (now stamps) ⌝ }
+    ensures { λ r. ⌜ r ≡ nextDeadline 0 (a .pending) (a .chunks) (stampsOf (now (stamps .entry)) i) (w .force) (w .now) (w .delay) ⌝ }
 {
-    let reply = sweeps::swept_reply(count, mark, w);
-    Visit {
-        asked: false,
-        reply,
-    }
+    purge::next_deadline_of(0, &a.pending, a.chunks, stamps, i, w.force, w.now, w.delay)
 }
 
-fn visit_of(s: Stay) -> Visit
-    ensures { λ r. ⌜ r ≡ record { asked = s .asked; reply = s .reply } ⌝ }
+// Its deadline once chunk j, which is pending no more, has come back.
+fn deadline_without(stamps: &[u32], a: Arena, i: usize, w: Sweep, j: usize) -> u32
+    requires { ⌜ (a .chunks ≤ 1024) × (i < 32) × Stamped (now stamps) × (j < 1024) ⌝ }
+    ensures { λ r. ⌜ r ≡ nextDeadline (a .deadline) (clearRun (a .pending) j 1) (a .chunks) (stampsOf (now (stamps .entry)) i) (w .force) (w .now) (w .delay) ⌝ }
 {
-    let asked = s.asked;
-    let reply = s.reply;
-    Visit { asked, reply }
+    let pending = a.pending;
+    let settled = rows::row_cleared(pending, j, 1);
+    purge::next_deadline_of(
+        a.deadline,
+        &settled,
+        a.chunks,
+        stamps,
+        i,
+        w.force,
+        w.now,
+        w.delay,
+    )
 }
 
-// The sweep at arena i. A record that it passes by is not copied.
-fn visit_at(
-    records: &mut [Arena],
-    stamps: &mut [u32],
-    i: usize,
-    count: usize,
-    mark: bool,
-    w: Sweep,
-    chunk_size: u64,
-) -> Visit
-    requires { ⌜ («chunk_size» ≤ 4294967296) × (at (now records) i .chunks ≤ 1024) × (at (now records) i .base + at (now records) i .chunks * «chunk_size» < 2 ^ 64) × (i < 32) × (length (now stamps) ≡ 32768) ⌝ }
-    ensures { λ r. ⌜ (r ≡ visitOf «chunk_size» count mark w i (at (now (records .entry)) i) (stampsOf (now (stamps .entry)) i)) × (now (records .exit) ≡ set (now (records .entry)) i (arriveArena w (at (now (records .entry)) i) (stampsOf (now (stamps .entry)) i))) × (now (stamps .exit) ≡ now (stamps .entry)) ⌝ }
-{
-    if passes_or(records, i, w) {
-        return quiet(count, mark, w);
-    }
-    let a = records::load_or(records, i);
-    let s = stay_at(stamps, i, a, w, count, mark, chunk_size);
-    let left = arena_left(s);
-    records::store_if(records, i, left);
-    visit_of(s)
-}
-
-fn reply_left(v: Visit) -> Reply
-    ensures { λ r. ⌜ r ≡ v .reply ⌝ }
-{
-    v.reply
-}
-
-// The give-up mark, which a sweep leaves.
-pub fn mark_of(state: State) -> bool
-    ensures { λ r. ⌜ r ≡ state .mark ⌝ }
-{
-    state.mark
-}
-
-// Where a sweep goes on: past the last arena once a question is put.
-fn next_place(i: usize, v: Visit, count: usize) -> usize
-    requires { ⌜ i < count ⌝ }
-    ensures { λ r. ⌜ r ≡ nextPlace i (v .asked) count ⌝ }
-{
-    if v.asked {
-        return count;
-    }
-    i + 1
-}
-
-// The sweep over the arenas from a place on.
-pub fn sweep_on(
-    records: &mut [Arena],
-    stamps: &mut [u32],
-    from: usize,
-    count: usize,
-    mark: bool,
-    w: Sweep,
-    chunk_size: u64,
-) -> Reply
-    requires { ⌜ («chunk_size» ≤ 4294967296) × (count ≤ 32) × (0 < count → length (now stamps) ≡ 32768) × Ranged «chunk_size» (now records) count ⌝ }
-    ensures { λ r. ⌜ (r ≡ replyOf (sweepFrom «chunk_size» (now (stamps .entry)) count mark w (count - from) from (now (records .entry))))
-        × (now (records .exit) ≡ sweepFrom «chunk_size» (now (stamps .entry)) count mark w (count - from) from (now (records .entry)) .world .records)
+// The sweep comes to arena i. The chunk that is to be asked about, if there is one, is borrowed.
+fn visit(records: &mut [Arena], stamps: &mut [u32], i: usize, w: Sweep) -> Found
+    requires { ⌜ (i < length (now records)) × (i < 32) × (at (now records) i .chunks ≤ 1024) × Stamped (now stamps) ⌝ }
+    ensures { λ r. ⌜ (r ≡ askedAt w (at (now (records .entry)) i) (stampsOf (now (stamps .entry)) i))
+        × (now (records .exit) ≡ set (now (records .entry)) i (visited w (at (now (records .entry)) i) (stampsOf (now (stamps .entry)) i)))
         × (now (stamps .exit) ≡ now (stamps .entry)) ⌝ }
 {
-    let mut i = from;
-    let mut reply = sweeps::swept_reply(count, mark, w);
-    while i < count {
-        let v = visit_at(records, stamps, i, count, mark, w, chunk_size);
-        reply = reply_left(v);
-        i = next_place(i, v, count);
+    if !is_due_at(records, i, w) {
+        return judge::row_parts::nothing();
     }
-    reply
+    let a = records::load(records, i);
+    let f = next_chunk(stamps, a, i, w, 0);
+    if judge::row_parts::is_at(f) {
+        let j = chunk_of(f);
+        let b = arena::arena_sweeps::first_borrowed(a, j);
+        records::store(records, i, b);
+        return judge::row_parts::found(j);
+    }
+    let due = deadline_anew(stamps, a, i, w);
+    let c = arena::arena_sweeps::armed_anew(a, due);
+    records::store(records, i, c);
+    judge::row_parts::nothing()
+}
+
+// ---- over the arenas
+
+// The sweep over the arenas from an id on.
+fn sweep_on(records: &mut [Arena], stamps: &mut [u32], state: State, from: usize, w: Sweep) -> Reply
+    requires { ⌜ Sweepable (now records) state × Stamped (now stamps) ⌝ }
+    ensures { λ r. ⌜ Leaves (sweepFrom (sizeOf state) (now (stamps .entry)) (state .count) (state .mark) w (state .count - from) from (now (records .entry))) r (now (records .exit)) (now (stamps .exit)) ⌝ }
+{
+    let count = state::count_of(state);
+    let mut i = from;
+    while i < count {
+        let f = visit(records, stamps, i, w);
+        if judge::row_parts::is_at(f) {
+            let j = chunk_of(f);
+            return question_at(records, state, i, j, w);
+        }
+        i = i + 1;
+    }
+    swept(state, w)
+}
+
+// "A sweep keeps its first clock and settings until it ends."
+fn sweep_of(force: bool, ns: u64, settings: Settings) -> Sweep
+    ensures { λ r. ⌜ r ≡ sweepOf force ns settings ⌝ }
+{
+    Sweep {
+        force,
+        now: clock::now_ms(ns),
+        delay: clock::delay_ms(settings.delay),
+        decommit: settings.decommits,
+        purged: 0,
+    }
+}
+
+// A sweep of all arenas, on a table that rows 1 and 2 let pass.
+pub fn sweep(
+    records: &mut [Arena],
+    stamps: &mut [u32],
+    state: State,
+    ns: u64,
+    settings: Settings,
+    force: bool,
+) -> Reply
+    requires { ⌜ Ready (now records) state × Stamped (now stamps) ⌝ }
+    ensures { λ r. ⌜ Leaves (sweepFrom (sizeOf state) (now (stamps .entry)) (state .count) (state .mark) (sweepOf force ns settings) (state .count) 0 (now (records .entry))) r (now (records .exit)) (now (stamps .exit)) ⌝ }
+{
+    let w = sweep_of(force, ns, settings);
+    sweep_on(records, stamps, state, 0, w)
+}
+
+// ---- the answer to a purge question
+
+// The sweep with one yes more, if it is one.
+fn count_answer(w: Sweep, granted: bool) -> Sweep
+    requires { ⌜ w .purged ≤ 32768 ⌝ }
+    ensures { λ r. ⌜ r ≡ counted w granted ⌝ }
+{
+    if granted {
+        return Sweep {
+            purged: w.purged + 1,
+            ..w
+        };
+    }
+    w
+}
+
+// Whether the sweep asks for decommits.
+fn decommits(w: Sweep) -> bool
+    ensures { λ r. ⌜ r ≡ w .decommit ⌝ }
+{
+    w.decommit
+}
+
+// The place behind one.
+fn behind(x: usize) -> usize
+    requires { ⌜ x < 1024 ⌝ }
+    ensures { λ r. ⌜ r ≡ x + 1 ⌝ }
+{
+    x + 1
+}
+
+// Chunk `chunk` of arena `id`, which was borrowed for its question, comes back, and the sweep goes on behind it.
+// What is behind it is not changed by its coming back, so the next chunk is looked for first.
+pub fn answer_purge(
+    records: &mut [Arena],
+    stamps: &mut [u32],
+    state: State,
+    id: usize,
+    chunk: usize,
+    w: Sweep,
+    granted: bool,
+) -> Reply
+    requires { ⌜ Borrowed (now records) (now stamps) state id chunk w ⌝ }
+    ensures { λ r. ⌜ Leaves (answerPurge (sizeOf state) (now (records .entry)) (now (stamps .entry)) (state .count) (state .mark) id chunk w granted) r (now (records .exit)) (now (stamps .exit)) ⌝ }
+{
+    let v = count_answer(w, granted);
+    let decommit = decommits(w);
+    let start = behind(chunk);
+    let a = records::load(records, id);
+    let f = next_chunk(stamps, a, id, v, start);
+    if judge::row_parts::is_at(f) {
+        let j = chunk_of(f);
+        let b = arena::arena_sweeps::next_borrowed(a, chunk, granted, decommit, j);
+        records::store(records, id, b);
+        return question_at(records, state, id, j, v);
+    }
+    let due = deadline_without(stamps, a, id, v, chunk);
+    let c = arena::arena_sweeps::last_returned(a, chunk, granted, decommit, due);
+    records::store(records, id, c);
+    let rest = behind(id);
+    sweep_on(records, stamps, state, rest, v)
+}
+
+// ---- the entry point
+
+// A sweep of all arenas, until it has a question or ends: rows 1 and 2, then the sweep.
+pub fn purge_due(
+    records: &mut [Arena],
+    stamps: &mut [u32],
+    state: State,
+    ns: u64,
+    settings: Settings,
+    force: bool,
+) -> Reply
+    ensures { λ r. ⌜ Leaves (step (worldOf (now (records .entry)) (now (stamps .entry)) state) ns settings (act (sweep force))) r (now (records .exit)) (now (stamps .exit)) ⌝ }
+{
+    let size = state::chunk_size(state);
+    if !table::row_one(records, stamps.len(), state, settings.page, size) {
+        return state::refuse(Refusal::Broken, state);
+    }
+    if !state::is_idle(state) {
+        return state::refuse(Refusal::QuestionOpen, state);
+    }
+    sweep(records, stamps, state, ns, settings, force)
 }

@@ -1,4 +1,3 @@
+pub mod TurnLaws
 pub mod TableLaws
-mod Leaf
-pub mod Steps
 pub mod Callable

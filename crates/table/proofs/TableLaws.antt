@@ -1,65 +1,131 @@
--- What row 1 says of the table, as the code tests it: by scans. S is the size of a chunk. Assumes nothing.
-use mathlib.Core.Path.{_≡_, refl, sym, ap, subst, _∙_}
-use mathlib.Core.Bool.{Bool, true, false, not, cond, _&&_, _||_}
+-- The searches over the table and row 1, by what their loops know. S is the size of a chunk. Assumes nothing.
+use mathlib.Core.Path.{_≡_, refl, sym, ap, ap₂, subst, _∙_}
+use mathlib.Core.Bool.{Bool, true, false, not, _&&_, _||_}
 use mathlib.Core.List.{List}
-use mathlib.Core.Logic.{⊎-elim}
-use Prim.Native.Nat.{ℕ, zero, suc, _+_, _*_, _^_, _<_, _≤_}
+use Prim.Native.Nat.{ℕ, _+_, _*_, _^_, _<_, _≤_}
 use native.Mathlib.Omega.{arith}
 use native.Mathlib.Nat.{not-suc-le-zero}
-use borrow.Author.Tests.{ltb-true, ltb-false, leb-true}
+use borrow.Author.Tests.{ltb-true, ltb-false, leb-true, leb-false, eqb-true}
 use lib.Dec.{eqb, leb, ltb}
 use lib.ListN.{length}
-use Rattle.words.proofs.RowLaws.{lt-or-le}
+use Rattle.words.specs.Bits.{bitAt}
 use Rattle.runs.specs.declared.Found.{Found}
-use Rattle.runs.specs.declared.Found.the-variants.{At}
-use Rattle.runs.specs.Lowest.{all, least}
+use Rattle.runs.specs.declared.Found.the-variants.{At, Nothing}
+use Rattle.runs.specs.Lowest.{all}
 use Rattle.runs.proofs.LowestLaws.{all-free-of, least-none}
+use Rattle.runs.proofs.SearchLaws.{and-both}
 use Rattle.options.specs.Options.{pageSizeSound}
 use Rattle.arena.specs.declared.Arena.{Arena}
-use Rattle.lookup.specs.Place.{bytesOf, endOf}
-use Rattle.lookup.specs.Soundness.{soundArena}
-use Rattle.lookup.proofs.SoundLaws.{arena-facts}
-use Rattle.layer.specs.World.{blank}
+use Rattle.lookup.specs.Place.{bytesOf, endOf, isInside}
+use Rattle.lookup.specs.Soundness.{soundRange, clearPastAll, soundArena}
+use Rattle.lookup.proofs.SoundLaws.{range-facts, full-clear, sound-range}
 use Rattle.layer.specs.declared.State.{State}
-use Rattle.layer.specs.Table.{at, isAt, meets, overlaps, apart, askedId, soundQuestion, soundTable, soundLent}
+use Rattle.layer.specs.declared.Question.{Question}
+use Rattle.layer.specs.Table.{at, isAt, meets, overlaps, findArena, apart, askedId, soundQuestion, soundTable, soundLent}
+use Rattle.layer.specs.Registering.{grows, growing}
+use Rattle.state.specs.Ready.{SoundArenas}
 use Rattle.judge.specs.declared.Head.{Head}
 use Rattle.judge.specs.declared.spans.Span.{Span}
-use Rattle.judge.specs.declared.Query.the-variants.{Unsound, Meets}
-use Rattle.judge.specs.Scan.{hit, scanOf}
+use Rattle.judge.specs.Heads.{headOf, headed}
+use Rattle.judge.specs.Questions.{aboutNone, firstAsked, lengthAsked, soundCount}
 use Rattle.judge.specs.Spans.{outside, Covers}
 use Rattle.judge.proofs.ranges.RangeLaws.{no-meeting}
-use Rattle.records.proofs.Ends.{past}
+use Rattle.judge.proofs.open_question.QuestionLaws.{asks-sound}
+use Rattle.judge.proofs.row_parts.FourLaws.{and-1, and-2, and-3, and-4}
+use Rattle.table.proofs.TurnLaws.{Passed, found-at, found-none, all-passed, one-fails}
 
--- a record that has a chunk is one of the lent
-pub is-lent : (l : List Arena) (i : ℕ) → 1 ≤ at l i .chunks → i < length l
-is-lent l i some =
-    ⊎-elim (λ (h : i < length l). h)
-    (λ (h : length l ≤ i). let none : 1 ≤ blank .chunks = subst (λ (a : Arena). 1 ≤ a .chunks) (sym (past l i blank h)) some in absurd (not-suc-le-zero none)) (lt-or-le i (length l))
-
--- ---- sound records
-
--- all are so, if none is found that is not
-all-least : (p : ℕ → Bool) (s k : ℕ) → all p s k ≡ not (isAt (least (λ i. not (p i)) s k))
-unfolding all least
-all-least p s zero = refl
-all-least p s (suc k) = go (p s) (all-least p (suc s) k)
-  where
-    go : (b : Bool) → all p (suc s) k ≡ not (isAt (least (λ i. not (p i)) (suc s) k))
-        → cond b (all p (suc s) k) false ≡ not (isAt (cond (not b) (At s) (least (λ i. not (p i)) (suc s) k)))
-    go true e = e
-    go false e = refl
+-- an id below the count is one of the lent records
+pub is-lent : (l : List Arena) (k i : ℕ) → k ≤ length l → i < k → i < length l
+is-lent l k i m h = omega (arith, m, h)
 
 module _ (S : ℕ) (l : List Arena) where
-  -- the scan for a record that is not sound by itself
-  pub sounds-scan : (k : ℕ) → all (λ i. soundArena S (at l i)) 0 k ≡ not (isAt (scanOf S l k Unsound))
-  unfolding scanOf hit
-  sounds-scan k = all-least (λ i. soundArena S (at l i)) 0 k
+  abbrev pub sound : ℕ → Bool
+  sound i = soundArena S (at l i)
 
-  pub few-at : (k : ℕ) → all (λ i. soundArena S (at l i)) 0 k ≡ true → (j : ℕ) → j < k → at l j .chunks ≤ 1024
-  few-at k e j m = arena-facts S (at l j) (all-free-of (λ i. soundArena S (at l i)) 0 k e j (omega arith) (omega arith)) .range .few
+  -- the range of a sound record
+  pub range-of : (i : ℕ) → sound i ≡ true → soundRange S (at l i .base) (at l i .chunks) ≡ true
+  unfolding soundArena
+  range-of i e = and-both (soundRange S (at l i .base) (at l i .chunks)) _ e .0
 
-  pub ends-at : (k : ℕ) → all (λ i. soundArena S (at l i)) 0 k ≡ true → (j : ℕ) → j < k → at l j .base + at l j .chunks * S < 2 ^ 64
-  ends-at k e j m = arena-facts S (at l j) (all-free-of (λ i. soundArena S (at l i)) 0 k e j (omega arith) (omega arith)) .range .ends
+  pub range-at : (k : ℕ) → SoundArenas S l k → (i : ℕ) → i < k → soundRange S (at l i .base) (at l i .chunks) ≡ true
+  range-at k arenas i h = range-of i (all-free-of sound 0 k (arenas .1) i (omega arith) (omega (arith, h)))
+
+  pub few-at : (k : ℕ) → all sound 0 k ≡ true → (i : ℕ) → i < k → at l i .chunks ≤ 1024
+  few-at k e i h = range-facts S (at l i .base) (at l i .chunks) (range-of i (all-free-of sound 0 k e i (omega arith) (omega (arith, h)))) .few
+
+  -- ---- the searches: an arena's head decides
+
+  module _ (address : ℕ) where
+    abbrev pub inside : ℕ → Bool
+    inside i = isInside S (at l i) address
+
+    pub inside-by-head : (i : ℕ) (b : Bool) → isInside S (headed (headOf (at l i))) address ≡ b → inside i ≡ b
+    unfolding isInside endOf bytesOf
+    inside-by-head i b e = e
+
+    pub arena-at : (k i : ℕ) → i < k → Passed false inside i → inside i ≡ true → At i ≡ findArena S l k address
+    unfolding findArena
+    arena-at k i h p e = found-at inside k i h p e
+
+    pub no-arena : (k : ℕ) → Passed false inside k → Nothing ≡ findArena S l k address
+    unfolding findArena
+    no-arena k p = found-none inside k p
+
+  module _ (base bytes : ℕ) where
+    abbrev pub met : ℕ → Bool
+    met i = meets S (at l i) base bytes
+
+    pub met-by-head : (i : ℕ) (b : Bool) → meets S (headed (headOf (at l i))) base bytes ≡ b → met i ≡ b
+    unfolding meets endOf bytesOf
+    met-by-head i b e = e
+
+    pub overlap-at : (k i : ℕ) → i < k → Passed false met i → met i ≡ true → true ≡ overlaps S l k base bytes
+    unfolding overlaps
+    overlap-at k i h p e = ap isAt (found-at met k i h p e)
+
+    pub no-overlap : (k : ℕ) → Passed false met k → false ≡ overlaps S l k base bytes
+    unfolding overlaps
+    no-overlap k p = ap isAt (found-none met k p)
+
+  module _ (address n : ℕ) where
+    abbrev pub continued : ℕ → Bool
+    continued i = grows S (at l i) address n
+
+    pub continued-by-head : (i : ℕ) (b : Bool) → grows S (headed (headOf (at l i))) address n ≡ b → continued i ≡ b
+    unfolding grows endOf bytesOf
+    continued-by-head i b e = e
+
+    pub growing-at : (k i : ℕ) → i < k → Passed false continued i → continued i ≡ true → At i ≡ growing S l k address n
+    growing-at k i h p e = found-at continued k i h p e
+
+    pub none-growing : (k : ℕ) → Passed false continued k → Nothing ≡ growing S l k address n
+    none-growing k p = found-none continued k p
+
+  -- ---- one record
+
+  module _ (i : ℕ) (h : Head) (same : h ≡ headOf (at l i)) where
+    range-too : (b : Bool) → soundRange S (h .base) (h .chunks) ≡ b → soundRange S (at l i .base) (at l i .chunks) ≡ b
+    range-too b e = subst (λ (x : Head). soundRange S (x .base) (x .chunks) ≡ b) same e
+
+    pub chunks-too : h .chunks ≡ at l i .chunks
+    chunks-too = ap (λ (x : Head). x .chunks) same
+
+    pub no-range : soundRange S (h .base) (h .chunks) ≡ false → false ≡ sound i
+    unfolding soundArena
+    no-range e = sym (ap (λ (b : Bool). b && clearPastAll (at l i)) (range-too false e))
+
+    pub tails-decide : soundRange S (h .base) (h .chunks) ≡ true → clearPastAll (at l i) ≡ sound i
+    tails-decide e = sound-range S (at l i) (range-too true e)
+
+    pub full-sound : soundRange S (h .base) (h .chunks) ≡ true → leb 1024 (h .chunks) ≡ true → true ≡ sound i
+    full-sound e f =
+        let most : 1024 ≤ h .chunks = leb-true 1024 (h .chunks) f in
+        let few : at l i .chunks ≤ 1024 = range-facts S (at l i .base) (at l i .chunks) (range-too true e) .few in
+        let both : h .chunks ≡ at l i .chunks = chunks-too in
+        sym (full-clear (at l i) (omega (arith, most, few, both))) ∙ tails-decide e
+
+  pub has-tail : (chunks : ℕ) → leb 1024 chunks ≡ false → chunks < 1024
+  has-tail chunks e = leb-false 1024 chunks e
 
   -- ---- apart
 
@@ -67,14 +133,9 @@ module _ (S : ℕ) (l : List Arena) where
   abbrev pub alone : ℕ → Bool
   alone j = not (overlaps S l j (at l j .base) (at l j .chunks * S))
 
-  pub apart-is : (k : ℕ) → all alone 0 k ≡ apart S l k
+  apart-is : (k : ℕ) → all alone 0 k ≡ apart S l k
   unfolding apart bytesOf
   apart-is k = refl
-
-  -- a scan for what meets the range
-  pub scan-overlaps : (j base bytes : ℕ) → not (isAt (scanOf S l j (Meets base bytes))) ≡ not (overlaps S l j base bytes)
-  unfolding overlaps scanOf hit
-  scan-overlaps j base bytes = refl
 
   -- any span covers no arena
   pub covers-none : (s : Span) → Covers S s l 0
@@ -105,19 +166,110 @@ module _ (S : ℕ) (l : List Arena) where
           let below = leb-true (h .base + h .chunks * S) (s .lo) (sym (ap (λ (b : Bool). b || leb (h .base + h .chunks * S) (s .lo)) t) ∙ e) in
           omega (arith, d .0, m₂, below)
 
-  -- ---- row 1
+  -- ---- the arenas, one after the other
 
-  pub row-is : (stamps : ℕ) (state : State) (page : ℕ)
-      → (eqb (length l) 32 && (eqb stamps 32768 && (pageSizeSound page && leb (state .count) 32)))
-      && (not (isAt (scanOf S l (state .count) Unsound)) && (apart S l (state .count) && soundQuestion (at l (askedId (state .question))) (state .count) (state .question)))
-      ≡ soundLent S l stamps state page
+  module _ (k : ℕ) where
+    -- those that were passed are sound
+    pub passed-sound : (i : ℕ) → k ≤ length l → i < k → Passed true sound i → SoundArenas S l i
+    passed-sound i m h p = (omega (arith, m, h), all-passed sound i p)
+
+    pub one-unsound : (i : ℕ) → i < k → sound i ≡ false → false ≡ all sound 0 k && apart S l k
+    one-unsound i h e = sym (ap (λ (b : Bool). b && apart S l k) (one-fails sound k i h e))
+
+    pub one-overlaps : (i : ℕ) → i < k → alone i ≡ false → false ≡ all sound 0 k && apart S l k
+    one-overlaps i h e = and-off (all sound 0 k) (apart S l k) (sym (apart-is k) ∙ one-fails alone k i h e)
+      where
+        and-off : (x y : Bool) → y ≡ false → false ≡ x && y
+        and-off true y z = sym z
+        and-off false y z = refl
+
+    pub all-sound : Passed true sound k → Passed true alone k → true ≡ all sound 0 k && apart S l k
+    all-sound p q = sym (ap₂ _&&_ (all-passed sound k p) (sym (apart-is k) ∙ all-passed alone k q))
+
+-- ---- the open question
+
+module _ (l : List Arena) (k : ℕ) (q : Question) where
+  abbrev asked : Arena
+  asked = at l (askedId q)
+
+  abbrev there : Bool
+  there = ltb (askedId q) k
+
+  abbrev within : Bool
+  within = leb (firstAsked q + lengthAsked q) (asked .chunks)
+
+  abbrev used : Bool
+  used = all (bitAt (asked .used)) (firstAsked q) (lengthAsked q)
+
+  module _ (some : aboutNone q ≡ false) where
+    pub not-registered : there ≡ false → false ≡ soundQuestion asked k q
+    not-registered a = and-1 there within used (soundCount q) a ∙ asks-sound asked k q some
+
+    pub not-within : there ≡ true → within ≡ false → false ≡ soundQuestion asked k q
+    not-within a b = and-2 there within used (soundCount q) a b ∙ asks-sound asked k q some
+
+    pub not-used : there ≡ true → within ≡ true → used ≡ false → false ≡ soundQuestion asked k q
+    not-used a b c = and-3 there within used (soundCount q) a b c ∙ asks-sound asked k q some
+
+    pub count-decides : there ≡ true → within ≡ true → used ≡ true → soundCount q ≡ soundQuestion asked k q
+    count-decides a b c = and-4 there within used (soundCount q) a b c ∙ asks-sound asked k q some
+
+  -- what the maps and the count are asked for
+  pub run-within : ((i : ℕ) → i < k → at l i .chunks ≤ 1024) → there ≡ true → within ≡ true → firstAsked q + lengthAsked q ≤ 1024
+  run-within few a b =
+      let f : asked .chunks ≤ 1024 = few (askedId q) (ltb-true (askedId q) k a) in
+      let r : firstAsked q + lengthAsked q ≤ asked .chunks = leb-true (firstAsked q + lengthAsked q) (asked .chunks) b in
+      omega (arith, f, r)
+
+  pub asked-low : k ≤ 32 → there ≡ true → askedId q < 32
+  asked-low m a = let i : askedId q < k = ltb-true (askedId q) k a in omega (arith, m, i)
+
+  pub first-low : ((i : ℕ) → i < k → at l i .chunks ≤ 1024) → there ≡ true → within ≡ true → firstAsked q ≤ 1024
+  first-low few a b = let r : firstAsked q + lengthAsked q ≤ 1024 = run-within few a b in omega (arith, r)
+
+-- ---- row 1
+
+module _ (S : ℕ) (l : List Arena) (stamps : ℕ) (state : State) (page : ℕ) where
+  abbrev lengths : Bool
+  lengths = eqb (length l) 32 && (eqb stamps 32768 && (pageSizeSound page && leb (state .count) 32))
+
+  abbrev arenas : Bool
+  arenas = all (sound S l) 0 (state .count) && apart S l (state .count)
+
+  abbrev question : Bool
+  question = soundQuestion (at l (askedId (state .question))) (state .count) (state .question)
+
+  row-is : lengths && (arenas && question) ≡ soundLent S l stamps state page
   unfolding soundLent soundTable
-  row-is stamps state page =
-      ap (λ (t : Bool). (eqb (length l) 32 && (eqb stamps 32768 && (pageSizeSound page && leb (state .count) 32))) && (t && (apart S l (state .count) && soundQuestion (at l (askedId (state .question))) (state .count) (state .question)))) (sym (sounds-scan (state .count)))
-      ∙ inside (eqb (length l) 32) (eqb stamps 32768) (pageSizeSound page) (leb (state .count) 32) _
+  row-is = inside (eqb (length l) 32) (eqb stamps 32768) (pageSizeSound page) (leb (state .count) 32) (all (sound S l) 0 (state .count)) (apart S l (state .count)) question
     where
-      inside : (a b c d r : Bool) → (a && (b && (c && d))) && r ≡ a && (b && (c && (d && r)))
-      inside true true true d r = refl
-      inside true true false d r = refl
-      inside true false c d r = refl
-      inside false b c d r = refl
+      inside : (a b c d s p q : Bool) → (a && (b && (c && d))) && ((s && p) && q) ≡ a && (b && (c && (d && (s && (p && q)))))
+      inside true true true true true p q = refl
+      inside true true true true false p q = refl
+      inside true true true false s p q = refl
+      inside true true false d s p q = refl
+      inside true false c d s p q = refl
+      inside false b c d s p q = refl
+
+  pub lengths-wrong : lengths ≡ false → false ≡ soundLent S l stamps state page
+  lengths-wrong e = sym (ap (λ (b : Bool). b && (arenas && question)) e) ∙ row-is
+
+  module _ (right : lengths ≡ true) where
+    pub lent-32 : (length l ≡ 32) × (state .count ≤ 32)
+    lent-32 =
+        let a = and-both (eqb (length l) 32) _ right in
+        let b = and-both (eqb stamps 32768) _ (a .1) in
+        let c = and-both (pageSizeSound page) _ (b .1) in
+        (eqb-true (length l) 32 (a .0), leb-true (state .count) 32 (c .1))
+
+    pub all-lent : state .count ≤ length l
+    all-lent = let m : length l ≡ 32 = lent-32 .0 in let c : state .count ≤ 32 = lent-32 .1 in omega (arith, m, c)
+
+    pub arenas-wrong : arenas ≡ false → false ≡ soundLent S l stamps state page
+    arenas-wrong e = sym (ap₂ (λ (a b : Bool). a && (b && question)) right e) ∙ row-is
+
+    pub question-decides : arenas ≡ true → question ≡ soundLent S l stamps state page
+    question-decides e = sym (ap₂ (λ (a b : Bool). a && (b && question)) right e) ∙ row-is
+
+    pub few-each : arenas ≡ true → (i : ℕ) → i < state .count → at l i .chunks ≤ 1024
+    few-each e = few-at S l (state .count) (and-both (all (sound S l) 0 (state .count)) _ e .0)

@@ -5,4 +5,5 @@ pub mod Operands
 pub mod Calls
 pub mod Frame
 pub mod Two
+pub mod Shares
 pub mod Walking

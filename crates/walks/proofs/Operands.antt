@@ -3,6 +3,7 @@
 --     Holds            what the operand reads is this value. Its proof is `refl`
 --     arg              the operand
 --     signed           the number that an operand of a signed type stands for
+--     entry-fits       what a local holds is a value of its type
 --     arg-fits         the operand k of the call that is next: its value is one of its type, as a number is below the bound of its width
 -- Assumes `Given`.
 use mathlib.Core.Path.{_≡_, sym, ap, subst}
@@ -123,7 +124,7 @@ module _ {M : Type 1} {𝓤 : URA M} {H : Heap 𝓤} {A : Atoms 𝓤} {K : Type 
 
 module _ {M : Type 1} {𝓤 : URA M} {H : Heap 𝓤} {A : Atoms 𝓤} {K : Type 0} {W : Given 𝓤 H A} {Γ : List (Item 𝓤)} where
   -- what entry n holds is a value of the entry's type
-  entry-fits : K → (n : ℕ) {τ : Ty} {b o : ℕ} {v : Val} {G : Goal 𝓤 H} → nth 𝓤 H A n Γ ≡ ‵ (fat fullShare τ b o v) → (WT v → Seq K W Γ G) → Seq K W Γ G
+  pub entry-fits : K → (n : ℕ) {τ : Ty} {b o : ℕ} {v : Val} {G : Goal 𝓤 H} → nth 𝓤 H A n Γ ≡ ‵ (fat fullShare τ b o v) → (WT v → Seq K W Γ G) → Seq K W Γ G
   entry-fits t n {τ} {b} {o} {v} {G} e k =
       let i : Item 𝓤 = ‵ (fat fullShare τ b o v) in
       let rest : List (Item 𝓤) = del 𝓤 H A n Γ in

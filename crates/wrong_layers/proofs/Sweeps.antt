@@ -27,9 +27,9 @@ use Rattle.layer.specs.declared.Ask.the-variants.{AskCommit, AskPurge}
 use Rattle.layer.specs.declared.Answer.the-variants.{Asks, Swept}
 use Rattle.layer.specs.World.{World, Outcome, blank, stateOf, worldOf, outcome, empty}
 use Rattle.layer.specs.Table.{at, meets, overlaps, badRange, findArena, apart, soundQuestion, soundTable, soundLent}
-use Rattle.layer.specs.Registering.{chunksFor, tooLarge, bytesAsked, askMemory, reserveReply, badCount, registerReply, registers, noWholeChunk, grows, reserveOf, manageOf, adoptOf}
+use Rattle.layer.specs.Registering.{chunksFor, tooLarge, bytesAsked, askMemory, reserveReply, badCount, noWholeChunk, grows, reserveOf, manageOf, adoptOf}
 use Rattle.layer.specs.Claiming.{eligible, serves, asksCommit, grantArena, grantReply, missReply, searchOf, claimOf}
-use Rattle.layer.specs.Releasing.{releases, releaseReply, releaseOf}
+use Rattle.layer.specs.Releasing.{releaseOf}
 use Rattle.layer.specs.Sweeping.{purgeReply, sweptReply, visit, sweepFrom}
 use Rattle.layer.specs.Answering.{isFor, answerOf}
 use Rattle.layer.specs.Step.{claim, sweep, Call, act, answer, rules, step}
@@ -57,7 +57,7 @@ record Facts : Type 0 where
   passed-over : step (world (one 3 0 1 1) Idle) 0 plain (act (sweep true)) ≡ outcome (Swept 0) (world (one 3 0 1 0) Idle)
 
 facts : Facts
-unfolding enter inRange bit bitAt within number pack writeRun all least lowestRun orOne nowMs delayMs keeps armed isDue arenaAllowed pageSizeSound newArena reservedArena managedArena adoptedArena grownArena findRun runCommitted runFresh takeRun giveBackRun commitRun dirtyRun finishGrant tellRun pendRun releaseRun stampRun sweepDue disarm young toAsk nextAsked borrowChunk unpendChunk returnChunk rearm bytesOf endOf isInside soundRange clearPast clearPastAll soundArena empty meets overlaps badRange findArena apart soundQuestion soundTable soundLent chunksFor tooLarge bytesAsked askMemory reserveReply badCount registerReply registers noWholeChunk grows reserveOf manageOf adoptOf eligible serves asksCommit grantArena grantReply missReply searchOf claimOf releases releaseReply releaseOf purgeReply sweptReply visit sweepFrom isFor answerOf rules
+unfolding enter inRange bit bitAt within number pack writeRun all least lowestRun orOne nowMs delayMs keeps armed isDue arenaAllowed pageSizeSound newArena reservedArena managedArena adoptedArena grownArena findRun runCommitted runFresh takeRun giveBackRun commitRun dirtyRun finishGrant tellRun pendRun releaseRun stampRun sweepDue disarm young toAsk nextAsked borrowChunk unpendChunk returnChunk rearm bytesOf endOf isInside soundRange clearPast clearPastAll soundArena empty meets overlaps badRange findArena apart soundQuestion soundTable soundLent chunksFor tooLarge bytesAsked askMemory reserveReply badCount noWholeChunk grows reserveOf manageOf adoptOf eligible serves asksCommit grantArena grantReply missReply searchOf claimOf releaseOf purgeReply sweptReply visit sweepFrom isFor answerOf rules
 facts = record { claimed = refl; dirtied-row = refl; swept = refl; asked-again = refl; passed-over = refl }
 
 -- the first word of a map

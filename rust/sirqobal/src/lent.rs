@@ -197,6 +197,8 @@ pub struct Reply {
     pub commit: bool,
     /// Memory.
     pub large: bool,
+    /// Always 0.
+    pub spare: u16,
     pub state: State,
 }
 

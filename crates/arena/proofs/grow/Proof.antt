@@ -1,29 +1,26 @@
 -- `arena::grow` meets its contract. Assumes nothing.
-use mathlib.Core.Path.{ap₂}
-use mathlib.Core.List.{List}
-use Prim.Native.Nat.{ℕ}
-use Prim.Native.Nat.{ℕ, _+_}
+use Prim.Native.Nat.{_+_}
 use borrow.Author.Needs.{needs}
-use Rattle.arena.specs.declared.Arena.{Arena}
-use Rattle.arena.specs.Record.{withChunks, withDirty, withCommitted}
 use Rattle.arena.specs.Registering.{grownArena}
+use Rattle.arena.proofs.Remade.{remade, read-back}
 use Rattle.arena.proofs.grow.Statement.{statement}
 use Rattle.arena.proofs.grow.Tie as tie
 
-set-row-requires : tie.Need-set-row-requires
-set-row-requires c κs = search needs
+row-set-requires : tie.Need-row-set-requires
+row-set-requires c κs = search needs
 
-set-row-requires-2 : tie.Need-set-row-requires-2
-set-row-requires-2 c κs = search needs
+row-set-requires-2 : tie.Need-row-set-requires-2
+row-set-requires-2 c κs = search needs
 
-add-b : tie.Need-add-b
-add-b c = search needs
+add-longer : tie.Need-add-longer
+add-longer c = search needs
 
 returns : tie.Need-returns
 unfolding grownArena
 returns c =
-    let a = c .before .before .before .before .args in
-    ap₂ (λ (d m : List ℕ). withChunks (withCommitted (withDirty (a .a) d) m) (a .a .chunks + a .n)) (c .before .before .set-row .ensures) (c .set-row2 .ensures)
+    let s = c .before .before .before .before .before .before .before in
+    let a = s .args .a in
+    λ i. remade a (read-back (a .node) (s .good .0 .1 .1 .1 .1 .1 .1 .0 .1) i) (a .chunks + s .args .n) (a .deadline) (a .used) (c .before .before .before .before .row-set .ensures i) (c .before .before .before .row-set2 .ensures i) (a .pending)
 
 pub grow-spec : {M : Type 1} → statement M
-grow-spec = tie.close (tie.spec set-row-requires set-row-requires-2 add-b returns)
+grow-spec = tie.close (tie.spec row-set-requires row-set-requires-2 add-longer returns)

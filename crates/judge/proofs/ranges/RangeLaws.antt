@@ -1,41 +1,17 @@
--- What it is for an arena to meet a range and to be continued by a block, by facts and not by tests; and the end of a range without its sum. S is the size
--- of a chunk. Assumes nothing.
+-- What it is for an arena to meet a range and to be continued by a block, by facts and not by tests. S is the size of a chunk. Assumes nothing.
 use mathlib.Core.Path.{_≡_, sym, ap, ap₂}
 use mathlib.Core.Bool.{Bool, true, false, not, _&&_}
 use mathlib.Core.Logic.{_↔_}
-use Prim.Native.Nat.{ℕ, _+_, _-_, _*_, _/_, _≤_, _<_}
-use native.Mathlib.Nat.{div-lt-iff-lt-mul}
-use native.Mathlib.Omega.{arith}
+use Prim.Native.Nat.{ℕ, _+_, _*_, _≤_, _<_}
 use borrow.Author.Tests.{lt-ltb, ltb-true, le-leb, leb-true, eqb-true, eq-eqb, not-true}
 use lib.Dec.{eqb, ltb}
-use Rattle.runs.proofs.SearchLaws.{same, and-both}
+use Rattle.runs.proofs.SearchLaws.{and-both}
 use Rattle.arena.specs.declared.Arena.{Arena}
 use Rattle.arena.specs.Flags.{isOn}
-use Rattle.lookup.specs.Place.{bytesOf, endOf, isInside}
+use Rattle.lookup.specs.Place.{bytesOf, endOf}
 use Rattle.lookup.proofs.SoundLaws.{never}
 use Rattle.layer.specs.Table.{meets}
 use Rattle.layer.specs.Registering.{grows}
-
--- ---- the end of a range
-
-module _ (base chunks S address : ℕ) where
-  pub below-base : address < base → true ≡ ltb address (base + chunks * S)
-  below-base h = sym (lt-ltb address (base + chunks * S) (omega arith))
-
-  pub by-chunks : 0 < S → base ≤ address → ltb ((address - base) / S) chunks ≡ ltb address (base + chunks * S)
-  by-chunks some h =
-      same (ltb ((address - base) / S) chunks) (ltb address (base + chunks * S))
-      (λ e.
-      let l : address - base < chunks * S = div-lt-iff-lt-mul some .0 (ltb-true ((address - base) / S) chunks e) in
-      lt-ltb address (base + chunks * S) (omega arith))
-      (λ e.
-      let l : address < base + chunks * S = ltb-true address (base + chunks * S) e in
-      lt-ltb ((address - base) / S) chunks (div-lt-iff-lt-mul some .1 (omega arith)))
-
--- from the base on, only the end is left to look at
-pub inside-from : (S : ℕ) (a : Arena) (address : ℕ) → a .base ≤ address → ltb address (a .base + a .chunks * S) ≡ isInside S a address
-unfolding isInside endOf bytesOf
-inside-from S a address h = sym (ap (λ (t : Bool). t && ltb address (a .base + a .chunks * S)) (le-leb (a .base) address h))
 
 -- ---- a range that an arena meets
 

@@ -16,8 +16,8 @@ use Rattle.runs.specs.declared.Found.the-variants.{At, Nothing}
 use Rattle.runs.specs.Lowest.{least}
 use Rattle.runs.proofs.LowestLaws.{least-none, least-at, First, first-says}
 use Rattle.clock.specs.Clock.{ageOf}
-use Rattle.arena.specs.declared.Arena.{Arena}
-use Rattle.arena.specs.Sweeping.{young, toAsk, nextAsked}
+use Rattle.arena.specs.Sweeping.{young}
+use Rattle.purge.specs.Maps.{nextIn}
 
 -- ---- whether a chunk is young
 
@@ -69,23 +69,26 @@ module _ (p q : ℕ → Bool) (places from at : ℕ) (low : from ≤ at) (passed
 
 -- ---- the search for the next chunk to ask about
 
--- what is asked of a pending chunk
-abbrev pub asked : Arena → List ℕ → Bool → ℕ → ℕ → ℕ → Bool
-asked a stamps force now delay j = not (young stamps force now delay j) && not (bitAt (a .used) j)
+module _ (pending used : List ℕ) (chunks : ℕ) (stamps : List ℕ) (force : Bool) (now delay : ℕ) where
+  -- what is asked of a pending chunk, and of any
+  abbrev pub asked : ℕ → Bool
+  asked j = not (young stamps force now delay j) && not (bitAt used j)
 
-module _ (a : Arena) (stamps : List ℕ) (force : Bool) (now delay from at : ℕ) (low : from ≤ at) (passed : Passed (toAsk a stamps force now delay) from at) where
-  pub asked-at : (x : ℕ) → First (bitAt (a .pending)) at (a .chunks - at) (At x) → asked a stamps force now delay x ≡ true → At x ≡ nextAsked a stamps force now delay from
-  unfolding toAsk nextAsked
-  asked-at = pass-at (bitAt (a .pending)) (asked a stamps force now delay) (a .chunks) from at low passed
+  abbrev pub toAskIn : ℕ → Bool
+  toAskIn = both (bitAt pending) asked
 
-  pub asked-on : (x : ℕ) → First (bitAt (a .pending)) at (a .chunks - at) (At x) → asked a stamps force now delay x ≡ false → Passed (toAsk a stamps force now delay) from (x + 1)
-  unfolding toAsk
-  asked-on = pass-on (bitAt (a .pending)) (asked a stamps force now delay) (a .chunks) from at low passed
+  module _ (from at : ℕ) (low : from ≤ at) (passed : Passed toAskIn from at) where
+    pub asked-at : (x : ℕ) → First (bitAt pending) at (chunks - at) (At x) → asked x ≡ true → At x ≡ nextIn pending used chunks stamps force now delay from
+    unfolding nextIn
+    asked-at = pass-at (bitAt pending) asked chunks from at low passed
 
-  pub asked-end : First (bitAt (a .pending)) at (a .chunks - at) Nothing → Nothing ≡ nextAsked a stamps force now delay from
-  unfolding toAsk nextAsked
-  asked-end = pass-end (bitAt (a .pending)) (asked a stamps force now delay) (a .chunks) from at low passed
+    pub asked-on : (x : ℕ) → First (bitAt pending) at (chunks - at) (At x) → asked x ≡ false → Passed toAskIn from (x + 1)
+    asked-on = pass-on (bitAt pending) asked chunks from at low passed
 
-  pub asked-out : a .chunks ≤ at → Nothing ≡ nextAsked a stamps force now delay from
-  unfolding toAsk nextAsked
-  asked-out = pass-out (bitAt (a .pending)) (asked a stamps force now delay) (a .chunks) from at low passed
+    pub asked-end : First (bitAt pending) at (chunks - at) Nothing → Nothing ≡ nextIn pending used chunks stamps force now delay from
+    unfolding nextIn
+    asked-end = pass-end (bitAt pending) asked chunks from at low passed
+
+    pub asked-out : chunks ≤ at → Nothing ≡ nextIn pending used chunks stamps force now delay from
+    unfolding nextIn
+    asked-out = pass-out (bitAt pending) asked chunks from at low passed

@@ -3,7 +3,7 @@ use mathlib.Core.Path.{ap, _∙_}
 use mathlib.Core.List.{List}
 use Prim.Native.Nat.{ℕ}
 use borrow.Author.Needs.{needs}
-use Rattle.arena.specs.Sweeping.{nextAsked}
+use Rattle.purge.specs.Maps.{nextIn}
 use Rattle.purge.proofs.StampLaws.{stamps-part}
 use Rattle.purge.proofs.next_asked_of.Statement.{statement}
 use Rattle.purge.proofs.next_asked_of.Tie as tie
@@ -32,7 +32,7 @@ next-asked-requires c κs = search needs
 returns : tie.Need-returns
 returns c =
     let a = c .before .before .before .args in
-    c .next-asked .ensures ∙ ap (λ (xs : List ℕ). nextAsked (a .a) xs (a .force) (a .ms) (a .delay) (a .from)) (stamps-part (a .stamps .now) (a .id))
+    c .next-asked .ensures ∙ ap (λ (xs : List ℕ). nextIn (a .pending .now) (a .used .now) (a .chunks) xs (a .force) (a .ms) (a .delay) (a .from)) (stamps-part (a .stamps .now) (a .id))
 
 pub next-asked-of-spec : {M : Type 1} → statement M
 next-asked-of-spec =

@@ -11,11 +11,10 @@ use lib.ListN.{getD}
 use Rattle.words.specs.Bits.{bitAt}
 use Rattle.runs.specs.declared.Found.{Found}
 use Rattle.runs.specs.declared.Found.the-variants.{At, Nothing}
-use Rattle.runs.specs.Lowest.{least}
 use Rattle.runs.proofs.LowestLaws.{First}
 use Rattle.clock.specs.Clock.{ageOf}
-use Rattle.arena.specs.declared.Arena.{Arena}
-use Rattle.arena.specs.Sweeping.{young, nearer, nearest, wait, nextWait, rearmAt, rearm}
+use Rattle.arena.specs.Sweeping.{young, nearer, nearest, wait}
+use Rattle.purge.specs.Maps.{waitIn, armedFor, nextDeadline}
 use Rattle.purge.proofs.asks.AskLaws.{Passed, both}
 
 -- ---- the least number at such places
@@ -113,41 +112,41 @@ unfolding young
 wait-old stamps now delay j best l = simp (le-ltb (ageOf now (getD stamps j 0)) delay l)
 
 -- the waits from chunk `at` on
-unfoldable pub waitsFrom : Arena → List ℕ → ℕ → ℕ → ℕ → Found
-waitsFrom a stamps now delay at = nearest (both (bitAt (a .pending)) (young stamps false now delay)) (wait stamps now delay) at (a .chunks - at)
+unfoldable pub waitsFrom : List ℕ → ℕ → List ℕ → ℕ → ℕ → ℕ → Found
+waitsFrom pending chunks stamps now delay at = nearest (both (bitAt pending) (young stamps false now delay)) (wait stamps now delay) at (chunks - at)
 
-module _ (a : Arena) (stamps : List ℕ) (now delay at : ℕ) (best : Found) (h : joined best (waitsFrom a stamps now delay at) ≡ nextWait a stamps now delay) where
-  pub waits-on : (x : ℕ) → First (bitAt (a .pending)) at (a .chunks - at) (At x)
-      → joined (cond (young stamps false now delay x) (nearer (wait stamps now delay x) best) best) (waitsFrom a stamps now delay (x + 1)) ≡ nextWait a stamps now delay
-  unfolding waitsFrom
-  waits-on x e = sym (nearest-on (bitAt (a .pending)) (young stamps false now delay) (wait stamps now delay) (a .chunks) at best x e) ∙ h
+module _ (pending : List ℕ) (chunks : ℕ) (stamps : List ℕ) (now delay : ℕ) where
+  module _ (at : ℕ) (best : Found) (h : joined best (waitsFrom pending chunks stamps now delay at) ≡ waitIn pending chunks stamps now delay) where
+    pub waits-on : (x : ℕ) → First (bitAt pending) at (chunks - at) (At x)
+        → joined (cond (young stamps false now delay x) (nearer (wait stamps now delay x) best) best) (waitsFrom pending chunks stamps now delay (x + 1)) ≡ waitIn pending chunks stamps now delay
+    unfolding waitsFrom
+    waits-on x e = sym (nearest-on (bitAt pending) (young stamps false now delay) (wait stamps now delay) chunks at best x e) ∙ h
 
-  pub waits-end : First (bitAt (a .pending)) at (a .chunks - at) Nothing → best ≡ nextWait a stamps now delay
-  unfolding waitsFrom
-  waits-end e = sym (nearest-end (bitAt (a .pending)) (young stamps false now delay) (wait stamps now delay) (a .chunks) at best e) ∙ h
+    pub waits-end : First (bitAt pending) at (chunks - at) Nothing → best ≡ waitIn pending chunks stamps now delay
+    unfolding waitsFrom
+    waits-end e = sym (nearest-end (bitAt pending) (young stamps false now delay) (wait stamps now delay) chunks at best e) ∙ h
 
-  pub waits-out : a .chunks ≤ at → best ≡ nextWait a stamps now delay
-  unfolding waitsFrom
-  waits-out l = sym (nearest-out (bitAt (a .pending)) (young stamps false now delay) (wait stamps now delay) (a .chunks) at best l) ∙ h
+    pub waits-out : chunks ≤ at → best ≡ waitIn pending chunks stamps now delay
+    unfolding waitsFrom
+    waits-out l = sym (nearest-out (bitAt pending) (young stamps false now delay) (wait stamps now delay) chunks at best l) ∙ h
 
-pub waits-all : (a : Arena) (stamps : List ℕ) (now delay : ℕ) → waitsFrom a stamps now delay 0 ≡ nextWait a stamps now delay
-unfolding waitsFrom nextWait
-waits-all a stamps now delay =
-    ap (nearest (both (bitAt (a .pending)) (young stamps false now delay)) (wait stamps now delay) 0) (let z : a .chunks - 0 ≡ a .chunks = omega arith in z)
+  pub waits-all : waitsFrom pending chunks stamps now delay 0 ≡ waitIn pending chunks stamps now delay
+  unfolding waitsFrom waitIn
+  waits-all = ap (nearest (both (bitAt pending) (young stamps false now delay)) (wait stamps now delay) 0) (let z : chunks - 0 ≡ chunks = omega arith in z)
 
--- no wait is longer than the delay
-pub wait-most : (a : Arena) (stamps : List ℕ) (now delay : ℕ) → AtMost delay (nextWait a stamps now delay)
-unfolding nextWait wait
-wait-most a stamps now delay =
-    nearest-most (both (bitAt (a .pending)) (young stamps false now delay)) (wait stamps now delay) delay (λ j. omega arith) 0 (a .chunks)
+  -- no wait is longer than the delay
+  pub wait-most : AtMost delay (waitIn pending chunks stamps now delay)
+  unfolding waitIn wait
+  wait-most = nearest-most (both (bitAt pending) (young stamps false now delay)) (wait stamps now delay) delay (λ j. omega arith) 0 chunks
 
--- ---- arming anew
+  -- ---- arming anew
 
-pub rearm-forced : (a : Arena) (stamps : List ℕ) (force : Bool) (now delay : ℕ) → force ≡ true → a ≡ rearm a stamps force now delay
-unfolding rearm
-rearm-forced a stamps force now delay e = simp e
+  pub armed-forced : (deadline : ℕ) (force : Bool) → force ≡ true → deadline ≡ nextDeadline deadline pending chunks stamps force now delay
+  unfolding nextDeadline
+  armed-forced deadline force e = simp e
 
-pub rearm-by : (a : Arena) (stamps : List ℕ) (force : Bool) (now delay : ℕ) (r : Found) → force ≡ false → r ≡ nextWait a stamps now delay
-    → rearmAt a now r ≡ rearm a stamps force now delay
-unfolding rearm
-rearm-by a stamps force now delay r e q = ap (rearmAt a now) q ∙ sym (ap (λ (t : Bool). cond t a (rearmAt a now (nextWait a stamps now delay))) e)
+  pub armed-by : (deadline : ℕ) (force : Bool) (r : Found) → force ≡ false → r ≡ waitIn pending chunks stamps now delay
+      → armedFor deadline now r ≡ nextDeadline deadline pending chunks stamps force now delay
+  unfolding nextDeadline
+  armed-by deadline force r e q =
+      ap (armedFor deadline now) q ∙ sym (ap (λ (t : Bool). cond t deadline (armedFor deadline now (waitIn pending chunks stamps now delay))) e)

@@ -45,24 +45,24 @@ use Rattle.records.proofs.Steps.{Blank, blank-step}
 use Rattle.records.proofs.blank_arena.Symbol as blank-def
 use Rattle.records.proofs.blank_arena.Symbol.{name as #records·blank-arena}
 use Rattle.records.proofs.blank_arena.Met as blank-thm
-use Rattle.sample_session.specs.declared.Session.{Session}
-use Rattle.sample_session.proofs.Session as S
-use Rattle.sample_session.proofs.Session.Laws as S′
+use Rattle.layer_samples.specs.declared.Session.{Session}
+use Rattle.layer_samples.proofs.Session as S
+use Rattle.layer_samples.proofs.Session.Laws as S′
 use Rattle.replay_layer.proofs.Arrays.{init-rep, localLoan, Kept, repeated, lends-local, gives-back}
 use Rattle.replay_layer.proofs.Owner.{DoneP, finishP, plain-meets}
 use Rattle.replay_layer.proofs.Steps.{Start, ReadLine, ReplayLine, Fewer, start-step, read-line-step, replay-line-step, fewer-step}
-use Rattle.sample_session.proofs.start.Symbol as start-def
-use Rattle.sample_session.proofs.start.Symbol.{name as #sample-session·start}
-use Rattle.sample_session.proofs.start.Met as start-thm
+use Rattle.layer_samples.proofs.start.Symbol as start-def
+use Rattle.layer_samples.proofs.start.Symbol.{name as #layer-samples·start}
+use Rattle.layer_samples.proofs.start.Met as start-thm
 use Rattle.replay_layer.proofs.read_line.Symbol as read-line-def
 use Rattle.replay_layer.proofs.read_line.Symbol.{name as #replay-layer·read-line}
 use Rattle.replay_layer.proofs.read_line.Met as read-line-thm
-use Rattle.replay_layer.proofs.replay_line.Symbol as replay-line-def
-use Rattle.replay_layer.proofs.replay_line.Symbol.{name as #replay-layer·replay-line}
-use Rattle.replay_layer.proofs.replay_line.Met as replay-line-thm
-use Rattle.sample_session.proofs.fewer.Symbol as fewer-def
-use Rattle.sample_session.proofs.fewer.Symbol.{name as #sample-session·fewer}
-use Rattle.sample_session.proofs.fewer.Met as fewer-thm
+use Rattle.layer_samples.proofs.replay_line.Symbol as replay-line-def
+use Rattle.layer_samples.proofs.replay_line.Symbol.{name as #layer-samples·replay-line}
+use Rattle.layer_samples.proofs.replay_line.Met as replay-line-thm
+use Rattle.layer_samples.proofs.fewer.Symbol as fewer-def
+use Rattle.layer_samples.proofs.fewer.Symbol.{name as #layer-samples·fewer}
+use Rattle.layer_samples.proofs.fewer.Met as fewer-thm
 use Rattle.replay_layer.proofs.replay_all.Key.{name as #replay-layer·replay-all}
 use Rattle.replay_layer.proofs.replay_all as all′
 use Rattle.replay_layer.proofs.replay_all.Statement as stated
@@ -83,10 +83,10 @@ pub record St : Type 0 where
 
 module _ {M : Type 1} (𝓤 : URA M) (H : Heap 𝓤) (A : Atoms 𝓤) (W : Given 𝓤 H A) (mem : Memory → SProp 𝓤) (run : Routine → Fun 𝓤) (𝓣 : Tables 𝓤 H)
     (known-blank : Triple 𝓤 (𝓣 .C #records·blank-arena) (Blank 𝓤 H A mem run))
-    (known-start : Triple 𝓤 (𝓣 .C #sample-session·start) (Start 𝓤 H A mem run))
+    (known-start : Triple 𝓤 (𝓣 .C #layer-samples·start) (Start 𝓤 H A mem run))
     (known-read-line : Triple 𝓤 (𝓣 .C #replay-layer·read-line) (ReadLine 𝓤 H A mem run))
-    (known-replay-line : Triple 𝓤 (𝓣 .C #replay-layer·replay-line) (ReplayLine 𝓤 H A mem run))
-    (known-fewer : Triple 𝓤 (𝓣 .C #sample-session·fewer) (Fewer 𝓤 H A mem run)) where
+    (known-replay-line : Triple 𝓤 (𝓣 .C #layer-samples·replay-line) (ReplayLine 𝓤 H A mem run))
+    (known-fewer : Triple 𝓤 (𝓣 .C #layer-samples·fewer) (Fewer 𝓤 H A mem run)) where
   abbrev χ : Session → Type 0
   χ r = Unit {0}
 
@@ -172,7 +172,7 @@ replay-all-spec 𝓤 H 𝓜 𝓖 𝓡 =
     (tables 𝓤 H 𝓜 𝓡 code.env .C) (tables 𝓤 H 𝓜 𝓡 code.env .Λ) #replay-layer·replay-all code.function (code.unfolded 𝓤 H 𝓜 𝓡)
     (all-meets 𝓤 H (𝓖 .A) (givenOf 𝓤 H 𝓜 𝓖) (𝓜 .mem) (𝓡 .run) (tablesOf 𝓤 H 𝓜 (tables 𝓤 H 𝓜 𝓡 code.env))
     (cited 𝓤 H (Blank 𝓤 H (𝓖 .A) (𝓜 .mem) (𝓡 .run)) 𝓜 𝓡 code.env #records·blank-arena blank-def.routine code.calls-records·blank-arena (blank-thm.met 𝓤 H 𝓜 𝓖 𝓡))
-    (cited 𝓤 H (Start 𝓤 H (𝓖 .A) (𝓜 .mem) (𝓡 .run)) 𝓜 𝓡 code.env #sample-session·start start-def.routine code.calls-sample-session·start (start-thm.met 𝓤 H 𝓜 𝓖 𝓡))
+    (cited 𝓤 H (Start 𝓤 H (𝓖 .A) (𝓜 .mem) (𝓡 .run)) 𝓜 𝓡 code.env #layer-samples·start start-def.routine code.calls-layer-samples·start (start-thm.met 𝓤 H 𝓜 𝓖 𝓡))
     (cited 𝓤 H (ReadLine 𝓤 H (𝓖 .A) (𝓜 .mem) (𝓡 .run)) 𝓜 𝓡 code.env #replay-layer·read-line read-line-def.routine code.calls-replay-layer·read-line (read-line-thm.met 𝓤 H 𝓜 𝓖 𝓡))
-    (cited 𝓤 H (ReplayLine 𝓤 H (𝓖 .A) (𝓜 .mem) (𝓡 .run)) 𝓜 𝓡 code.env #replay-layer·replay-line replay-line-def.routine code.calls-replay-layer·replay-line (replay-line-thm.met 𝓤 H 𝓜 𝓖 𝓡))
-    (cited 𝓤 H (Fewer 𝓤 H (𝓖 .A) (𝓜 .mem) (𝓡 .run)) 𝓜 𝓡 code.env #sample-session·fewer fewer-def.routine code.calls-sample-session·fewer (fewer-thm.met 𝓤 H 𝓜 𝓖 𝓡)))
+    (cited 𝓤 H (ReplayLine 𝓤 H (𝓖 .A) (𝓜 .mem) (𝓡 .run)) 𝓜 𝓡 code.env #layer-samples·replay-line replay-line-def.routine code.calls-layer-samples·replay-line (replay-line-thm.met 𝓤 H 𝓜 𝓖 𝓡))
+    (cited 𝓤 H (Fewer 𝓤 H (𝓖 .A) (𝓜 .mem) (𝓡 .run)) 𝓜 𝓡 code.env #layer-samples·fewer fewer-def.routine code.calls-layer-samples·fewer (fewer-thm.met 𝓤 H 𝓜 𝓖 𝓡)))

@@ -1,27 +1,47 @@
 -- `surface::is_state` meets its contract. Assumes nothing.
 use mathlib.Core.Path.{ap, _∙_}
-use Rattle.surface.specs.declared.StateNumbers.{StateNumbers}
-use Rattle.surface.specs.Numbers.{numbersOf, sameNumbers, isState}
+use mathlib.Core.Bool.{_&&_}
+use lib.Dec.{leb}
 use borrow.Author.Needs.{needs}
+use Rattle.surface.proofs.FieldLaws.{calm-says, placed-says, asks-says}
 use Rattle.surface.proofs.is_state.Statement.{statement}
 use Rattle.surface.proofs.is_state.Tie as tie
 
-state-of-requires : tie.Need-state-of-requires
-state-of-requires c κs = search needs
-
-numbers-of-requires : tie.Need-numbers-of-requires
-numbers-of-requires c κs = search needs
-
-same-numbers-requires : tie.Need-same-numbers-requires
-same-numbers-requires c κs = search needs
+is-calm-requires : tie.Need-is-calm-requires
+is-calm-requires c κs = search needs
 
 returns : tie.Need-returns
-unfolding isState
 returns c =
-    let n = c .before in
-    let s = n .before in
-    c .same-numbers .ensures ∙ ap (λ (g : StateNumbers). sameNumbers g (s .before .args .f)) (n .numbers-of .ensures ∙ ap numbersOf (s .state-of .ensures))
+    let t = c .before in
+    let f = t .before .before .args .f in ap (_&&_ (leb (f .mark) 1)) (c .is-calm .ensures) ∙ calm-says f (t .if1 .taken)
+
+is-placed-requires : tie.Need-is-placed-requires
+is-placed-requires c κs = search needs
+
+returns-2 : tie.Need-returns-2
+returns-2 c =
+    let u = c .before in
+    let t = u .before in
+    let f = t .before .before .args .f in
+    ap (_&&_ (leb (f .mark) 1)) (c .is-placed .ensures) ∙ placed-says f (t .if1 .left) (u .if2 .taken)
+
+is-of-memory-requires : tie.Need-is-of-memory-requires
+is-of-memory-requires c κs = search needs
+
+returns-3 : tie.Need-returns-3
+returns-3 c =
+    let u = c .before in
+    let t = u .before in
+    let f = t .before .before .args .f in
+    (λ i. leb (f .mark) 1 && (leb (f .question) 4 && c .is-of-memory .ensures i)) ∙ asks-says f (t .if1 .left) (u .if2 .left)
 
 pub is-state-spec : {M : Type 1} → statement M
 is-state-spec =
-    tie.close (tie.spec state-of-requires numbers-of-requires same-numbers-requires returns)
+    tie.close
+    (tie.spec
+    is-calm-requires
+    returns
+    is-placed-requires
+    returns-2
+    is-of-memory-requires
+    returns-3)

@@ -385,6 +385,7 @@ const fn refused(number: u32) -> Reply {
         decommit: false,
         commit: false,
         large: false,
+        spare: 0,
         state: State::EMPTY,
     }
 }

@@ -1,36 +1,22 @@
 -- `arena::arena_runs::finish_grant` meets its contract. Assumes nothing.
-use mathlib.Core.Path.{sym, ap, _∙_}
-use mathlib.Core.Bool.{Bool, cond}
 use borrow.Author.Needs.{needs}
-use Rattle.arena.specs.declared.Arena.{Arena}
-use Rattle.arena.specs.Claiming.{dirtyRun, commitRun, finishGrant}
+use Rattle.arena.specs.Claiming.{commitRun, dirtyRun, finishGrant}
+use Rattle.arena.proofs.Remade.{remade, read-back}
 use Rattle.arena.proofs.arena_runs.finish_grant.Statement.{statement}
 use Rattle.arena.proofs.arena_runs.finish_grant.Tie as tie
 
-commit-run-requires : tie.Need-commit-run-requires
-commit-run-requires c κs = search needs
+row-set-requires : tie.Need-row-set-requires
+row-set-requires c κs = search needs
 
-dirty-run-requires : tie.Need-dirty-run-requires
-dirty-run-requires c κs = search needs
+row-set-requires-2 : tie.Need-row-set-requires-2
+row-set-requires-2 c κs = search needs
 
 returns : tie.Need-returns
-unfolding finishGrant
+unfolding commitRun dirtyRun finishGrant
 returns c =
-    let a = c .before .before .before .args in
-    c .dirty-run .ensures
-    ∙ ap (λ (x : Arena). dirtyRun x (a .s) (a .n)) (c .before .commit-run .ensures ∙ sym (ap (λ (b : Bool). cond b (commitRun (a .a) (a .s) (a .n)) (a .a)) (c .before .before .if1 .taken)))
-
-dirty-run-requires-2 : tie.Need-dirty-run-requires-2
-dirty-run-requires-2 c κs = search needs
-
-returns-2 : tie.Need-returns-2
-unfolding finishGrant
-returns-2 c =
-    let a = c .before .before .args in
-    c .dirty-run2 .ensures
-    ∙ ap (λ (x : Arena). dirtyRun x (a .s) (a .n)) (sym (ap (λ (b : Bool). cond b (commitRun (a .a) (a .s) (a .n)) (a .a)) (c .before .if1 .left)))
+    let s = c .before .before .before .before .before .before .before in
+    let a = s .args .a in
+    λ i. remade a (read-back (a .node) (s .good .0 .1 .1 .1 .1 .1 .1 .0 .1) i) (a .chunks) (a .deadline) (a .used) (c .before .before .before .before .row-set .ensures i) (c .before .before .before .row-set2 .ensures i) (a .pending)
 
 pub finish-grant-spec : {M : Type 1} → statement M
-finish-grant-spec =
-    tie.close
-    (tie.spec commit-run-requires dirty-run-requires returns dirty-run-requires-2 returns-2)
+finish-grant-spec = tie.close (tie.spec row-set-requires row-set-requires-2 returns)

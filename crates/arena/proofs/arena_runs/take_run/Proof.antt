@@ -1,17 +1,19 @@
 -- `arena::arena_runs::take_run` meets its contract. Assumes nothing.
-use mathlib.Core.Path.{ap}
 use borrow.Author.Needs.{needs}
-use Rattle.arena.specs.Record.{withUsed}
 use Rattle.arena.specs.Claiming.{takeRun}
+use Rattle.arena.proofs.Remade.{remade, read-back}
 use Rattle.arena.proofs.arena_runs.take_run.Statement.{statement}
 use Rattle.arena.proofs.arena_runs.take_run.Tie as tie
 
-set-row-requires : tie.Need-set-row-requires
-set-row-requires c κs = search needs
+row-set-requires : tie.Need-row-set-requires
+row-set-requires c κs = search needs
 
 returns : tie.Need-returns
 unfolding takeRun
-returns c = ap (withUsed (c .before .before .args .a)) (c .set-row .ensures)
+returns c =
+    let s = c .before .before .before .before .before .before in
+    let a = s .args .a in
+    λ i. remade a (read-back (a .node) (s .good .0 .1 .1 .1 .1 .1 .1 .0 .1) i) (a .chunks) (a .deadline) (c .before .before .before .before .row-set .ensures i) (a .dirty) (a .committed) (a .pending)
 
 pub take-run-spec : {M : Type 1} → statement M
-take-run-spec = tie.close (tie.spec set-row-requires returns)
+take-run-spec = tie.close (tie.spec row-set-requires returns)

@@ -1,20 +1,35 @@
 -- `judge::ranges::holds` meets its contract. Assumes nothing.
-use mathlib.Core.Path.{sym, _∙_}
+use mathlib.Core.Path.{_≡_, sym, ap, _∙_}
+use Prim.Native.Nat.{ℕ, _+_, _*_, _≤_}
 use native.Mathlib.Omega.{arith}
 use borrow.Author.Needs.{needs}
-use Rattle.lookup.proofs.PlaceLaws.{outside-test}
-use Rattle.judge.proofs.ranges.RangeLaws.{inside-from}
+use borrow.Author.Tests.{ltb-true, lt-ltb}
+use lib.Dec.{ltb}
+use Rattle.runs.proofs.SearchLaws.{same}
+use Rattle.arena.specs.declared.Arena.{Arena}
+use Rattle.lookup.specs.Place.{isInside}
+use Rattle.lookup.proofs.PlaceLaws.{inside-facts, inside-test, outside-test}
+use Rattle.judge.specs.Heads.{headed}
 use Rattle.judge.proofs.ranges.holds.Statement.{statement}
 use Rattle.judge.proofs.ranges.holds.Tie as tie
 
-returns : tie.Need-returns
-returns c = let a = c .before .args in sym (outside-test (a .chunk-size) (a .a) (a .address) (λ h. omega (arith, h .from)))
+-- from the base on, only the end is left to look at
+inside-from : (S : ℕ) (a : Arena) (address : ℕ) → a .base ≤ address → ltb address (a .base + a .chunks * S) ≡ isInside S a address
+inside-from S a address h =
+    same (ltb address (a .base + a .chunks * S)) (isInside S a address)
+    (λ e. inside-test S a address (record { from = h; before = ltb-true address (a .base + a .chunks * S) e }))
+    (λ e. lt-ltb address (a .base + a .chunks * S) (inside-facts S a address e .before))
 
-before-end-requires : tie.Need-before-end-requires
-before-end-requires c κs = search needs
+returns : tie.Need-returns
+returns c = let a = c .before .args in sym (outside-test (a .chunk-size) (headed (a .h)) (a .address) (λ h. omega (arith, h .from)))
+
+end-of-requires : tie.Need-end-of-requires
+end-of-requires c κs = search needs
 
 returns-2 : tie.Need-returns-2
-returns-2 c = let a = c .before .before .args in c .before-end .ensures ∙ inside-from (a .chunk-size) (a .a) (a .address) (c .before .if1 .left)
+returns-2 c =
+    let a = c .before .before .args in
+    ap (λ (e : ℕ). ltb (a .address) e) (c .end-of .ensures) ∙ inside-from (a .chunk-size) (headed (a .h)) (a .address) (c .before .if1 .left)
 
 pub holds-spec : {M : Type 1} → statement M
-holds-spec = tie.close (tie.spec returns before-end-requires returns-2)
+holds-spec = tie.close (tie.spec returns end-of-requires returns-2)

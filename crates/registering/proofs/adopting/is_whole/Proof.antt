@@ -2,8 +2,7 @@
 use mathlib.Core.Path.{sym}
 use Prim.Native.Nat.{_%_}
 use borrow.Author.Tests.{eq-eqb, ne-eqb}
-use Rattle.registering.specs.Adopting.{isWhole}
-use Rattle.registers.proofs.DecisionLaws.{and-first, and-second}
+use Rattle.registering.proofs.TestLaws.{and-first, and-second}
 use borrow.Author.Needs.{needs}
 use Rattle.registering.proofs.adopting.is_whole.Statement.{statement}
 use Rattle.registering.proofs.adopting.is_whole.Tie as tie
@@ -12,14 +11,12 @@ rem-if1 : tie.Need-rem-if1
 rem-if1 c = search needs
 
 returns : tie.Need-returns
-unfolding isWhole
 returns c = let a = c .before .args in sym (and-first _ _ (ne-eqb (a .address % a .chunk-size) 0 (c .if1 .taken)))
 
 rem-result : tie.Need-rem-result
 rem-result c = search needs
 
 returns-2 : tie.Need-returns-2
-unfolding isWhole
 returns-2 c = let a = c .before .args in sym (and-second _ _ (eq-eqb (a .address % a .chunk-size) 0 (c .if1 .left)))
 
 pub is-whole-spec : {M : Type 1} → statement M

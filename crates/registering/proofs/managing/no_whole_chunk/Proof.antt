@@ -3,7 +3,7 @@ use mathlib.Core.Path.{sym, ap, _∙_}
 use native.Mathlib.Omega.{arith}
 use Prim.Native.Nat.{ℕ, _+_, _/_}
 use lib.Dec.{leb}
-use Rattle.registering.proofs.managing.ManageLaws.{none-at-zero, none-so-long, none-so-late, none-inside}
+use Rattle.registering.proofs.WholeLaws.{none-at-zero, none-so-long, none-so-late, none-inside}
 use borrow.Author.Needs.{needs}
 use Rattle.registering.proofs.managing.no_whole_chunk.Statement.{statement}
 use Rattle.registering.proofs.managing.no_whole_chunk.Tie as tie

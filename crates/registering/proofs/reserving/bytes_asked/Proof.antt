@@ -5,8 +5,7 @@ use native.Mathlib.Omega.{arith}
 use borrow.Author.Tests.{eq-eqb, ne-eqb}
 use Rattle.layer.specs.Registering.{chunksFor, bytesAsked}
 use Rattle.words.proofs.Tests.{when, unless}
-use Rattle.registering.proofs.reserving.ReserveLaws.{not-too-large}
-use borrow.Author.Needs.{needs}
+use Rattle.registering.proofs.ReserveLaws.{not-too-large}
 use Rattle.registering.proofs.reserving.bytes_asked.Statement.{statement}
 use Rattle.registering.proofs.reserving.bytes_asked.Tie as tie
 
@@ -14,20 +13,19 @@ returns : tie.Need-returns
 unfolding bytesAsked
 returns c = let a = c .before .args in sym (when _ _ _ (eq-eqb (a .size) 0 (c .if1 .taken)))
 
-chunks-for-requires : tie.Need-chunks-for-requires
-chunks-for-requires c κs = search needs
-
 mul-result : tie.Need-mul-result
 mul-result c =
-    let a = c .before .before .args in
-    let l : chunksFor (a .chunk-size) (a .size) * a .chunk-size + a .chunk-size < 18446744073709551616 = not-too-large (a .chunk-size) (a .size) (c .before .before .pre .0) (c .before .before .pre .2) in
-    omega (arith, ap (λ (n : ℕ). n * a .chunk-size) (c .chunks-for .ensures))
+    let s = c .before in
+    let a = s .args in
+    let l : chunksFor (a .chunk-size) (a .size) * a .chunk-size + a .chunk-size < 18446744073709551616 = not-too-large (a .chunk-size) (a .size) (s .pre .0 .0) (s .pre .1) in
+    omega (arith, l, ap (λ (n : ℕ). n * a .chunk-size) (s .pre .2))
 
 returns-2 : tie.Need-returns-2
 unfolding bytesAsked
 returns-2 c =
-    let a = c .before .before .args in
-    ap (λ (n : ℕ). n * a .chunk-size) (c .chunks-for .ensures) ∙ sym (unless _ _ _ (ne-eqb (a .size) 0 (c .before .if1 .left)))
+    let s = c .before in
+    let a = s .args in
+    ap (λ (n : ℕ). n * a .chunk-size) (s .pre .2) ∙ sym (unless _ _ _ (ne-eqb (a .size) 0 (c .if1 .left)))
 
 pub bytes-asked-spec : {M : Type 1} → statement M
-bytes-asked-spec = tie.close (tie.spec returns chunks-for-requires mul-result returns-2)
+bytes-asked-spec = tie.close (tie.spec returns mul-result returns-2)

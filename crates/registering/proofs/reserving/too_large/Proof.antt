@@ -2,7 +2,7 @@
 use mathlib.Core.Path.{ap, _∙_}
 use Prim.Native.Nat.{ℕ, _/_}
 use lib.Dec.{leb}
-use Rattle.registering.proofs.reserving.ReserveLaws.{too-large-test}
+use Rattle.registering.proofs.ReserveLaws.{too-large-test}
 use borrow.Author.Needs.{needs}
 use Rattle.registering.proofs.reserving.too_large.Statement.{statement}
 use Rattle.registering.proofs.reserving.too_large.Tie as tie

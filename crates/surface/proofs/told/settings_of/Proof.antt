@@ -7,9 +7,6 @@ use borrow.Author.Needs.{needs}
 use Rattle.surface.proofs.told.settings_of.Statement.{statement}
 use Rattle.surface.proofs.told.settings_of.Tie as tie
 
-page-of-requires : tie.Need-page-of-requires
-page-of-requires c κs = search needs
-
 is-on-requires : tie.Need-is-on-requires
 is-on-requires c κs = search needs
 
@@ -21,8 +18,7 @@ unfolding settingsOf
 returns c =
     let o = c .before in
     let d = o .before in
-    let p = d .before in
-    let a = p .before .args in
+    let a = d .before .args in
     let fits : SFits w64 (a .s .delay) = record { sfits = c .struct-told .given .0 .1 } in
     λ m.
     record {
@@ -30,8 +26,8 @@ returns c =
       decommits = d .is-on .ensures m;
       off = o .is-on2 .ensures m;
       reserve = a .s .reserve;
-      page = p .page-of .ensures m;
+      page = a .s .page;
     }
 
 pub settings-of-spec : {M : Type 1} → statement M
-settings-of-spec = tie.close (tie.spec page-of-requires is-on-requires is-on-requires-2 returns)
+settings-of-spec = tie.close (tie.spec is-on-requires is-on-requires-2 returns)

@@ -1,3 +1,0 @@
-mod AdoptLaws
-mod Steps
-pub mod Callable

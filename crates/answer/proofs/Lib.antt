@@ -1,3 +1,0 @@
-mod CallLaws
-mod Steps
-pub mod Callable

@@ -1,2 +1,0 @@
-mod AreaLaws
-pub mod Callable

@@ -1,3 +1,0 @@
-mod EntryLaws
-mod Steps
-pub mod Callable

@@ -1,3 +1,0 @@
-pub mod Core
-pub mod Reads
-pub mod Grants

@@ -1,2 +1,0 @@
-pub mod CommitLaws
-mod Steps

@@ -1,2 +1,0 @@
-pub mod EntrySteps
-pub mod Callable

@@ -1,0 +1,2 @@
+mod ReplayLaws
+pub mod Callable

@@ -1,0 +1,4 @@
+pub mod Session
+pub mod Recorded
+pub mod StateHash
+pub mod Replaying

@@ -1,3 +1,0 @@
-mod ManageLaws
-mod Steps
-pub mod Callable

@@ -1,2 +1,0 @@
-pub mod MemoryLaws
-pub mod FoundLaws

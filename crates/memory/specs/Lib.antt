@@ -1,4 +1,0 @@
-pub mod Core
-pub mod GivenBack
-pub mod Given
-pub mod Replies

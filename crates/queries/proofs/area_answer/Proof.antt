@@ -1,0 +1,15 @@
+-- `queries::area_answer` meets its contract. Assumes nothing.
+use mathlib.Core.Path.{refl}
+use native.Mathlib.Nat.{mul-le-mul}
+use native.Mathlib.Omega.{arith}
+use Rattle.queries.proofs.area_answer.Statement.{statement}
+use Rattle.queries.proofs.area_answer.Tie as tie
+
+mul-t4 : tie.Need-mul-t4
+mul-t4 c = omega (arith, mul-le-mul (c .pre .0) (c .pre .1 .1))
+
+returns : tie.Need-returns
+returns c = refl
+
+pub area-answer-spec : {M : Type 1} → statement M
+area-answer-spec = tie.close (tie.spec mul-t4 returns)

@@ -1,4 +1,0 @@
-pub mod Gate
-pub mod Parts
-pub mod Commits
-pub mod Purges

@@ -1,3 +1,0 @@
-pub mod DecisionLaws
-pub mod WriteLaws
-pub mod Callable

@@ -1,4 +1,0 @@
-pub mod ReleaseLaws
-pub mod StepLaws
-pub mod HeadLaws
-pub mod Callable

@@ -1,0 +1,34 @@
+-- The entry point of a release: rows 1 and 2, and behind them the core. Assumes nothing.
+use mathlib.Core.Path.{_≡_, sym, subst}
+use mathlib.Core.Bool.{Bool, true, false}
+use mathlib.Core.List.{List}
+use Prim.Native.Nat.{ℕ}
+use lib.ListN.{length}
+use Rattle.refusals.specs.declared.Refusal.the-variants.{Broken, QuestionOpen}
+use Rattle.clock.specs.Clock.{nowMs, delayMs}
+use Rattle.arena.specs.declared.Arena.{Arena}
+use Rattle.arena.specs.declared.Commitment.{Commitment}
+use Rattle.layer.specs.declared.Settings.{Settings}
+use Rattle.layer.specs.declared.State.{State}
+use Rattle.layer.specs.declared.Reply.{Reply}
+use Rattle.layer.specs.World.{Outcome, sizeOf, worldOf, Leaves, turnDown}
+use Rattle.layer.specs.Table.{soundLent}
+use Rattle.layer.specs.Releasing.{releaseOf}
+use Rattle.layer.specs.Step.{release, act, step}
+use Rattle.layer.specs.Answering.{isIdle}
+use Rattle.state.proofs.Entry.{comes, broken, open-asked, acts}
+
+module _ (l : List Arena) (stamps : List ℕ) (state : State) (ns : ℕ) (settings : Settings) (address n : ℕ) (told : Commitment) (pending : Bool) where
+  abbrev out : Outcome
+  out = step (worldOf l stamps state) ns settings (act (release address n told pending))
+
+  pub broken-row : soundLent (sizeOf state) l (length stamps) state (settings .page) ≡ false → Leaves out (turnDown Broken state) l stamps
+  broken-row e = comes out _ l stamps (broken l stamps state ns settings e (act (release address n told pending)))
+
+  module _ (passes : soundLent (sizeOf state) l (length stamps) state (settings .page) ≡ true) where
+    pub open-row : isIdle (state .question) ≡ false → Leaves out (turnDown QuestionOpen state) l stamps
+    open-row e = comes out _ l stamps (open-asked l stamps state ns settings passes e (release address n told pending))
+
+    pub released : isIdle (state .question) ≡ true → (r : Reply) (m : List Arena) (t : List ℕ)
+        → Leaves (releaseOf (sizeOf state) l stamps (state .count) (state .mark) address n told pending (nowMs ns) (delayMs (settings .delay))) r m t → Leaves out r m t
+    released e r m t h = subst (λ (o : Outcome). Leaves o r m t) (sym (acts l stamps state ns settings passes e (release address n told pending))) h

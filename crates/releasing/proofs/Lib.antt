@@ -1,0 +1,4 @@
+pub mod RecordLaws
+pub mod RowLaws
+pub mod EntryLaws
+pub mod Callable

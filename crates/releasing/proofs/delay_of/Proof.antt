@@ -1,0 +1,16 @@
+-- `releasing::delay_of` meets its contract. Assumes nothing.
+use mathlib.Core.Path.{ap, _∙_}
+use mir.Facts.{toZ-ofZ}
+use borrow.Author.Needs.{needs}
+use Rattle.clock.specs.Clock.{delayMs}
+use Rattle.releasing.proofs.delay_of.Statement.{statement}
+use Rattle.releasing.proofs.delay_of.Tie as tie
+
+delay-ms-requires : tie.Need-delay-ms-requires
+delay-ms-requires c κs = search needs
+
+returns : tie.Need-returns
+returns c = c .delay-ms .ensures ∙ ap delayMs (toZ-ofZ (record { sfits = c .before .struct-told .given .0 .1 }))
+
+pub delay-of-spec : {M : Type 1} → statement M
+delay-of-spec = tie.close (tie.spec delay-ms-requires returns)

@@ -1,2 +1,0 @@
-pub mod SweepLaws
-pub mod Callable

@@ -152,7 +152,7 @@ class Loop:
         ends = "(atReturn 𝓤 H En Post)"
         out.append(f"      turn : (st : St) → Sq W (I st) (runs (𝓣 .C) (𝓣 .Λ) En turn-1 (anyQ (afterTurn 𝓤 H (Below 𝓤 H A {less} I st) (afterBlock 𝓤 H (afterSeq 𝓤 H (Wp 𝓤 H (𝓣 .C) (𝓣 .Λ) En t-{self.number} {ends}) {ends})))))")
         out += ["      unfolding " + " ".join(["afterTurn", *walk.script.unfolding.split()]), "      turn st ="]
-        return out + [line for line in self.text if line.strip()] + [""]
+        return out + ["  " + line for line in self.text if line.strip()] + [""]
 
 
 def value(term):

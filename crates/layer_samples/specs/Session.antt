@@ -18,7 +18,6 @@ use Rattle.samples.specs.declared.lines.Parsed.the-variants.{Whole, Malformed}
 use Rattle.samples.specs.Counting.{afterAnswer, afterMalformed}
 use Rattle.samples.specs.Counting as C
 use Rattle.samples.specs.Signed.{signedOf}
-
 use Rattle.layer_samples.specs.declared.Carried.{Carried}
 use Rattle.layer_samples.specs.declared.Said.{Said}
 use Rattle.layer_samples.specs.declared.Session.{Session}

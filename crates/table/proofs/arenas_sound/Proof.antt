@@ -92,49 +92,49 @@ module _ {M : Type 1} (𝓤 : URA M) (H : Heap 𝓤) (A : Atoms 𝓤) (W : Given
       turn : (st : St) → Sq W (I st) (runs (𝓣 .C) (𝓣 .Λ) En turn-1 (anyQ (afterTurn 𝓤 H (Below 𝓤 H A (λ (u v : St). k - u .i < k - v .i) I st) (afterBlock 𝓤 H (afterSeq 𝓤 H (Wp 𝓤 H (𝓣 .C) (𝓣 .Λ) En t-4 (atReturn 𝓤 H En Post)) (atReturn 𝓤 H En Post))))))
       unfolding afterTurn
       turn st =
-        let i : ℕ = st .i in let s : Span = st .s in let v-s : Val = st .v-s in let g-s : Is T-Span.the-row s (v-s ∷ []) = st .g-s in let inv = st .inv in
-        assigns ! (bin ! (load ! (from ! (stop !)) (look ! 11 refl)) (load ! (from ! (stop !)) (look ! 5 refl)) tt) (from ! (stop !)) (init ! 15 refl (tt, tt)) $
-        tests ! (load ! (from ! (stop !)) (look ! 15 refl))
-        (λ more. let lt : i < k = ltb→lt i k more in let f-i : i < 2 ^ 64 = omega (arith, lt, f-k) in
-        arg-fits ! 1 refl (λ f6-1.
-        head-at-pass ! (in-seq ! (fmOf 𝓤 H (W .laws) 𝓣)) mem run known-head-at L-records records _ (f6-1 .fits) (is-lent records k i (need .1) lt)
-        (λ _. and-then ! (arg ! refl) (and-then ! (arg ! refl) (no-more !))) (λ v-h g-h. let h : Head = headOf (getD records i blank) in
-        land ! (from ! (stop !)) (init ! 13 refl (LL.lawful T-Head.the-type L-Head.the-laws 𝓤 H A W .typed h (v-h ∷ []) g-h .0)) $
-        arg-fits ! 1 refl (λ f7-1. arg-fits ! 3 refl (λ f7-3.
-        sound-at-pass ! (in-seq ! (fmOf 𝓤 H (W .laws) 𝓣)) mem run known-sound-at L-records records _ (f7-1 .fits) h v-h g-h _ (f7-3 .fits) ((need .0, is-lent records k i (need .1) lt, refl))
-        (λ _. and-then ! (arg ! refl) (and-then ! (arg ! refl) (and-then ! (arg ! refl) (and-then ! (arg ! refl) (no-more !))))) (let t7 : Bool = soundArena chunk-size (at records i) in
-        land ! (from ! (stop !)) (store ! 15 refl (tt, tt)) $
-        assigns ! (un ! (arg ! refl) tt) (from ! (stop !)) (init ! 17 refl (tt, tt)) $
-        if-else ! (arg ! refl)
-        (λ h1.
-        assigns ! (of-opd ! (false-lit !)) (from ! (stop !)) (init ! 1 refl (tt, tt)) $
-        returns-within ! Post refl (look ! 1 refl) $ used ! $ used ! $ used ! $ used ! $ used ! $ used ! $ used ! $ used ! $ used ! $ free0 ! $
-        finishS 𝓤 H A T-Arena.the-row L-records bool records χ W (‵ ftrue) (vbool false) false refl (one-unsound chunk-size records k i lt (is-false t7 h1)))
-        (λ h1.
-        arg-fits ! 1 refl (λ f7-1. arg-fits ! 2 refl (λ f7-2.
-        meets-none-pass ! (in-seq ! (fmOf 𝓤 H (W .laws) 𝓣)) mem run known-meets-none L-records records _ (f7-1 .fits) _ (f7-2 .fits) s v-s g-s h v-h g-h ((need .0, passed-sound chunk-size records k i (need .1) lt (inv .0), range-of chunk-size records i (is-true t7 (T-not-not t7 h1)), inv .2))
-        (λ _. and-then ! (arg ! refl) (and-then ! (arg ! refl) (and-then ! (arg ! refl) (and-then ! (arg ! refl) (and-then ! (arg ! refl) (no-more !)))))) (let t7-2 : Bool = not (overlaps chunk-size records i (h .base) (h .chunks * chunk-size)) in
-        land ! (from ! (stop !)) (store ! 15 refl (tt, tt)) $
-        assigns ! (un ! (arg ! refl) tt) (from ! (stop !)) (store ! 17 refl (tt, tt)) $
-        if-else ! (arg ! refl)
-        (λ h2.
-        assigns ! (of-opd ! (false-lit !)) (from ! (stop !)) (init ! 1 refl (tt, tt)) $
-        returns-within ! Post refl (look ! 1 refl) $ used ! $ used ! $ used ! $ used ! $ used ! $ used ! $ used ! $ used ! $ used ! $ free0 ! $
-        finishS 𝓤 H A T-Arena.the-row L-records bool records χ W (‵ ftrue) (vbool false) false refl (one-overlaps chunk-size records k i lt (is-false t7-2 h2)))
-        (λ h2.
-        arg-fits ! 2 refl (λ f4-3.
-        span-with-step ! (in-seq ! (fmOf 𝓤 H (W .laws) 𝓣)) mem run known-span-with s v-s g-s h v-h g-h _ (f4-3 .fits) (range-of chunk-size records i (is-true t7 (T-not-not t7 h1)))
-        (λ _. and-then ! (arg ! refl) (and-then ! (arg ! refl) (and-then ! (arg ! refl) (no-more !)))) (λ v-s-next s-next g-s-next s-next-says.
-        land ! (from ! (stop !)) (store ! 9 refl (LL.lawful T-Span.the-type L-Span.the-laws 𝓤 H A W .typed s-next (v-s-next ∷ []) g-s-next .0)) $
-        assigns-last ! (bin ! (load ! (from ! (stop !)) (look ! 11 refl)) (lit ! tt) (record { fits = omega (arith, lt, f-k) })) (from ! (stop !)) (store ! 11 refl (tt, record { fits = omega (arith, lt, f-k) })) $
-        forget ! 13 refl $ forget ! 15 refl $ forget ! 17 refl $
-        again ! (λ (u v : St). k - u .i < k - v .i) I st (record { i = i + 1; s = s-next; v-s = v-s-next; g-s = g-s-next; below = omega (arith, lt); inv = (passed-more true (sound chunk-size records) i (inv .0) (is-true t7 (T-not-not t7 h1)), passed-more true (alone chunk-size records) i (inv .1) (is-true t7-2 (T-not-not t7-2 h2)), covers-more chunk-size records s s-next i (inv .2) s-next-says) }) (omega (arith, lt)))))))))))))))
-        (λ more. let ended : i ≡ k = omega (arith, st .below, nltb→le i k more) in
-        let inv-end : Passed true (sound chunk-size records) k × Passed true (alone chunk-size records) k × Covers chunk-size s records k = subst (λ (x : ℕ). Passed true (sound chunk-size records) x × Passed true (alone chunk-size records) x × Covers chunk-size s records x) ended inv in
-        exec ! (𝓣 .C) (𝓣 .Λ) En t-4 (atRet En Post) $
-        assigns ! (of-opd ! (true-lit !)) (from ! (stop !)) (init ! 1 refl (tt, tt)) $
-        returns ! (look ! 1 refl) $ used ! $ used ! $ used ! $ used ! $ used ! $ used ! $ room ! $ used ! $ room ! $ free0 ! $
-        finishS 𝓤 H A T-Arena.the-row L-records bool records χ W (‵ ftrue) (vbool true) true refl (all-sound chunk-size records k (inv-end .0) (inv-end .1)))
+          let i : ℕ = st .i in let s : Span = st .s in let v-s : Val = st .v-s in let g-s : Is T-Span.the-row s (v-s ∷ []) = st .g-s in let inv = st .inv in
+          assigns ! (bin ! (load ! (from ! (stop !)) (look ! 11 refl)) (load ! (from ! (stop !)) (look ! 5 refl)) tt) (from ! (stop !)) (init ! 15 refl (tt, tt)) $
+          tests ! (load ! (from ! (stop !)) (look ! 15 refl))
+          (λ more. let lt : i < k = ltb→lt i k more in let f-i : i < 2 ^ 64 = omega (arith, lt, f-k) in
+          arg-fits ! 1 refl (λ f6-1.
+          head-at-pass ! (in-seq ! (fmOf 𝓤 H (W .laws) 𝓣)) mem run known-head-at L-records records _ (f6-1 .fits) (is-lent records k i (need .1) lt)
+          (λ _. and-then ! (arg ! refl) (and-then ! (arg ! refl) (no-more !))) (λ v-h g-h. let h : Head = headOf (getD records i blank) in
+          land ! (from ! (stop !)) (init ! 13 refl (LL.lawful T-Head.the-type L-Head.the-laws 𝓤 H A W .typed h (v-h ∷ []) g-h .0)) $
+          arg-fits ! 1 refl (λ f7-1. arg-fits ! 3 refl (λ f7-3.
+          sound-at-pass ! (in-seq ! (fmOf 𝓤 H (W .laws) 𝓣)) mem run known-sound-at L-records records _ (f7-1 .fits) h v-h g-h _ (f7-3 .fits) ((need .0, is-lent records k i (need .1) lt, refl))
+          (λ _. and-then ! (arg ! refl) (and-then ! (arg ! refl) (and-then ! (arg ! refl) (and-then ! (arg ! refl) (no-more !))))) (let t7 : Bool = soundArena chunk-size (at records i) in
+          land ! (from ! (stop !)) (store ! 15 refl (tt, tt)) $
+          assigns ! (un ! (arg ! refl) tt) (from ! (stop !)) (init ! 17 refl (tt, tt)) $
+          if-else ! (arg ! refl)
+          (λ h1.
+          assigns ! (of-opd ! (false-lit !)) (from ! (stop !)) (init ! 1 refl (tt, tt)) $
+          returns-within ! Post refl (look ! 1 refl) $ used ! $ used ! $ used ! $ used ! $ used ! $ used ! $ used ! $ used ! $ used ! $ free0 ! $
+          finishS 𝓤 H A T-Arena.the-row L-records bool records χ W (‵ ftrue) (vbool false) false refl (one-unsound chunk-size records k i lt (is-false t7 h1)))
+          (λ h1.
+          arg-fits ! 1 refl (λ f7-1. arg-fits ! 2 refl (λ f7-2.
+          meets-none-pass ! (in-seq ! (fmOf 𝓤 H (W .laws) 𝓣)) mem run known-meets-none L-records records _ (f7-1 .fits) _ (f7-2 .fits) s v-s g-s h v-h g-h ((need .0, passed-sound chunk-size records k i (need .1) lt (inv .0), range-of chunk-size records i (is-true t7 (T-not-not t7 h1)), inv .2))
+          (λ _. and-then ! (arg ! refl) (and-then ! (arg ! refl) (and-then ! (arg ! refl) (and-then ! (arg ! refl) (and-then ! (arg ! refl) (no-more !)))))) (let t7-2 : Bool = not (overlaps chunk-size records i (h .base) (h .chunks * chunk-size)) in
+          land ! (from ! (stop !)) (store ! 15 refl (tt, tt)) $
+          assigns ! (un ! (arg ! refl) tt) (from ! (stop !)) (store ! 17 refl (tt, tt)) $
+          if-else ! (arg ! refl)
+          (λ h2.
+          assigns ! (of-opd ! (false-lit !)) (from ! (stop !)) (init ! 1 refl (tt, tt)) $
+          returns-within ! Post refl (look ! 1 refl) $ used ! $ used ! $ used ! $ used ! $ used ! $ used ! $ used ! $ used ! $ used ! $ free0 ! $
+          finishS 𝓤 H A T-Arena.the-row L-records bool records χ W (‵ ftrue) (vbool false) false refl (one-overlaps chunk-size records k i lt (is-false t7-2 h2)))
+          (λ h2.
+          arg-fits ! 2 refl (λ f4-3.
+          span-with-step ! (in-seq ! (fmOf 𝓤 H (W .laws) 𝓣)) mem run known-span-with s v-s g-s h v-h g-h _ (f4-3 .fits) (range-of chunk-size records i (is-true t7 (T-not-not t7 h1)))
+          (λ _. and-then ! (arg ! refl) (and-then ! (arg ! refl) (and-then ! (arg ! refl) (no-more !)))) (λ v-s-next s-next g-s-next s-next-says.
+          land ! (from ! (stop !)) (store ! 9 refl (LL.lawful T-Span.the-type L-Span.the-laws 𝓤 H A W .typed s-next (v-s-next ∷ []) g-s-next .0)) $
+          assigns-last ! (bin ! (load ! (from ! (stop !)) (look ! 11 refl)) (lit ! tt) (record { fits = omega (arith, lt, f-k) })) (from ! (stop !)) (store ! 11 refl (tt, record { fits = omega (arith, lt, f-k) })) $
+          forget ! 13 refl $ forget ! 15 refl $ forget ! 17 refl $
+          again ! (λ (u v : St). k - u .i < k - v .i) I st (record { i = i + 1; s = s-next; v-s = v-s-next; g-s = g-s-next; below = omega (arith, lt); inv = (passed-more true (sound chunk-size records) i (inv .0) (is-true t7 (T-not-not t7 h1)), passed-more true (alone chunk-size records) i (inv .1) (is-true t7-2 (T-not-not t7-2 h2)), covers-more chunk-size records s s-next i (inv .2) s-next-says) }) (omega (arith, lt)))))))))))))))
+          (λ more. let ended : i ≡ k = omega (arith, st .below, nltb→le i k more) in
+          let inv-end : Passed true (sound chunk-size records) k × Passed true (alone chunk-size records) k × Covers chunk-size s records k = subst (λ (x : ℕ). Passed true (sound chunk-size records) x × Passed true (alone chunk-size records) x × Covers chunk-size s records x) ended inv in
+          exec ! (𝓣 .C) (𝓣 .Λ) En t-4 (atRet En Post) $
+          assigns ! (of-opd ! (true-lit !)) (from ! (stop !)) (init ! 1 refl (tt, tt)) $
+          returns ! (look ! 1 refl) $ used ! $ used ! $ used ! $ used ! $ used ! $ used ! $ room ! $ used ! $ room ! $ free0 ! $
+          finishS 𝓤 H A T-Arena.the-row L-records bool records χ W (‵ ftrue) (vbool true) true refl (all-sound chunk-size records k (inv-end .0) (inv-end .1)))
 
     walk : Known T-Arena.the-row L-records records → k < 2 ^ 64 → chunk-size < 2 ^ 64 → (ChunkSize chunk-size × (k ≤ length records)) → Shown χ
     walk known-records f-k f-chunk-size need =

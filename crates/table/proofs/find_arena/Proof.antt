@@ -88,38 +88,38 @@ module _ {M : Type 1} (𝓤 : URA M) (H : Heap 𝓤) (A : Atoms 𝓤) (W : Given
       turn : (st : St) → Sq W (I st) (runs (𝓣 .C) (𝓣 .Λ) En turn-1 (anyQ (afterTurn 𝓤 H (Below 𝓤 H A (λ (u v : St). k - u .i < k - v .i) I st) (afterBlock 𝓤 H (afterSeq 𝓤 H (Wp 𝓤 H (𝓣 .C) (𝓣 .Λ) En t-3 (atReturn 𝓤 H En Post)) (atReturn 𝓤 H En Post))))))
       unfolding afterTurn
       turn st =
-        let i : ℕ = st .i in let inv = st .inv in
-        assigns ! (bin ! (load ! (from ! (stop !)) (look ! 11 refl)) (load ! (from ! (stop !)) (look ! 5 refl)) tt) (from ! (stop !)) (init ! 15 refl (tt, tt)) $
-        tests ! (load ! (from ! (stop !)) (look ! 15 refl))
-        (λ more. let lt : i < k = ltb→lt i k more in let f-i : i < 2 ^ 64 = omega (arith, lt, f-k) in
-        arg-fits ! 1 refl (λ f6-1.
-        head-at-pass ! (in-seq ! (fmOf 𝓤 H (W .laws) 𝓣)) mem run known-head-at L-records records _ (f6-1 .fits) (is-lent records k i (need .1 .0) lt)
-        (λ _. and-then ! (arg ! refl) (and-then ! (arg ! refl) (no-more !))) (λ v-h g-h. let h : Head = headOf (getD records i blank) in
-        land ! (from ! (stop !)) (init ! 13 refl (LL.lawful T-Head.the-type L-Head.the-laws 𝓤 H A W .typed h (v-h ∷ []) g-h .0)) $
-        arg-fits ! 1 refl (λ f8-2. arg-fits ! 2 refl (λ f8-3.
-        holds-step ! (in-seq ! (fmOf 𝓤 H (W .laws) 𝓣)) mem run known-holds h v-h g-h _ (f8-2 .fits) _ (f8-3 .fits) (range-at chunk-size records k (need .1) i lt)
-        (λ _. and-then ! (arg ! refl) (and-then ! (arg ! refl) (and-then ! (arg ! refl) (no-more !)))) (let t8 : Bool = isInside chunk-size (headed h) address in
-        land ! (from ! (stop !)) (init ! 17 refl (tt, tt)) $
-        if-else ! (arg ! refl)
-        (λ h1.
-        arg-fits ! 0 refl (λ f0-1.
-        found-step ! (in-seq ! (fmOf 𝓤 H (W .laws) 𝓣)) mem run known-found _ (f0-1 .fits)
-        (λ _. and-then ! (arg ! refl) (no-more !)) (λ v-result g-result. let result : Found = At i in
-        land ! (from ! (stop !)) (init ! 1 refl (EL.lawful T-Found.the-type L-Found.the-laws 𝓤 H A W tt .typed result (v-result ∷ []) g-result .0)) $
-        returns-within ! Post refl (look ! 1 refl) $ used ! $ used ! $ used ! $ used ! $ used ! $ used ! $ used ! $ used ! $ used ! $ free0 ! $
-        finishS 𝓤 H A T-Arena.the-row L-records T-Found.the-row records χ W (‵ ftrue) v-result result g-result (arena-at chunk-size records address k i lt inv (inside-by-head chunk-size records address i true (is-true t8 h1))))))
-        (λ h1.
-        assigns-last ! (bin ! (load ! (from ! (stop !)) (look ! 11 refl)) (lit ! tt) (record { fits = omega (arith, lt, f-k) })) (from ! (stop !)) (store ! 11 refl (tt, record { fits = omega (arith, lt, f-k) })) $
-        forget ! 13 refl $ forget ! 15 refl $ forget ! 17 refl $
-        again ! (λ (u v : St). k - u .i < k - v .i) I st (record { i = i + 1; below = omega (arith, lt); inv = passed-more false (inside chunk-size records address) i inv (inside-by-head chunk-size records address i false (is-false t8 h1)) }) (omega (arith, lt)))))))))
-        (λ more. let ended : i ≡ k = omega (arith, st .below, nltb→le i k more) in
-        let inv-end : Passed false (inside chunk-size records address) k = subst (λ (x : ℕ). Passed false (inside chunk-size records address) x) ended inv in
-        exec ! (𝓣 .C) (𝓣 .Λ) En t-3 (atRet En Post) $
-        nothing-step ! (in-seq ! (fmOf 𝓤 H (W .laws) 𝓣)) mem run known-nothing
-        (λ _. no-more !) (λ v-result g-result.
-        land ! (from ! (stop !)) (init ! 1 refl (EL.lawful T-Found.the-type L-Found.the-laws 𝓤 H A W tt .typed result (v-result ∷ []) g-result .0)) $
-        returns ! (look ! 1 refl) $ used ! $ used ! $ used ! $ used ! $ used ! $ used ! $ room ! $ used ! $ room ! $ free0 ! $
-        finishS 𝓤 H A T-Arena.the-row L-records T-Found.the-row records χ W (‵ ftrue) v-result result g-result (no-arena chunk-size records address k inv-end)))
+          let i : ℕ = st .i in let inv = st .inv in
+          assigns ! (bin ! (load ! (from ! (stop !)) (look ! 11 refl)) (load ! (from ! (stop !)) (look ! 5 refl)) tt) (from ! (stop !)) (init ! 15 refl (tt, tt)) $
+          tests ! (load ! (from ! (stop !)) (look ! 15 refl))
+          (λ more. let lt : i < k = ltb→lt i k more in let f-i : i < 2 ^ 64 = omega (arith, lt, f-k) in
+          arg-fits ! 1 refl (λ f6-1.
+          head-at-pass ! (in-seq ! (fmOf 𝓤 H (W .laws) 𝓣)) mem run known-head-at L-records records _ (f6-1 .fits) (is-lent records k i (need .1 .0) lt)
+          (λ _. and-then ! (arg ! refl) (and-then ! (arg ! refl) (no-more !))) (λ v-h g-h. let h : Head = headOf (getD records i blank) in
+          land ! (from ! (stop !)) (init ! 13 refl (LL.lawful T-Head.the-type L-Head.the-laws 𝓤 H A W .typed h (v-h ∷ []) g-h .0)) $
+          arg-fits ! 1 refl (λ f8-2. arg-fits ! 2 refl (λ f8-3.
+          holds-step ! (in-seq ! (fmOf 𝓤 H (W .laws) 𝓣)) mem run known-holds h v-h g-h _ (f8-2 .fits) _ (f8-3 .fits) (range-at chunk-size records k (need .1) i lt)
+          (λ _. and-then ! (arg ! refl) (and-then ! (arg ! refl) (and-then ! (arg ! refl) (no-more !)))) (let t8 : Bool = isInside chunk-size (headed h) address in
+          land ! (from ! (stop !)) (init ! 17 refl (tt, tt)) $
+          if-else ! (arg ! refl)
+          (λ h1.
+          arg-fits ! 0 refl (λ f0-1.
+          found-step ! (in-seq ! (fmOf 𝓤 H (W .laws) 𝓣)) mem run known-found _ (f0-1 .fits)
+          (λ _. and-then ! (arg ! refl) (no-more !)) (λ v-result g-result. let result : Found = At i in
+          land ! (from ! (stop !)) (init ! 1 refl (EL.lawful T-Found.the-type L-Found.the-laws 𝓤 H A W tt .typed result (v-result ∷ []) g-result .0)) $
+          returns-within ! Post refl (look ! 1 refl) $ used ! $ used ! $ used ! $ used ! $ used ! $ used ! $ used ! $ used ! $ used ! $ free0 ! $
+          finishS 𝓤 H A T-Arena.the-row L-records T-Found.the-row records χ W (‵ ftrue) v-result result g-result (arena-at chunk-size records address k i lt inv (inside-by-head chunk-size records address i true (is-true t8 h1))))))
+          (λ h1.
+          assigns-last ! (bin ! (load ! (from ! (stop !)) (look ! 11 refl)) (lit ! tt) (record { fits = omega (arith, lt, f-k) })) (from ! (stop !)) (store ! 11 refl (tt, record { fits = omega (arith, lt, f-k) })) $
+          forget ! 13 refl $ forget ! 15 refl $ forget ! 17 refl $
+          again ! (λ (u v : St). k - u .i < k - v .i) I st (record { i = i + 1; below = omega (arith, lt); inv = passed-more false (inside chunk-size records address) i inv (inside-by-head chunk-size records address i false (is-false t8 h1)) }) (omega (arith, lt)))))))))
+          (λ more. let ended : i ≡ k = omega (arith, st .below, nltb→le i k more) in
+          let inv-end : Passed false (inside chunk-size records address) k = subst (λ (x : ℕ). Passed false (inside chunk-size records address) x) ended inv in
+          exec ! (𝓣 .C) (𝓣 .Λ) En t-3 (atRet En Post) $
+          nothing-step ! (in-seq ! (fmOf 𝓤 H (W .laws) 𝓣)) mem run known-nothing
+          (λ _. no-more !) (λ v-result g-result.
+          land ! (from ! (stop !)) (init ! 1 refl (EL.lawful T-Found.the-type L-Found.the-laws 𝓤 H A W tt .typed result (v-result ∷ []) g-result .0)) $
+          returns ! (look ! 1 refl) $ used ! $ used ! $ used ! $ used ! $ used ! $ used ! $ room ! $ used ! $ room ! $ free0 ! $
+          finishS 𝓤 H A T-Arena.the-row L-records T-Found.the-row records χ W (‵ ftrue) v-result result g-result (no-arena chunk-size records address k inv-end)))
 
     walk : Known T-Arena.the-row L-records records → k < 2 ^ 64 → chunk-size < 2 ^ 64 → address < 2 ^ 64 → (ChunkSize chunk-size × SoundArenas chunk-size records k) → Shown χ
     walk known-records f-k f-chunk-size f-address need =

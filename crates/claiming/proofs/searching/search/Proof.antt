@@ -80,34 +80,34 @@ module _ {M : Type 1} (𝓤 : URA M) (H : Heap 𝓤) (A : Atoms 𝓤) (W : Given
       turn : (st : St) → Sq W (I st) (runs (𝓣 .C) (𝓣 .Λ) En turn-1 (anyQ (afterTurn 𝓤 H (Below 𝓤 H A (λ (u v : St). k - u .i < k - v .i) I st) (afterBlock 𝓤 H (afterSeq 𝓤 H (Wp 𝓤 H (𝓣 .C) (𝓣 .Λ) En t-3 (atReturn 𝓤 H En Post)) (atReturn 𝓤 H En Post))))))
       unfolding afterTurn
       turn st =
-        let i : ℕ = st .i in let inv = st .inv in
-        assigns ! (bin ! (load ! (from ! (stop !)) (look ! 11 refl)) (load ! (from ! (stop !)) (look ! 5 refl)) tt) (from ! (stop !)) (init ! 15 refl (tt, tt)) $
-        tests ! (load ! (from ! (stop !)) (look ! 15 refl))
-        (λ more. let lt : i < k = ltb→lt i k more in let f-i : i < 2 ^ 64 = omega (arith, lt, f-k) in
-        arg-fits ! 1 refl (λ f6-1. arg-fits ! 2 refl (λ f6-2. arg-fits ! 3 refl (λ f6-3.
-        verdict-at-pass ! (in-seq ! (fmOf 𝓤 H (W .laws) 𝓣)) mem run known-verdict-at L-records records _ (f6-1 .fits) _ f6-2 _ (f6-3 .fits) ((is-lent records k i (need .0) lt, need .1 i lt))
-        (λ _. and-then ! (arg ! refl) (and-then ! (arg ! refl) (and-then ! (arg ! refl) (and-then ! (arg ! refl) (no-more !))))) (λ v-v g-v. let v : Verdict = verdictOf id n i (at records i) in
-        land ! (from ! (stop !)) (init ! 13 refl (EL.lawful T-Verdict.the-type L-Verdict.the-laws 𝓤 H A W tt .typed v (v-v ∷ []) g-v .0)) $
-        is-run-step ! (in-seq ! (fmOf 𝓤 H (W .laws) 𝓣)) mem run known-is-run v v-v g-v
-        (λ _. and-then ! (arg ! refl) (no-more !)) (let t8 : Bool = isRun v in
-        land ! (from ! (stop !)) (init ! 17 refl (tt, tt)) $
-        if-else ! (arg ! refl)
-        (λ h1.
-        assigns ! (of-opd ! (load ! (from ! (stop !)) (look ! 13 refl))) (from ! (stop !)) (init ! 1 refl (EL.lawful T-Verdict.the-type L-Verdict.the-laws 𝓤 H A W tt .typed v (v-v ∷ []) g-v .0)) $
-        returns-within ! Post refl (look ! 1 refl) $ used ! $ used ! $ used ! $ used ! $ used ! $ used ! $ used ! $ used ! $ used ! $ free0 ! $
-        finishS 𝓤 H A T-Arena.the-row L-records T-Verdict.the-row records χ W (‵ ftrue) v-v v g-v (run-found records id n k i lt inv (is-true t8 h1)))
-        (λ h1.
-        assigns-last ! (bin ! (load ! (from ! (stop !)) (look ! 11 refl)) (lit ! tt) (record { fits = omega (arith, lt, f-k) })) (from ! (stop !)) (store ! 11 refl (tt, record { fits = omega (arith, lt, f-k) })) $
-        forget ! 13 refl $ forget ! 15 refl $ forget ! 17 refl $
-        again ! (λ (u v : St). k - u .i < k - v .i) I st (record { i = i + 1; below = omega (arith, lt); inv = passed-more false (has-run records id n) i inv (is-false t8 h1) }) (omega (arith, lt)))))))))
-        (λ more. let ended : i ≡ k = omega (arith, st .below, nltb→le i k more) in
-        let inv-end : Passed false (has-run records id n) k = subst (λ (x : ℕ). Passed false (has-run records id n) x) ended inv in
-        exec ! (𝓣 .C) (𝓣 .Λ) En t-3 (atRet En Post) $
-        without-run-step ! (in-seq ! (fmOf 𝓤 H (W .laws) 𝓣)) mem run known-without-run
-        (λ _. no-more !) (λ v-result g-result.
-        land ! (from ! (stop !)) (init ! 1 refl (EL.lawful T-Verdict.the-type L-Verdict.the-laws 𝓤 H A W tt .typed result (v-result ∷ []) g-result .0)) $
-        returns ! (look ! 1 refl) $ used ! $ used ! $ used ! $ used ! $ used ! $ used ! $ room ! $ used ! $ room ! $ free0 ! $
-        finishS 𝓤 H A T-Arena.the-row L-records T-Verdict.the-row records χ W (‵ ftrue) v-result result g-result (none-found records id n k inv-end)))
+          let i : ℕ = st .i in let inv = st .inv in
+          assigns ! (bin ! (load ! (from ! (stop !)) (look ! 11 refl)) (load ! (from ! (stop !)) (look ! 5 refl)) tt) (from ! (stop !)) (init ! 15 refl (tt, tt)) $
+          tests ! (load ! (from ! (stop !)) (look ! 15 refl))
+          (λ more. let lt : i < k = ltb→lt i k more in let f-i : i < 2 ^ 64 = omega (arith, lt, f-k) in
+          arg-fits ! 1 refl (λ f6-1. arg-fits ! 2 refl (λ f6-2. arg-fits ! 3 refl (λ f6-3.
+          verdict-at-pass ! (in-seq ! (fmOf 𝓤 H (W .laws) 𝓣)) mem run known-verdict-at L-records records _ (f6-1 .fits) _ f6-2 _ (f6-3 .fits) ((is-lent records k i (need .0) lt, need .1 i lt))
+          (λ _. and-then ! (arg ! refl) (and-then ! (arg ! refl) (and-then ! (arg ! refl) (and-then ! (arg ! refl) (no-more !))))) (λ v-v g-v. let v : Verdict = verdictOf id n i (at records i) in
+          land ! (from ! (stop !)) (init ! 13 refl (EL.lawful T-Verdict.the-type L-Verdict.the-laws 𝓤 H A W tt .typed v (v-v ∷ []) g-v .0)) $
+          is-run-step ! (in-seq ! (fmOf 𝓤 H (W .laws) 𝓣)) mem run known-is-run v v-v g-v
+          (λ _. and-then ! (arg ! refl) (no-more !)) (let t8 : Bool = isRun v in
+          land ! (from ! (stop !)) (init ! 17 refl (tt, tt)) $
+          if-else ! (arg ! refl)
+          (λ h1.
+          assigns ! (of-opd ! (load ! (from ! (stop !)) (look ! 13 refl))) (from ! (stop !)) (init ! 1 refl (EL.lawful T-Verdict.the-type L-Verdict.the-laws 𝓤 H A W tt .typed v (v-v ∷ []) g-v .0)) $
+          returns-within ! Post refl (look ! 1 refl) $ used ! $ used ! $ used ! $ used ! $ used ! $ used ! $ used ! $ used ! $ used ! $ free0 ! $
+          finishS 𝓤 H A T-Arena.the-row L-records T-Verdict.the-row records χ W (‵ ftrue) v-v v g-v (run-found records id n k i lt inv (is-true t8 h1)))
+          (λ h1.
+          assigns-last ! (bin ! (load ! (from ! (stop !)) (look ! 11 refl)) (lit ! tt) (record { fits = omega (arith, lt, f-k) })) (from ! (stop !)) (store ! 11 refl (tt, record { fits = omega (arith, lt, f-k) })) $
+          forget ! 13 refl $ forget ! 15 refl $ forget ! 17 refl $
+          again ! (λ (u v : St). k - u .i < k - v .i) I st (record { i = i + 1; below = omega (arith, lt); inv = passed-more false (has-run records id n) i inv (is-false t8 h1) }) (omega (arith, lt)))))))))
+          (λ more. let ended : i ≡ k = omega (arith, st .below, nltb→le i k more) in
+          let inv-end : Passed false (has-run records id n) k = subst (λ (x : ℕ). Passed false (has-run records id n) x) ended inv in
+          exec ! (𝓣 .C) (𝓣 .Λ) En t-3 (atRet En Post) $
+          without-run-step ! (in-seq ! (fmOf 𝓤 H (W .laws) 𝓣)) mem run known-without-run
+          (λ _. no-more !) (λ v-result g-result.
+          land ! (from ! (stop !)) (init ! 1 refl (EL.lawful T-Verdict.the-type L-Verdict.the-laws 𝓤 H A W tt .typed result (v-result ∷ []) g-result .0)) $
+          returns ! (look ! 1 refl) $ used ! $ used ! $ used ! $ used ! $ used ! $ used ! $ room ! $ used ! $ room ! $ free0 ! $
+          finishS 𝓤 H A T-Arena.the-row L-records T-Verdict.the-row records χ W (‵ ftrue) v-result result g-result (none-found records id n k inv-end)))
 
     walk : Known T-Arena.the-row L-records records → k < 2 ^ 64 → Fits w32 bits-id → n < 2 ^ 64 → (Searchable records k) → Shown χ
     walk known-records f-k f-id f-n need =

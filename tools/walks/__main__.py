@@ -6,6 +6,7 @@ contracts, and is written here:
 
     crates/NAME/proofs/Callable.antt             a step lemma for each function of NAME that a walk calls; those of functions that are private
                                                  to a module of the code stand in proofs/MODULE/Callable.antt
+    crates/NAME/proofs/Looking.antt              the same for each function that a walk of NAME lends a field of a record
     crates/NAME/proofs/FUNCTION/Proof.antt       the walk, with its frame and its citations
     crates/walks/proofs/Walking.antt             the names of the libraries that these use, passed on
 
@@ -32,6 +33,12 @@ A loop is taken in the one form `while i < k { .. i = i + 1; }`, in a function t
 and in a turn stand for themselves `lt`, that the counter is below its bound, and `inv`, the invariant; behind the loop `inv-end`, the
 invariant at the bound.
 
+One record of a lent slice is taken in these forms: `s[i]` is read or written, a struct is made of its fields, or a field is lent to a callee. A
+.walk file has two lines more then, of what the code has there it names nothing:
+
+    index: TERM                         why an index is below the length: that of each element that is reached
+    past: NAME                          what the contract says of the slice past its end
+
 A walk with another loop is written by hand. For the step lemmas of its callees a file crates/NAME/walks/FUNCTION.steps names them, one in a
 line, with `shared` behind those that are lent a slice which the walk itself has by a `&`.
 
@@ -44,6 +51,7 @@ import re
 import sys
 
 sys.dont_write_bytecode = True
+import elements
 import loops
 from kinds import Function, chain, nest, substituted
 from lemmas import bound, element, held, step_lemma
@@ -67,6 +75,34 @@ def walking_file():
     return f"-- What walks use of the libraries, passed on by one name. {MADE}\n" + "\n".join(lines) + "\n"
 
 
+def looking_file(crate, called):
+    """The step lemmas of the functions that a walk of the crate lends a field of an element."""
+    uses, lemmas, contracts, cites = Uses(crate), [], [], []
+    for f in called:
+        for _, kind in [*f.plain, ("", f.result)]:
+            uses.kind(kind)
+        lemmas.append(uses.clause(f.source, elements.looked_lemma(f)))
+        contracts.append(contract_of(f))
+        cites += [f"use {f.module(crate)} as {f.word}′", f"use {f.module(crate)}.Symbol.{{name as {f.key}}}"]
+    names = ", ".join(f"{f.word}-looked" for f in called)
+    head = f"-- Functions that a walk lends a field of an element where it lies, each in one step: {names}. {MADE}\n-- Assumes `Given`, the callee's theorem, and that the table of calls is monotone under a frame.\n"
+    body = lemma_body(contracts, lemmas)
+    return head + uses.lines(body, [*uses.only(elements.LOOKING, body), *cites]) + "\n" + body
+
+
+def contract_of(f):
+    return f"  abbrev pub {f.contract} : Contract 𝓤\n  {f.contract} = tripleOf 𝓤 H A {f.word}′.signature ({f.word}′.spec 𝓤 H A mem run)\n"
+
+
+def lemma_body(contracts, lemmas):
+    return f"""
+-- the contracts that a walk cites
+module _ {GIVEN} (mem : Memory → SProp 𝓤) (run : Routine → Fun 𝓤) where
+""" + "\n".join(contracts) + """
+module _ {M : Type 1} {𝓤 : URA M} {H : Heap 𝓤} {A : Atoms 𝓤} {K : Type 0} {W : Given 𝓤 H A} {Γ : List (Item 𝓤)} {C : Calls 𝓤 H} {E : Env 𝓤 H} {xs : List Operand} {G : Goal 𝓤 H} {after : Val → Goal 𝓤 H} {more : Item 𝓤} where
+""" + "\n".join(lemmas)
+
+
 def steps_file(crate, called):
     """The step lemmas of a crate's functions."""
     uses, lemmas, contracts, cites = Uses(crate), [], [], []
@@ -79,7 +115,7 @@ def steps_file(crate, called):
         text = uses.clause(f.source, step_lemma(f, shared))
         lemmas.append(text)
     for f in {f.source.path: f for f, _ in called}.values():
-        contracts.append(f"  abbrev pub {f.contract} : Contract 𝓤\n  {f.contract} = tripleOf 𝓤 H A {f.word}′.signature ({f.word}′.spec 𝓤 H A mem run)\n")
+        contracts.append(contract_of(f))
         cites += [f"use {f.module(crate)} as {f.word}′", f"use {f.module(crate)}.Symbol.{{name as {f.key}}}"]
     if any(f.shape == "ss" and shared for f, shared in called):
         cites.append(f"use {seen_from('Rattle.walks.proofs.Two', crate)}.{{ss-call}}")
@@ -87,12 +123,7 @@ def steps_file(crate, called):
         cites.append(f"use {seen_from('Rattle.walks.proofs.Shares', crate)}.{{shr2-call}}")
     names = ", ".join(re.match(r"  pub (\S+)", lemma)[1] for lemma in lemmas)
     head = f"-- Functions of `{crate}` that a walk calls, each in one step: {names}. {MADE}\n-- Assumes `Given`, the callee's theorem, and that the table of calls is monotone under a frame.\n"
-    body = f"""
--- the contracts that a walk cites
-module _ {GIVEN} (mem : Memory → SProp 𝓤) (run : Routine → Fun 𝓤) where
-""" + "\n".join(contracts) + """
-module _ {M : Type 1} {𝓤 : URA M} {H : Heap 𝓤} {A : Atoms 𝓤} {K : Type 0} {W : Given 𝓤 H A} {Γ : List (Item 𝓤)} {C : Calls 𝓤 H} {E : Env 𝓤 H} {xs : List Operand} {G : Goal 𝓤 H} {after : Val → Goal 𝓤 H} {more : Item 𝓤} where
-""" + "\n".join(lemmas)
+    body = lemma_body(contracts, lemmas)
     return head + uses.lines(body, cites) + "\n" + body
 
 
@@ -125,6 +156,8 @@ def proof_file(f, script, walk):
     out.append(f"module _ {GIVEN} (W : Given 𝓤 H A) (mem : Memory → SProp 𝓤) (run : Routine → Fun 𝓤) (𝓣 : Tables 𝓤 H)")
     out += [f"    (known-{c.word} : Triple 𝓤 (𝓣 .C {c.key}) ({c.contract} 𝓤 H A mem run))" for c, _ in walk.called.values()]
     out[-1] += " where"
+    for kind_, wanted in walk.pieces.values():
+        out += elements.pieces(kind_, wanted)
     out.append(f"  module _ {' '.join(binders)} where")
     for n, _ in slices:
         out += [f"    abbrev L-{n} : Loan", f"    L-{n} = record {{ κ = κ-{n}; q = q-{n}; γ = γ-{n}; b = b-{n}; o = o-{n}; n = length {n} }}", ""]
@@ -203,7 +236,10 @@ def proof_file(f, script, walk):
         cites += [f"use {module}.Symbol as {c.word}-def", f"use {module}.Symbol.{{name as {c.key}}}", f"use {module}.Met as {c.word}-thm"]
     by_home = {}
     for c, shared in walk.called.values():
-        by_home.setdefault((c.source.crate, c.source.steps), []).append((c, shared))
+        if c.looked:
+            cites.append(f"use {seen_from(f'Rattle.{own}.proofs.Looking', own)}.{{{c.contract}, {c.word}-looked}}")
+        else:
+            by_home.setdefault((c.source.crate, c.source.steps), []).append((c, shared))
     for (crate, module), found in by_home.items():
         names = [c.contract for c, _ in found] + [f"{c.word}-{'pass' if shared else 'step'}" for c, shared in found]
         home = ".".join([*module, "Callable"])
@@ -214,6 +250,8 @@ def proof_file(f, script, walk):
     body = "\n" + "\n".join(out) + "\n"
     if walk.loop:
         cites += uses.only(loops.LIBRARY, body) + [f"use {mine}.Code.Mir.{{turn-1, t-{walk.loop.number}}}"]
+    if walk.elements.index:
+        cites += uses.only(elements.LIBRARY, body)
     path = "::".join([own, *f.source.module, f.source.name])
     top = f"-- `{path}` meets its contract: a walk of its MIR. {script.head}\n-- {MADE} Assumes nothing.\n"
     return top + uses.lines(body, [*script.uses, f"use {FRAMES[f.shape].replace('Rattle·' + own + '.', 'Rattle·' + own + '·proofs.')}", *cites]) + "\n" + body
@@ -222,7 +260,7 @@ def proof_file(f, script, walk):
 def all_files(check):
     """Each file that is written here, with its text. A crate whose sources do not compile is left as it is, unless they are checked."""
     files = {CRATES / "walks" / "proofs" / "Walking.antt": walking_file()}
-    called, sources, mirs, made = {}, {}, {}, {}
+    called, looked, sources, mirs, made = {}, {}, {}, {}, {}
     for crate in sorted(p.parent.name for p in CRATES.glob("*/walks")):
         try:
             mirs[crate] = Mir(crate)
@@ -244,13 +282,18 @@ def all_files(check):
             text = proof_file(f, script, walk)
             files[CRATES / crate / "proofs" / "/".join([*f.source.module, f.source.name]) / "Proof.antt"] = text
             for callee, shared in walk.called.values():
-                called.setdefault((callee.source.crate, callee.source.steps), {})[callee.source.path, shared] = callee
+                if callee.looked:
+                    looked.setdefault(crate, {})[callee.source.path] = callee
+                else:
+                    called.setdefault((callee.source.crate, callee.source.steps), {})[callee.source.path, shared] = callee
         for path in sorted((CRATES / crate / "walks").glob("*.steps")):
             for line in path.read_text().split("\n"):
                 name, _, shared = line.partition(" ")
                 if name and not name.startswith("#"):
                     callee = find(name)
                     called.setdefault((callee.source.crate, callee.source.steps), {})[name, shared == "shared"] = callee
+    for crate, found in looked.items():
+        files[CRATES / crate / "proofs" / "Looking.antt"] = looking_file(crate, [found[path] for path in sorted(found)])
     for (crate, module), found in called.items():
         order = sorted(found)
         files[(CRATES / crate / "proofs").joinpath(*module, "Callable.antt")] = steps_file(crate, [(found[key], key[1]) for key in order])

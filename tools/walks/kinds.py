@@ -48,6 +48,11 @@ class Kind:
 NUMBERS = {"usize": Kind("number", "usize", "ℕ"), "u64": Kind("number", "u64", "ℕ"), "u32": Kind("number", "u32", "ℕ")}
 PLAIN = {**NUMBERS, "i32": Kind("signed", "i32", "ℤ"), "bool": Kind("bool", "bool", "Bool"), "()": Kind("unit", "Nothing", "Unit {0}")}
 
+# What is lent by a `&` to one value: its type as it is written, and what proofs call it.
+LOOKED = {"u32": Kind("number", "u32", "ℕ", alias="number"), "[u32; 32]": Kind("words", "Array u32 32", "List ℕ", alias="words")}
+for written, kind in LOOKED.items():
+    kind.written = written
+
 
 def alias(path):
     """A type's name in proofs, from its path."""
@@ -79,11 +84,13 @@ class Function:
         self.source, self.mir = source, mir
         item = mir.functions[source.path]
         self.count, self.locals, self.body = int(item[3]), [x[1] for x in items(item[4])], item[5]
-        self.slices, self.plain, self.names = [], [], []
+        self.slices, self.plain, self.names, self.looked = [], [], [], None
         for at, (name, written) in enumerate(source.params):
-            lent = re.match(r"&(mut )?\[(.*)\]$", written)
+            lent = re.match(r"&(mut )?\[([^;]*)\]$", written)
             mir_type = self.locals[at + 1]
-            if lent:
+            if written[1:] in LOOKED and written[0] == "&":
+                self.looked = (variable(name), LOOKED[written[1:]])
+            elif lent:
                 element = kind_of(lent[2], items(mir_type[2])[0][3], mir.enums)
                 self.slices.append((variable(name), Slice(bool(lent[1]), element)))
             else:
@@ -130,7 +137,7 @@ class Function:
 
     def lists(self, text):
         """A clause with a name for each list: NAME at the entry, NAME-exit at the exit."""
-        for name, _ in self.slices:
+        for name, _ in [*self.slices, *([self.looked] if self.looked else [])]:
             raw = re.escape(name.rstrip("′").replace("-", "_"))
             text = re.sub(rf"now \({raw} \.exit\)", f"{name}-exit", text)
             text = re.sub(rf"now \({raw} \.entry\)|now {raw}(?![\w-])", name, text)

@@ -205,7 +205,7 @@ class Script:
                 lines.append(line)
         self.head = lines[0]
         self.uses, self.required, self.returned, self.unfolding, self.found = [], {}, [], "", None
-        self.invariant, self.starts, self.again = "", "", ""
+        self.invariant, self.starts, self.again, self.index, self.past = "", "", "", "", ""
         for line in lines[1:]:
             word, _, rest = line.partition(" ")
             if word == "use":
@@ -221,6 +221,10 @@ class Script:
                 self.starts = rest
             elif word == "again:":
                 self.again = rest
+            elif word == "index:":
+                self.index = rest
+            elif word == "past:":
+                self.past = rest
             elif word == "unfolding":
                 self.unfolding = rest
             elif word == "found":

@@ -2,6 +2,7 @@
 import re
 import sys
 
+from elements import Elements
 from kinds import PLAIN, kind_of, substituted
 from lemmas import element
 from loops import Loop
@@ -35,6 +36,7 @@ class Walk:
         self.start = set(range(1, f.count + 1))
         self.met, self.defined, self.constants = set(), [], set()
         self.loop, self.starting = None, {}
+        self.elements, self.pieces = Elements(self), {}
 
     def emit(self, text):
         self.out.append(("        " + text).rstrip())
@@ -87,6 +89,8 @@ class Walk:
 
     def assign(self, target, value, ready):
         n = int(target[1])
+        if self.elements.takes(target, value, ready):
+            return
         if value[0] == "addrOf":
             p = value[1]
             self.slice[n] = self.slice[int(p[1])]
@@ -171,14 +175,18 @@ class Walk:
         self.called[callee.source.path] = (callee, shared and bool(callee.slices))
         arguments = items(statement[2])
         n = int(statement[3][1])
-        plain = arguments[len(callee.slices) :]
+        before = len(callee.slices) + (1 if callee.looked else 0)
+        plain = arguments[before:]
         self.seen[callee.source.path] = self.seen.get(callee.source.path, 0) + 1
         again = self.seen[callee.source.path]
-        word = f"{callee.word}-{'pass' if shared and callee.slices else 'step'}"
+        word = f"{callee.word}-{'looked' if callee.looked else 'pass' if shared and callee.slices else 'step'}"
         # the slices that it is lent; a call on the second alone has it put first
         lent = [self.slice[int(x[1][1])] for x in arguments[: len(callee.slices)]]
         turned = len(self.f.slices) == 2 and lent == [self.f.slices[1][0]]
         args, opened = [x for m in lent for x in (f"L-{m}", self.lists[m])], []
+        told_of, leaf = {}, bool(callee.looked)
+        if leaf:
+            args, told_of[callee.looked[0]] = self.elements.lent(arguments[0], callee)
         for k, (x, (name, kind)) in enumerate(zip(plain, callee.plain)):
             if kind.form == "number" and self.field(x):
                 step, bound = self.fitting(x, f"w{n}-{k + 1}")
@@ -192,12 +200,20 @@ class Walk:
                 args += [m, f"(known-{length[1]} .1 .0)" if length else f"f-{m}"]
             elif kind.form in ("number", "signed") and not (x[0] == "int" and int(x[2]) >= 1024):
                 fits = f"f{n}-{k + 1}"
-                opened.append(f"arg-fits ! {len(callee.slices) + k} refl (λ {fits}.")
+                opened.append(f"arg-fits ! {before + k} refl (λ {fits}.")
                 args += ["_", f"({fits} .fits)" if kind.form == "number" else fits]
+                if leaf:
+                    told_of[name] = f"(value {fits})"
+                    self.met.add(fits)
             elif kind.form == "number":
                 args += ["_", "(lit< tt)"]
             elif kind.form == "signed":
                 args += ["_", "(record { fits = lit< tt })"]
+            elif kind.form == "bool" and leaf:
+                opened.append(f"arg-flag ! {before + k} (λ b{n}-{k + 1}.")
+                args += [f"(flag b{n}-{k + 1})"]
+                told_of[name] = args[-1]
+                self.met.add(f"b{n}-{k + 1}")
             elif kind.form == "bool":
                 args += ["_"]
             else:
@@ -215,7 +231,7 @@ class Walk:
         _, equal = callee.says()
         if equal is not None:
             equal = {left: self.uses.clause(callee.source, right) for left, right in equal.items()}
-        names = {name: self.term(x, kind) for x, (name, kind) in zip(plain, callee.plain)} | {name: self.lists[m] for (name, _), m in zip(callee.slices, lent)}
+        names = {name: self.term(x, kind) for x, (name, kind) in zip(plain, callee.plain)} | {name: self.lists[m] for (name, _), m in zip(callee.slices, lent)} | told_of
         local = self.renamed(n) if n else "result"
         kind = callee.result
         changed = [(name, m) for (name, s), m in zip(callee.slices, lent) if s.changes]

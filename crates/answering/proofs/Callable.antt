@@ -1,4 +1,4 @@
--- Functions of `answering` that a walk calls, each in one step: answer-step, answer-open-step, answer-commit-step, is-answered-step, answer-memory-step, commit-of-step, is-commit-step, is-memory-step, is-purge-step, memory-of-step, purge-chunk-step, purge-id-step, purge-sweep-step, answer-give-back-step, register-step. Written by tools/walks.
+-- Functions of `answering` that a walk calls, each in one step: answer-step, answer-open-step, answer-commit-step, is-answered-step, answer-memory-step, is-commit-step, is-memory-step, is-purge-step, memory-of-step, purge-sweep-step, answer-give-back-step, register-step. Written by tools/walks.
 -- Assumes `Given`, the callee's theorem, and that the table of calls is monotone under a frame.
 use Rattle.walks.proofs.Walking.{_≡_, refl, sym, _∙_, ap, subst, Bool, true, false, ℕ, _<_, _≤_, _^_, List, [], _∷_, length, w64, Operand, Val, vint, vbool, URA, SProp, emp, id⊢, Memory, Routine, Heap, Env, Calls, Atoms, Given, Item, Goal, Seq, ‵, _⊛_, Opds, Fun, factI, bool, u32, u64, usize, yes, Is, Ises, owns-make, uint-makes, bool-tells, bool-makes, plain, only, tripleOf, Contract, Triple, Loan, lent, sliceOf, Site, plain-call, mut-call, mut2-call}
 use Rattle.layer.proofs.State as T-State
@@ -11,8 +11,6 @@ use Rattle.layer.proofs.Kind.Laws as L-Kind
 use denote.Enum.Laws as EL
 use Rattle.arena.proofs.Arena as T-Arena
 use Rattle.layer.proofs.Reply as T-Reply
-use Rattle.answering.proofs.open_question.CommitQuestion as T-CommitQuestion
-use Rattle.answering.proofs.open_question.CommitQuestion.Laws as L-CommitQuestion
 use Rattle.answering.proofs.open_question.MemoryQuestion as T-MemoryQuestion
 use Rattle.answering.proofs.open_question.MemoryQuestion.Laws as L-MemoryQuestion
 use Rattle.layer.proofs.Question as T-Question
@@ -27,15 +25,14 @@ use Rattle.layer.specs.World.{worldOf, Leaves, sizeOf}
 use Rattle.layer.specs.Step.{answer, step}
 use Rattle.layer.specs.Answering.{answerTo, isIdle, answerCommit, isFor, answerMemory, causeRefusal, failReply, resume}
 use Rattle.state.specs.Ready.{Asked, Standing, Stamped}
-use Rattle.answering.specs.declared.open_question.CommitQuestion.{CommitQuestion}
 use Rattle.claiming.specs.Search.{RunAt}
 use Rattle.answering.specs.declared.open_question.MemoryQuestion.{MemoryQuestion}
-use Rattle.answering.specs.Opened.{reserving, commitOf, memoryOf, purgeChunk, purgeId, purgeSweep, causeOf, waiterOf}
+use Rattle.answering.specs.Opened.{reserving, memoryOf, purgeSweep, causeOf, waiterOf}
 use Rattle.layer.specs.declared.Question.{Question}
 use Rattle.layer.specs.declared.Kind.the-variants.{ForCommit, ForMemory, ForPurge, ForGiveBack}
 use Rattle.layer.specs.declared.Sweep.{Sweep}
 use Rattle.arena.specs.Registering.{reservedArena}
-use Rattle.lookup.specs.Soundness.{soundArena}
+use Rattle.arena.specs.Soundness.{soundArena}
 use Rattle.answering.proofs.answer as answer′
 use Rattle.answering.proofs.answer.Symbol.{name as #answering·answer}
 use Rattle.answering.proofs.answer_open as answer-open′
@@ -46,8 +43,6 @@ use Rattle.answering.proofs.is_answered as is-answered′
 use Rattle.answering.proofs.is_answered.Symbol.{name as #answering·is-answered}
 use Rattle.answering.proofs.memory.answer_memory as answer-memory′
 use Rattle.answering.proofs.memory.answer_memory.Symbol.{name as #answering·memory·answer-memory}
-use Rattle.answering.proofs.open_question.commit_of as commit-of′
-use Rattle.answering.proofs.open_question.commit_of.Symbol.{name as #answering·open-question·commit-of}
 use Rattle.answering.proofs.open_question.is_commit as is-commit′
 use Rattle.answering.proofs.open_question.is_commit.Symbol.{name as #answering·open-question·is-commit}
 use Rattle.answering.proofs.open_question.is_memory as is-memory′
@@ -56,10 +51,6 @@ use Rattle.answering.proofs.open_question.is_purge as is-purge′
 use Rattle.answering.proofs.open_question.is_purge.Symbol.{name as #answering·open-question·is-purge}
 use Rattle.answering.proofs.open_question.memory_of as memory-of′
 use Rattle.answering.proofs.open_question.memory_of.Symbol.{name as #answering·open-question·memory-of}
-use Rattle.answering.proofs.open_question.purge_chunk as purge-chunk′
-use Rattle.answering.proofs.open_question.purge_chunk.Symbol.{name as #answering·open-question·purge-chunk}
-use Rattle.answering.proofs.open_question.purge_id as purge-id′
-use Rattle.answering.proofs.open_question.purge_id.Symbol.{name as #answering·open-question·purge-id}
 use Rattle.answering.proofs.open_question.purge_sweep as purge-sweep′
 use Rattle.answering.proofs.open_question.purge_sweep.Symbol.{name as #answering·open-question·purge-sweep}
 use Rattle.answering.proofs.waiting.answer_give_back as answer-give-back′
@@ -84,9 +75,6 @@ module _ {M : Type 1} (𝓤 : URA M) (H : Heap 𝓤) (A : Atoms 𝓤) (mem : Mem
   abbrev pub AnswerMemorySpec : Contract 𝓤
   AnswerMemorySpec = tripleOf 𝓤 H A answer-memory′.signature (answer-memory′.spec 𝓤 H A mem run)
 
-  abbrev pub CommitOfSpec : Contract 𝓤
-  CommitOfSpec = tripleOf 𝓤 H A commit-of′.signature (commit-of′.spec 𝓤 H A mem run)
-
   abbrev pub IsCommitSpec : Contract 𝓤
   IsCommitSpec = tripleOf 𝓤 H A is-commit′.signature (is-commit′.spec 𝓤 H A mem run)
 
@@ -98,12 +86,6 @@ module _ {M : Type 1} (𝓤 : URA M) (H : Heap 𝓤) (A : Atoms 𝓤) (mem : Mem
 
   abbrev pub MemoryOfSpec : Contract 𝓤
   MemoryOfSpec = tripleOf 𝓤 H A memory-of′.signature (memory-of′.spec 𝓤 H A mem run)
-
-  abbrev pub PurgeChunkSpec : Contract 𝓤
-  PurgeChunkSpec = tripleOf 𝓤 H A purge-chunk′.signature (purge-chunk′.spec 𝓤 H A mem run)
-
-  abbrev pub PurgeIdSpec : Contract 𝓤
-  PurgeIdSpec = tripleOf 𝓤 H A purge-id′.signature (purge-id′.spec 𝓤 H A mem run)
 
   abbrev pub PurgeSweepSpec : Contract 𝓤
   PurgeSweepSpec = tripleOf 𝓤 H A purge-sweep′.signature (purge-sweep′.spec 𝓤 H A mem run)
@@ -136,14 +118,14 @@ module _ {M : Type 1} {𝓤 : URA M} {H : Heap 𝓤} {A : Atoms 𝓤} {K : Type 
       (λ out records-exit stamps-exit. Leaves (answerTo (sizeOf state) records stamps (state .count) (state .mark) (state .question) granted base) out records-exit stamps-exit) (λ _ _ _ out ws. id⊢ 𝓤 _) (λ hd′ _. ops hd′) (λ val′ out records-exit stamps-exit rel′ eq′ l-records l-stamps. then′ val′ out records-exit stamps-exit rel′ eq′ l-records l-stamps)
 
   pub answer-commit-step : K → Site K W Γ C E #answering·committing·answer-commit xs G after → (mem : Memory → SProp 𝓤) (run : Routine → Fun 𝓤) → Triple 𝓤 (C #answering·committing·answer-commit) (AnswerCommitSpec 𝓤 H A mem run)
-      → (L-records : Loan) (records : List Arena) → (state : State) (v-state : Val) → Is T-State.the-row state (v-state ∷ []) → (c : CommitQuestion) (v-c : Val) → Is T-CommitQuestion.the-row c (v-c ∷ []) → (granted : Bool) → (RunAt (sizeOf state) records (c .id) (c .start) (c .n))
-      → ((hd′ : Item 𝓤) → Opds K W (hd′ ∷ Γ) E xs (sliceOf L-records ∷ v-state ∷ v-c ∷ vbool granted ∷ []))
-      → ((val′ : Val) (out : Reply) (records-exit : List Arena) → Is T-Reply.the-row out (val′ ∷ []) → ((stamps : List ℕ) → Leaves (answerCommit (sizeOf state) records stamps (state .count) (state .mark) (c .id) (c .start) (c .n) granted) out records-exit stamps) → length records-exit ≡ length records → Seq K W ((‵ (lent T-Arena.the-row L-records records-exit) ⊛ more) ∷ Γ) (after val′))
+      → (L-records : Loan) (records : List Arena) → (state : State) (v-state : Val) → Is T-State.the-row state (v-state ∷ []) → (i : ℕ) → i < 2 ^ 64 → (s : ℕ) → s < 2 ^ 64 → (n : ℕ) → n < 2 ^ 64 → (granted : Bool) → (RunAt (sizeOf state) records i s n)
+      → ((hd′ : Item 𝓤) → Opds K W (hd′ ∷ Γ) E xs (sliceOf L-records ∷ v-state ∷ vint w64 i ∷ vint w64 s ∷ vint w64 n ∷ vbool granted ∷ []))
+      → ((val′ : Val) (out : Reply) (records-exit : List Arena) → Is T-Reply.the-row out (val′ ∷ []) → ((stamps : List ℕ) → Leaves (answerCommit (sizeOf state) records stamps (state .count) (state .mark) i s n granted) out records-exit stamps) → length records-exit ≡ length records → Seq K W ((‵ (lent T-Arena.the-row L-records records-exit) ⊛ more) ∷ Γ) (after val′))
       → Seq K W ((‵ (lent T-Arena.the-row L-records records) ⊛ more) ∷ Γ) G
-  answer-commit-step bang site mem run known L-records records state v-state g-state c v-c g-c granted need ops then′ =
-      mut-call bang site T-Arena.the-row L-records T-Reply.the-row (plain (λ _. T-State.the-row) ∷ plain (λ _. T-CommitQuestion.the-row) ∷ plain (λ _. bool) ∷ []) (yes, (yes, (yes, tt))) (answer-commit′.clauses 𝓤 H A mem run) known records (λ _. (state, (c, (granted, tt)))) (λ _. (v-state ∷ [], (v-c ∷ [], (vbool granted ∷ [], tt))))
-      (λ _. owns-make 𝓤 H A (T-State.the-row ∷ T-CommitQuestion.the-row ∷ bool ∷ []) (Ises (T-State.the-row ∷ T-CommitQuestion.the-row ∷ bool ∷ [])) (LL.makes T-State.the-type L-State.the-plain 𝓤 H A, (LL.makes T-CommitQuestion.the-type L-CommitQuestion.the-plain 𝓤 H A, (bool-makes 𝓤 H A W, tt))) (state, (c, (granted, tt))) (v-state ∷ [], (v-c ∷ [], (vbool granted ∷ [], tt))) (g-state, (g-c, (refl, tt)))) (λ _ _. tt) (λ _ _. factI 𝓤 _ (emp 𝓤) need)
-      (λ out records-exit. ((stamps : List ℕ) → Leaves (answerCommit (sizeOf state) records stamps (state .count) (state .mark) (c .id) (c .start) (c .n) granted) out records-exit stamps)) (λ _ _ out ws. id⊢ 𝓤 _) (λ hd′ _. ops hd′) (λ val′ out records-exit rel′ eq′ l-records. then′ val′ out records-exit rel′ eq′ l-records)
+  answer-commit-step bang site mem run known L-records records state v-state g-state i f-i s f-s n f-n granted need ops then′ =
+      mut-call bang site T-Arena.the-row L-records T-Reply.the-row (plain (λ _. T-State.the-row) ∷ plain (λ _. usize) ∷ plain (λ _. usize) ∷ plain (λ _. usize) ∷ plain (λ _. bool) ∷ []) (yes, (yes, (yes, (yes, (yes, tt))))) (answer-commit′.clauses 𝓤 H A mem run) known records (λ _. (state, (i, (s, (n, (granted, tt)))))) (λ _. (v-state ∷ [], (vint w64 i ∷ [], (vint w64 s ∷ [], (vint w64 n ∷ [], (vbool granted ∷ [], tt))))))
+      (λ _. owns-make 𝓤 H A (T-State.the-row ∷ usize ∷ usize ∷ usize ∷ bool ∷ []) (Ises (T-State.the-row ∷ usize ∷ usize ∷ usize ∷ bool ∷ [])) (LL.makes T-State.the-type L-State.the-plain 𝓤 H A, (uint-makes 𝓤 H A W w64, (uint-makes 𝓤 H A W w64, (uint-makes 𝓤 H A W w64, (bool-makes 𝓤 H A W, tt))))) (state, (i, (s, (n, (granted, tt))))) (v-state ∷ [], (vint w64 i ∷ [], (vint w64 s ∷ [], (vint w64 n ∷ [], (vbool granted ∷ [], tt))))) (g-state, ((refl, f-i), ((refl, f-s), ((refl, f-n), (refl, tt)))))) (λ _ _. tt) (λ _ _. factI 𝓤 _ (emp 𝓤) need)
+      (λ out records-exit. ((stamps : List ℕ) → Leaves (answerCommit (sizeOf state) records stamps (state .count) (state .mark) i s n granted) out records-exit stamps)) (λ _ _ out ws. id⊢ 𝓤 _) (λ hd′ _. ops hd′) (λ val′ out records-exit rel′ eq′ l-records. then′ val′ out records-exit rel′ eq′ l-records)
 
   pub is-answered-step : K → Site K W Γ C E #answering·is-answered xs G after → (mem : Memory → SProp 𝓤) (run : Routine → Fun 𝓤) → Triple 𝓤 (C #answering·is-answered) (IsAnsweredSpec 𝓤 H A mem run)
       → (state : State) (v-state : Val) → Is T-State.the-row state (v-state ∷ []) → (kind : Kind) (v-kind : Val) → Is T-Kind.the-row kind (v-kind ∷ [])
@@ -164,16 +146,6 @@ module _ {M : Type 1} {𝓤 : URA M} {H : Heap 𝓤} {A : Atoms 𝓤} {K : Type 
       mut2-call bang site T-Arena.the-row u32 L-records L-stamps T-Reply.the-row (plain (λ _. T-State.the-row) ∷ plain (λ _. T-MemoryQuestion.the-row) ∷ plain (λ _. bool) ∷ plain (λ _. u64) ∷ []) (yes, (yes, (yes, (yes, tt)))) (answer-memory′.clauses 𝓤 H A mem run) known records stamps (λ _. (state, (m, (granted, (base, tt))))) (λ _. (v-state ∷ [], (v-m ∷ [], (vbool granted ∷ [], (vint w64 base ∷ [], tt)))))
       (λ _. owns-make 𝓤 H A (T-State.the-row ∷ T-MemoryQuestion.the-row ∷ bool ∷ u64 ∷ []) (Ises (T-State.the-row ∷ T-MemoryQuestion.the-row ∷ bool ∷ u64 ∷ [])) (LL.makes T-State.the-type L-State.the-plain 𝓤 H A, (LL.makes T-MemoryQuestion.the-type L-MemoryQuestion.the-plain 𝓤 H A, (bool-makes 𝓤 H A W, (uint-makes 𝓤 H A W w64, tt)))) (state, (m, (granted, (base, tt)))) (v-state ∷ [], (v-m ∷ [], (vbool granted ∷ [], (vint w64 base ∷ [], tt)))) (g-state, (g-m, (refl, ((refl, f-base), tt))))) (λ _ _ _. tt) (λ _ _ _. factI 𝓤 _ (emp 𝓤) need)
       (λ out records-exit stamps-exit. Leaves (answerMemory (sizeOf state) records stamps (state .count) (state .mark) (m .chunks) (m .bytes) (m .commit) (m .exclusive) (m .waiting) granted base) out records-exit stamps-exit) (λ _ _ _ out ws. id⊢ 𝓤 _) (λ hd′ _. ops hd′) (λ val′ out records-exit stamps-exit rel′ eq′ l-records l-stamps. then′ val′ out records-exit stamps-exit rel′ eq′ l-records l-stamps)
-
-  pub commit-of-step : K → Site K W Γ C E #answering·open-question·commit-of xs G after → (mem : Memory → SProp 𝓤) (run : Routine → Fun 𝓤) → Triple 𝓤 (C #answering·open-question·commit-of) (CommitOfSpec 𝓤 H A mem run)
-      → (q : Question) (v-q : Val) → Is T-Question.the-row q (v-q ∷ []) → (isFor q ForCommit ≡ true)
-      → ((hd′ : Item 𝓤) → Opds K W (hd′ ∷ Γ) E xs (v-q ∷ []))
-      → ((val′ : Val) → Is T-CommitQuestion.the-row (commitOf q) (val′ ∷ []) → Seq K W (more ∷ Γ) (after val′))
-      → Seq K W (more ∷ Γ) G
-  commit-of-step bang site mem run known q v-q g-q need ops then′ =
-      plain-call bang site T-CommitQuestion.the-row (plain (λ _. T-Question.the-row) ∷ []) (yes, tt) (commit-of′.clauses 𝓤 H A mem run) known (q, tt) (v-q ∷ [], tt)
-      (owns-make 𝓤 H A (T-Question.the-row ∷ []) (Ises (T-Question.the-row ∷ [])) (EL.makes T-Question.the-type L-Question.the-plain 𝓤 H A, tt) (q, tt) (v-q ∷ [], tt) (g-q, tt)) tt (factI 𝓤 _ (emp 𝓤) need)
-      (λ out. out ≡ commitOf q) (λ out ws. id⊢ 𝓤 _) ops (λ val′ out rel′ eq′. then′ val′ (subst (λ (obj′ : CommitQuestion). Is T-CommitQuestion.the-row obj′ (val′ ∷ [])) eq′ rel′))
 
   pub is-commit-step : K → Site K W Γ C E #answering·open-question·is-commit xs G after → (mem : Memory → SProp 𝓤) (run : Routine → Fun 𝓤) → Triple 𝓤 (C #answering·open-question·is-commit) (IsCommitSpec 𝓤 H A mem run)
       → (q : Question) (v-q : Val) → Is T-Question.the-row q (v-q ∷ [])
@@ -214,26 +186,6 @@ module _ {M : Type 1} {𝓤 : URA M} {H : Heap 𝓤} {A : Atoms 𝓤} {K : Type 
       plain-call bang site T-MemoryQuestion.the-row (plain (λ _. T-Question.the-row) ∷ []) (yes, tt) (memory-of′.clauses 𝓤 H A mem run) known (q, tt) (v-q ∷ [], tt)
       (owns-make 𝓤 H A (T-Question.the-row ∷ []) (Ises (T-Question.the-row ∷ [])) (EL.makes T-Question.the-type L-Question.the-plain 𝓤 H A, tt) (q, tt) (v-q ∷ [], tt) (g-q, tt)) tt (factI 𝓤 _ (emp 𝓤) need)
       (λ out. out ≡ memoryOf q) (λ out ws. id⊢ 𝓤 _) ops (λ val′ out rel′ eq′. then′ val′ (subst (λ (obj′ : MemoryQuestion). Is T-MemoryQuestion.the-row obj′ (val′ ∷ [])) eq′ rel′))
-
-  pub purge-chunk-step : K → Site K W Γ C E #answering·open-question·purge-chunk xs G after → (mem : Memory → SProp 𝓤) (run : Routine → Fun 𝓤) → Triple 𝓤 (C #answering·open-question·purge-chunk) (PurgeChunkSpec 𝓤 H A mem run)
-      → (q : Question) (v-q : Val) → Is T-Question.the-row q (v-q ∷ []) → (isFor q ForPurge ≡ true)
-      → ((hd′ : Item 𝓤) → Opds K W (hd′ ∷ Γ) E xs (v-q ∷ []))
-      → ((purgeChunk q) < 2 ^ 64 → Seq K W (more ∷ Γ) (after (vint w64 (purgeChunk q))))
-      → Seq K W (more ∷ Γ) G
-  purge-chunk-step bang site mem run known q v-q g-q need ops then′ =
-      plain-call bang site usize (plain (λ _. T-Question.the-row) ∷ []) (yes, tt) (purge-chunk′.clauses 𝓤 H A mem run) known (q, tt) (v-q ∷ [], tt)
-      (owns-make 𝓤 H A (T-Question.the-row ∷ []) (Ises (T-Question.the-row ∷ [])) (EL.makes T-Question.the-type L-Question.the-plain 𝓤 H A, tt) (q, tt) (v-q ∷ [], tt) (g-q, tt)) tt (factI 𝓤 _ (emp 𝓤) need)
-      (λ out. out ≡ purgeChunk q) (λ out ws. id⊢ 𝓤 _) ops (λ val′ out rel′ eq′. subst (λ (new′ : Val). Seq K W (more ∷ Γ) (after new′)) (sym (ap only (rel′ .0) ∙ ap (vint w64) eq′)) (then′ (subst (λ (num′ : ℕ). num′ < 2 ^ 64) eq′ (rel′ .1))))
-
-  pub purge-id-step : K → Site K W Γ C E #answering·open-question·purge-id xs G after → (mem : Memory → SProp 𝓤) (run : Routine → Fun 𝓤) → Triple 𝓤 (C #answering·open-question·purge-id) (PurgeIdSpec 𝓤 H A mem run)
-      → (q : Question) (v-q : Val) → Is T-Question.the-row q (v-q ∷ []) → (isFor q ForPurge ≡ true)
-      → ((hd′ : Item 𝓤) → Opds K W (hd′ ∷ Γ) E xs (v-q ∷ []))
-      → ((purgeId q) < 2 ^ 64 → Seq K W (more ∷ Γ) (after (vint w64 (purgeId q))))
-      → Seq K W (more ∷ Γ) G
-  purge-id-step bang site mem run known q v-q g-q need ops then′ =
-      plain-call bang site usize (plain (λ _. T-Question.the-row) ∷ []) (yes, tt) (purge-id′.clauses 𝓤 H A mem run) known (q, tt) (v-q ∷ [], tt)
-      (owns-make 𝓤 H A (T-Question.the-row ∷ []) (Ises (T-Question.the-row ∷ [])) (EL.makes T-Question.the-type L-Question.the-plain 𝓤 H A, tt) (q, tt) (v-q ∷ [], tt) (g-q, tt)) tt (factI 𝓤 _ (emp 𝓤) need)
-      (λ out. out ≡ purgeId q) (λ out ws. id⊢ 𝓤 _) ops (λ val′ out rel′ eq′. subst (λ (new′ : Val). Seq K W (more ∷ Γ) (after new′)) (sym (ap only (rel′ .0) ∙ ap (vint w64) eq′)) (then′ (subst (λ (num′ : ℕ). num′ < 2 ^ 64) eq′ (rel′ .1))))
 
   pub purge-sweep-step : K → Site K W Γ C E #answering·open-question·purge-sweep xs G after → (mem : Memory → SProp 𝓤) (run : Routine → Fun 𝓤) → Triple 𝓤 (C #answering·open-question·purge-sweep) (PurgeSweepSpec 𝓤 H A mem run)
       → (q : Question) (v-q : Val) → Is T-Question.the-row q (v-q ∷ []) → (isFor q ForPurge ≡ true)

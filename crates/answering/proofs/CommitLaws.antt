@@ -1,16 +1,6 @@
 -- Both answers to a commit question leave what the definition says. Assumes nothing.
-use mathlib.Core.Path.{_≡_, ap}
-use mathlib.Core.Bool.{Bool, true, false}
-use mathlib.Core.List.{List}
-use Prim.Native.Nat.{ℕ, _+_, _*_}
-use lib.ListN.{set}
-use Rattle.refusals.specs.declared.Refusal.the-variants.{CommitRefused}
-use Rattle.arena.specs.declared.Arena.{Arena}
-use Rattle.arena.specs.Claiming.{runFresh, giveBackRun, finishGrant}
-use Rattle.layer.specs.declared.Answer.the-variants.{Claimed}
-use Rattle.layer.specs.World.{Outcome, reply, Leaves, turnDown, calm}
-use Rattle.layer.specs.Table.{at}
-use Rattle.layer.specs.Answering.{answerCommit}
+use Rattle.state.proofs.Prelude.{_≡_, ap, Bool, true, false, List, ℕ, _+_, _*_, set, CommitRefused, Arena, runFresh, giveBackRun, Claimed, Outcome, reply, Leaves, turnDown, calm, at, answerCommit}
+use Rattle.arena.specs.Claiming.{finishGrant}
 use Rattle.state.proofs.Entry.{comes}
 
 module _ (S : ℕ) (l : List Arena) (stamps : List ℕ) (k : ℕ) (mark : Bool) (i s n : ℕ) (granted : Bool) where

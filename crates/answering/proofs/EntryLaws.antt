@@ -1,24 +1,7 @@
--- The answer's entry point: rows 1 and 3, and behind them the core. Assumes nothing.
-use mathlib.Core.Path.{_≡_, refl, sym, ap, _∙_, subst}
-use mathlib.Core.Bool.{Bool, true, false, not, true≢false}
-use mathlib.Core.List.{List}
-use Prim.Native.Nat.{ℕ}
-use lib.ListN.{length}
-use Rattle.refusals.specs.declared.Refusal.the-variants.{Broken, NoSuchQuestion}
-use Rattle.words.proofs.Tests.{when, unless}
-use Rattle.arena.specs.declared.Arena.{Arena}
-use Rattle.layer.specs.declared.Settings.{Settings}
-use Rattle.layer.specs.declared.State.{State}
-use Rattle.layer.specs.declared.Question.{Question}
-use Rattle.layer.specs.declared.Question.the-variants.{Idle, Committing, Purging, Reserving, GivingBack}
-use Rattle.layer.specs.declared.Kind.{Kind}
-use Rattle.layer.specs.declared.Kind.the-variants.{ForCommit, ForPurge, ForMemory, ForGiveBack, ForNone}
-use Rattle.layer.specs.declared.Reply.{Reply}
-use Rattle.layer.specs.World.{Outcome, sizeOf, worldOf, Leaves, turnDown}
-use Rattle.layer.specs.Table.{soundLent}
-use Rattle.layer.specs.Answering.{isIdle, isFor, answerTo, answerOf}
-use Rattle.layer.specs.Step.{answer, step}
-use Rattle.state.proofs.Entry.{comes, broken, goes}
+-- The answer's entry point: row 3, and behind it the core. Assumes nothing.
+use Rattle.state.proofs.Prelude.{_≡_, refl, sym, ap, _∙_, subst, Bool, true, false, not, true≢false, List, ℕ, NoSuchQuestion, when, unless, Arena, Settings, State, Question, Idle, Committing, Purging, Reserving, GivingBack, Kind, ForCommit, ForPurge, ForMemory, ForGiveBack, Reply, Outcome, sizeOf, worldOf, Leaves, turnDown, isIdle, isFor, answerTo, answerOf, answer, step}
+use Rattle.layer.specs.declared.Kind.the-variants.{ForNone}
+use Rattle.state.proofs.Entry.{Passes, comes, goes}
 
 -- no answer is for no question
 pub is-open : (q : Question) (kind : Kind) → isFor q kind ≡ true → isIdle q ≡ false
@@ -37,10 +20,7 @@ module _ (l : List Arena) (stamps : List ℕ) (state : State) (ns : ℕ) (settin
   abbrev out : Outcome
   out = step (worldOf l stamps state) ns settings (answer kind granted base)
 
-  pub broken-row : soundLent (sizeOf state) l (length stamps) state (settings .page) ≡ false → Leaves out (turnDown Broken state) l stamps
-  broken-row e = comes out _ l stamps (broken l stamps state ns settings e (answer kind granted base))
-
-  module _ (passes : soundLent (sizeOf state) l (length stamps) state (settings .page) ≡ true) where
+  module _ (passes : Passes l stamps state ns settings) where
     pub other-row : isFor (state .question) kind ≡ false → Leaves out (turnDown NoSuchQuestion state) l stamps
     unfolding answerOf
     other-row e = comes out _ l stamps (goes l stamps state ns settings passes (answer kind granted base) ∙ when _ _ _ (ap not e))

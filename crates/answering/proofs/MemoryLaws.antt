@@ -1,34 +1,8 @@
 -- Each return of the answer to a memory question leaves what the definition says; and the arena that is registered is sound. Assumes nothing.
-use mathlib.Core.Path.{_≡_, refl, sym, ap, _∙_, subst}
-use mathlib.Core.Bool.{Bool, true, false, not, _||_, true≢false}
-use mathlib.Core.List.{List}
-use Prim.Native.Nat.{ℕ, suc, _+_, _*_, _/_, _%_, _^_, _<_, _≤_}
-use native.Mathlib.Nat.{mul-le-mul, div-mul-le-self, div-lt-iff-lt-mul}
-use native.Mathlib.Omega.{arith}
-use borrow.Author.Tests.{eqb-true, ltb-false, ltb-true, lt-ltb, le-leb, leb-true, leb-false}
-use lib.Dec.{eqb, leb, ltb}
-use lib.IntN.{negsuc}
-use lib.ListN.{length, set, length-set}
-use Rattle.refusals.specs.declared.Refusal.the-variants.{Range, NoRun, MemoryRefused}
-use Rattle.words.proofs.Tests.{when, unless}
-use Rattle.runs.proofs.LowestLaws.{all-free-of, free-all}
-use Rattle.runs.proofs.SearchLaws.{same}
-use Rattle.arena.specs.declared.Arena.{Arena}
+use Rattle.state.proofs.Prelude.{_≡_, refl, sym, ap, _∙_, subst, Bool, true, false, not, _||_, true≢false, List, ℕ, suc, _+_, _*_, _/_, _%_, _^_, _<_, _≤_, mul-le-mul, div-mul-le-self, div-lt-iff-lt-mul, arith, eqb-true, ltb-false, ltb-true, lt-ltb, le-leb, leb-true, leb-false, eqb, leb, ltb, negsuc, length, set, length-set, Range, NoRun, MemoryRefused, when, unless, all-free-of, free-all, same, Arena, soundArena, State, Reply, Registered, Count, Misaligned, Full, Waiting, Reserve, Claim, Question, Outcome, sizeOf, stateWith, reply, after, Leaves, turnDown, calm, at, overlaps, badRange, badCount, withRecord, withStamps, searchOf, failReply, resume, answerMemory}
 use Rattle.arena.specs.Registering.{reservedArena}
-use Rattle.lookup.specs.Soundness.{soundArena}
-use Rattle.lookup.proofs.SoundLaws.{arena-test}
-use Rattle.layer.specs.declared.State.{State}
-use Rattle.layer.specs.declared.Reply.{Reply}
-use Rattle.layer.specs.declared.Answer.the-variants.{Registered}
-use Rattle.layer.specs.declared.Unusable.the-variants.{Count, Misaligned, Full}
-use Rattle.layer.specs.declared.Waiting.{Waiting}
-use Rattle.layer.specs.declared.Waiting.the-variants.{Reserve, Claim}
-use Rattle.layer.specs.declared.Question.{Question}
-use Rattle.layer.specs.World.{Outcome, sizeOf, stateOf, reply, after, Leaves, turnDown, calm}
-use Rattle.layer.specs.Table.{at, overlaps, badRange}
-use Rattle.layer.specs.Registering.{badCount, withRecord, withStamps}
-use Rattle.layer.specs.Claiming.{searchOf}
-use Rattle.layer.specs.Answering.{failReply, giveBackReply, resume, answerMemory}
+use Rattle.arena.proofs.SoundLaws.{arena-test}
+use Rattle.layer.specs.Answering.{giveBackReply}
 use Rattle.layer.proofs.Tools.{by-set}
 use Rattle.layer.proofs.Rules.{count-facts}
 use Rattle.layer.proofs.Registered.{good-range, reserved-sound}
@@ -85,7 +59,7 @@ module _ (S : ℕ) (l : List Arena) (stamps : List ℕ) (state : State) (m : Mem
 
   module _ (yes : granted ≡ true) where
     pub range-row : state .question ≡ reserving m → badRange S l k base (m .chunks * S) ≡ true → Leaves (answers granted) (turnDown Range state) l stamps
-    range-row q e = comes (answers granted) _ l stamps (ap answers yes ∙ when _ _ _ e ∙ ap (λ (x : Question). after (turnDown Range (stateOf k mark x)) l stamps) (sym q))
+    range-row q e = comes (answers granted) _ l stamps (ap answers yes ∙ when _ _ _ e ∙ ap (λ (x : Question). after (turnDown Range (stateWith k mark x)) l stamps) (sym q))
 
     module _ (good : badRange S l k base (m .chunks * S) ≡ false) where
       pub count-row : badCount (m .chunks) ≡ true → Leaves (answers granted) (giveBackReply k mark base (m .bytes) Count (m .waiting)) l stamps

@@ -1,4 +1,4 @@
--- The open question taken apart: what it carries where it is of the kind, and who waits. Assumes nothing.
+-- The open question taken apart: what it carries where it is of the kind, beside the chunks that it is about, and who waits. Assumes nothing.
 use mathlib.Core.Bool.{Bool, true, false}
 use Prim.Native.Nat.{ℕ}
 use Rattle.layer.specs.declared.Sweep.{Sweep}
@@ -8,58 +8,31 @@ use Rattle.layer.specs.declared.Unusable.{Unusable}
 use Rattle.layer.specs.declared.Unusable.the-variants.{Count}
 use Rattle.layer.specs.declared.Waiting.{Waiting}
 use Rattle.layer.specs.declared.Waiting.the-variants.{Reserve, Claim}
-use Rattle.answering.specs.declared.open_question.CommitQuestion.{CommitQuestion}
 use Rattle.answering.specs.declared.open_question.MemoryQuestion.{MemoryQuestion}
-
--- ---- a commit
-
-abbrev pub noCommit : CommitQuestion
-noCommit = record { id = 0; start = 0; n = 0 }
-
-abbrev pub commitOf : Question → CommitQuestion
-commitOf Idle = noCommit
-commitOf (Committing id start n) = record { id = id; start = start; n = n }
-commitOf (Purging id chunk sweep) = noCommit
-commitOf (Reserving chunks bytes commit exclusive waiting) = noCommit
-commitOf (GivingBack cause waiting) = noCommit
 
 -- ---- a purge
 
-abbrev pub purgeId : Question → ℕ
-purgeId Idle = 0
-purgeId (Committing id start n) = 0
-purgeId (Purging id chunk sweep) = id
-purgeId (Reserving chunks bytes commit exclusive waiting) = 0
-purgeId (GivingBack cause waiting) = 0
-
-abbrev pub purgeChunk : Question → ℕ
-purgeChunk Idle = 0
-purgeChunk (Committing id start n) = 0
-purgeChunk (Purging id chunk sweep) = chunk
-purgeChunk (Reserving chunks bytes commit exclusive waiting) = 0
-purgeChunk (GivingBack cause waiting) = 0
-
-abbrev pub noSweep : Sweep
-noSweep = record { force = false; now = 0; delay = 0; decommit = false; purged = 0 }
+abbrev pub blankSweep : Sweep
+blankSweep = record { force = false; now = 0; delay = 0; decommit = false; purged = 0 }
 
 abbrev pub purgeSweep : Question → Sweep
-purgeSweep Idle = noSweep
-purgeSweep (Committing id start n) = noSweep
+purgeSweep Idle = blankSweep
+purgeSweep (Committing id start n) = blankSweep
 purgeSweep (Purging id chunk sweep) = sweep
-purgeSweep (Reserving chunks bytes commit exclusive waiting) = noSweep
-purgeSweep (GivingBack cause waiting) = noSweep
+purgeSweep (Reserving chunks bytes commit exclusive waiting) = blankSweep
+purgeSweep (GivingBack cause waiting) = blankSweep
 
 -- ---- memory
 
-abbrev pub noMemory : MemoryQuestion
-noMemory = record { chunks = 0; bytes = 0; commit = false; exclusive = false; waiting = Reserve }
+abbrev pub blankMemory : MemoryQuestion
+blankMemory = record { chunks = 0; bytes = 0; commit = false; exclusive = false; waiting = Reserve }
 
 abbrev pub memoryOf : Question → MemoryQuestion
-memoryOf Idle = noMemory
-memoryOf (Committing id start n) = noMemory
-memoryOf (Purging id chunk sweep) = noMemory
+memoryOf Idle = blankMemory
+memoryOf (Committing id start n) = blankMemory
+memoryOf (Purging id chunk sweep) = blankMemory
 memoryOf (Reserving chunks bytes commit exclusive waiting) = record { chunks = chunks; bytes = bytes; commit = commit; exclusive = exclusive; waiting = waiting }
-memoryOf (GivingBack cause waiting) = noMemory
+memoryOf (GivingBack cause waiting) = blankMemory
 
 -- the question that asks for it
 abbrev pub reserving : MemoryQuestion → Question

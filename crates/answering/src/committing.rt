@@ -6,34 +6,11 @@ ghost use Rattle.refusals.specs.declared.Refusal.the-variants.{CommitRefused};
 ghost use Rattle.layer.specs.World.{sizeOf, Leaves, turnDown, calm};
 ghost use Rattle.layer.specs.Answering.{answerCommit};
 ghost use Rattle.claiming.specs.Search.{RunAt};
-use crate::open_question::CommitQuestion;
 use arena::Arena;
 use layer::Answer;
 use layer::Reply;
 use layer::State;
 use refusals::Refusal;
-
-// ---- what is read of the question
-
-fn id_of(c: CommitQuestion) -> usize
-    ensures { λ r. ⌜ r ≡ c .id ⌝ }
-{
-    c.id
-}
-
-fn start_of(c: CommitQuestion) -> usize
-    ensures { λ r. ⌜ r ≡ c .start ⌝ }
-{
-    c.start
-}
-
-fn length_of(c: CommitQuestion) -> usize
-    ensures { λ r. ⌜ r ≡ c .n ⌝ }
-{
-    c.n
-}
-
-// ---- the answer
 
 // Row 11.
 fn commit_refused(state: State) -> Reply
@@ -43,24 +20,28 @@ fn commit_refused(state: State) -> Reply
     state::settled(answer, state.count, state.mark)
 }
 
-// After a yes the run is committed and dirty, and granted; after a no its chunks are free again.
-pub fn answer_commit(records: &mut [Arena], state: State, c: CommitQuestion, granted: bool) -> Reply
-    requires { ⌜ RunAt (sizeOf state) (now records) (c .id) (c .start) (c .n) ⌝ }
-    ensures { λ r. ⌜ ((stamps : List ℕ) → Leaves (answerCommit (sizeOf state) (now (records .entry)) stamps (state .count) (state .mark) (c .id) (c .start) (c .n) granted) r (now (records .exit)) stamps) ⌝ }
+// The n chunks from s on of arena i: after a yes the run is committed and dirty, and granted; after a no its chunks are free again.
+pub fn answer_commit(
+    records: &mut [Arena],
+    state: State,
+    i: usize,
+    s: usize,
+    n: usize,
+    granted: bool,
+) -> Reply
+    requires { ⌜ RunAt (sizeOf state) (now records) i s n ⌝ }
+    ensures { λ r. ⌜ ((stamps : List ℕ) → Leaves (answerCommit (sizeOf state) (now (records .entry)) stamps (state .count) (state .mark) i s n granted) r (now (records .exit)) stamps) ⌝ }
 {
-    let i = id_of(c);
-    let s = start_of(c);
-    let n = length_of(c);
-    let a = records::load(records, i);
+    let a = table::records::load(records, i);
     if granted {
         let size = state::chunk_size(state);
         let h = table::head_at(records, i);
-        let fresh = records::run_maps::fresh_at(records, i, s, n);
+        let fresh = table::run_maps::fresh_at(records, i, s, n);
         let held = arena::arena_runs::finish_grant(a, s, n);
-        records::store(records, i, held);
+        table::records::store(records, i, held);
         return claiming::grants::granted(h, state, s, fresh, true, size);
     }
     let freed = arena::arena_runs::give_back_run(a, s, n);
-    records::store(records, i, freed);
+    table::records::store(records, i, freed);
     commit_refused(state)
 }

@@ -7,7 +7,6 @@ pub mod waiting;
 
 ghost use mathlib.Core.Path.{_≡_};
 ghost use mathlib.Core.Bool.{false};
-ghost use Rattle.refusals.specs.declared.Refusal.the-variants.{NoSuchQuestion};
 ghost use Rattle.layer.specs.World.{sizeOf, worldOf, Leaves};
 ghost use Rattle.layer.specs.Step.{answer, step};
 ghost use Rattle.layer.specs.Answering.{isFor, answerTo, isIdle};
@@ -43,15 +42,15 @@ pub fn answer_open(
     ensures { λ r. ⌜ Leaves (answerTo (sizeOf state) (now (records .entry)) (now (stamps .entry)) (state .count) (state .mark) (state .question) granted base) r (now (records .exit)) (now (stamps .exit)) ⌝ }
 {
     let q = state::question_of(state);
+    let id = table::open_question::asked_id(q);
+    let first = table::open_question::first_asked(q);
     if crate::open_question::is_commit(q) {
-        let c = crate::open_question::commit_of(q);
-        return crate::committing::answer_commit(records, state, c, granted);
+        let n = table::open_question::length_asked(q);
+        return crate::committing::answer_commit(records, state, id, first, n, granted);
     }
     if crate::open_question::is_purge(q) {
-        let id = crate::open_question::purge_id(q);
-        let chunk = crate::open_question::purge_chunk(q);
         let w = crate::open_question::purge_sweep(q);
-        return sweeping::answer_purge(records, stamps, state, id, chunk, w, granted);
+        return sweeping::answer_purge(records, stamps, state, id, first, w, granted);
     }
     if crate::open_question::is_memory(q) {
         let m = crate::open_question::memory_of(q);

@@ -1,21 +1,15 @@
-// The open question, by value: which answer is for it, and what it carries.
+// The open question, by value: which answer is for it, and what it carries beside the chunks that it is about, which
+// `table::open_question` tells.
 ghost use mathlib.Core.Path.{_≡_};
 ghost use mathlib.Core.Bool.{true};
 ghost use Rattle.layer.specs.declared.Kind.the-variants.{ForCommit, ForPurge, ForMemory, ForGiveBack};
 ghost use Rattle.layer.specs.Answering.{kindOpen, kindAnswered, isFor};
-ghost use Rattle.answering.specs.Opened.{commitOf, purgeId, purgeChunk, purgeSweep, memoryOf, causeOf, waiterOf};
+ghost use Rattle.answering.specs.Opened.{purgeSweep, memoryOf, causeOf, waiterOf};
 use layer::Kind;
 use layer::Question;
 use layer::Sweep;
 use layer::Unusable;
 use layer::Waiting;
-
-// The run whose commit is asked for.
-pub struct CommitQuestion {
-    pub id: usize,
-    pub start: usize,
-    pub n: usize,
-}
 
 // The memory that is asked for, and who waits for it.
 pub struct MemoryQuestion {
@@ -70,24 +64,6 @@ pub fn is_commit(q: Question) -> bool
     is_for(q, kind)
 }
 
-pub fn commit_of(q: Question) -> CommitQuestion
-    requires { ⌜ isFor q ForCommit ≡ true ⌝ }
-    ensures { λ r. ⌜ r ≡ commitOf q ⌝ }
-{
-    let none = CommitQuestion {
-        id: 0,
-        start: 0,
-        n: 0,
-    };
-    match q {
-        Question::Idle => none,
-        Question::Committing { id, start, n } => CommitQuestion { id, start, n },
-        Question::Purging { .. } => none,
-        Question::Reserving { .. } => none,
-        Question::GivingBack { .. } => none,
-    }
-}
-
 // ---- a purge
 
 pub fn is_purge(q: Question) -> bool
@@ -97,35 +73,7 @@ pub fn is_purge(q: Question) -> bool
     is_for(q, kind)
 }
 
-// The arena of the chunk that the host purges.
-pub fn purge_id(q: Question) -> usize
-    requires { ⌜ isFor q ForPurge ≡ true ⌝ }
-    ensures { λ r. ⌜ r ≡ purgeId q ⌝ }
-{
-    match q {
-        Question::Idle => 0,
-        Question::Committing { .. } => 0,
-        Question::Purging { id, .. } => id,
-        Question::Reserving { .. } => 0,
-        Question::GivingBack { .. } => 0,
-    }
-}
-
-// The chunk.
-pub fn purge_chunk(q: Question) -> usize
-    requires { ⌜ isFor q ForPurge ≡ true ⌝ }
-    ensures { λ r. ⌜ r ≡ purgeChunk q ⌝ }
-{
-    match q {
-        Question::Idle => 0,
-        Question::Committing { .. } => 0,
-        Question::Purging { chunk, .. } => chunk,
-        Question::Reserving { .. } => 0,
-        Question::GivingBack { .. } => 0,
-    }
-}
-
-// The sweep that goes on behind it.
+// The sweep that goes on behind the chunk.
 pub fn purge_sweep(q: Question) -> Sweep
     requires { ⌜ isFor q ForPurge ≡ true ⌝ }
     ensures { λ r. ⌜ r ≡ purgeSweep q ⌝ }
@@ -176,13 +124,15 @@ pub fn memory_of(q: Question) -> MemoryQuestion
             commit,
             exclusive,
             waiting,
-        } => MemoryQuestion {
-            chunks,
-            bytes,
-            commit,
-            exclusive,
-            waiting,
-        },
+        } => {
+            MemoryQuestion {
+                chunks,
+                bytes,
+                commit,
+                exclusive,
+                waiting,
+            }
+        }
         Question::GivingBack { .. } => none,
     }
 }

@@ -7,15 +7,17 @@ ghost use Prim.Native.Nat.{ℕ, suc, _<_, _≤_};
 ghost use lib.IntN.{negsuc};
 ghost use Rattle.refusals.specs.declared.Refusal.the-variants.{NoRun};
 ghost use Rattle.arena.specs.Registering.{reservedArena};
-ghost use Rattle.lookup.specs.Soundness.{soundArena};
+ghost use Rattle.arena.specs.Soundness.{soundArena};
 ghost use Rattle.layer.specs.World.{sizeOf, Leaves, turnDown, calm};
 ghost use Rattle.layer.specs.Claiming.{searchOf};
 ghost use Rattle.layer.specs.declared.Kind.the-variants.{ForGiveBack};
 ghost use Rattle.layer.specs.Answering.{isFor, causeRefusal, failReply, resume};
 ghost use Rattle.state.specs.Ready.{Standing, Stamped};
+ghost use Rattle.claiming.specs.Search.{searchFrom, Searchable};
 ghost use Rattle.answering.specs.Opened.{causeOf, waiterOf, isClaim, chunksWanted, commitsWanted};
 use crate::open_question::MemoryQuestion;
 use arena::Arena;
+use claiming::verdicts::Verdict;
 use layer::Answer;
 use layer::Question;
 use layer::Reply;
@@ -105,21 +107,31 @@ fn one_more(state: State) -> State
     }
 }
 
-// The claim that waits "searches once more", by no arena's name, the new arena being the last.
+// The run that the claim finds, by no arena's name. No call leaves a claim of no chunks waiting, but a state
+// that is lent may have one.
+fn find_again(records: &[Arena], k: usize, n: usize) -> Verdict
+    requires { ⌜ Searchable (now records) k ⌝ }
+    ensures { λ r. ⌜ r ≡ searchFrom (now (records .entry)) (negsuc 0) n 0 k ⌝ }
+{
+    if n == 0 {
+        return claiming::searching::search_none(records, k, -1);
+    }
+    claiming::searching::search(records, k, -1, n)
+}
+
+// The claim that waits "searches once more", the new arena being the last.
 fn search_again(records: &mut [Arena], state: State, waiting: Waiting) -> Reply
-    requires { ⌜ (isClaim waiting ≡ true) × (state .count < 32) × Standing (now records) (calm (suc (state .count)) (state .mark)) ⌝ }
-    ensures { λ r. ⌜ ((stamps : List ℕ) → Leaves (searchOf (sizeOf state) (now (records .entry)) stamps (suc (state .count)) (state .mark) (negsuc 0) (chunksWanted waiting) (commitsWanted waiting) (turnDown NoRun (calm (suc (state .count)) (state .mark)))) r (now (records .exit)) stamps) ⌝ }
+    requires { ⌜ (isClaim waiting ≡ true) × Standing (now records) state ⌝ }
+    ensures { λ r. ⌜ ((stamps : List ℕ) → Leaves (searchOf (sizeOf state) (now (records .entry)) stamps (state .count) (state .mark) (negsuc 0) (chunksWanted waiting) (commitsWanted waiting) (turnDown NoRun (calm (state .count) (state .mark)))) r (now (records .exit)) stamps) ⌝ }
 {
     let n = chunks_wanted(waiting);
     let commits = commits_wanted(waiting);
-    let left = one_more(state);
-    let count = state::count_of(left);
-    let v = claiming::searching::search(records, count, -1, n);
+    let v = find_again(records, state.count, n);
     if claiming::verdicts::is_run(v) {
-        return claiming::grants::grant_found(records, left, v, n, commits);
+        return claiming::grants::grant_found(records, state, v, n, commits);
     }
-    let mark = state::mark_of(left);
-    claiming::misses::no_such_run(count, mark)
+    let mark = state.mark;
+    claiming::misses::no_such_run(state.count, mark)
 }
 
 fn arena_of(m: MemoryQuestion, base: u64) -> Arena
@@ -151,7 +163,8 @@ pub fn register(
     registering::writing::write_new(records, stamps, k, a);
     let waiting = waiting_of(m);
     if is_claim(waiting) {
-        return search_again(records, state, waiting);
+        let left = one_more(state);
+        return search_again(records, left, waiting);
     }
     registering::writing::registered(state)
 }

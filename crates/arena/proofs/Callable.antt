@@ -1,6 +1,6 @@
--- Functions of `arena` that a walk calls, each in one step: adopted-arena-step, finish-grant-step, give-back-run-step, grant-run-step, release-pending-step, release-run-step, take-run-step, armed-anew-step, first-borrowed-step, last-returned-step, next-borrowed-step, grow-step, managed-arena-step. Written by tools/walks.
+-- Functions of `arena` that a walk calls, each in one step: adopted-arena-step, finish-grant-step, give-back-run-step, grant-run-step, release-pending-step, release-run-step, take-run-step, armed-anew-step, first-borrowed-step, last-returned-step, next-borrowed-step, grow-step, managed-arena-step, stamp-run-of-step. Written by tools/walks.
 -- Assumes `Given`, the callee's theorem, and that the table of calls is monotone under a frame.
-use Rattle.walks.proofs.Walking.{_≡_, refl, subst, Bool, true, ℕ, _<_, _≤_, _+_, _^_, List, [], _∷_, w32, w64, Operand, Val, vint, vbool, Fits, toZ, URA, SProp, emp, id⊢, Memory, Routine, Heap, Env, Calls, Atoms, Given, Item, Goal, Seq, Opds, Fun, factI, bool, u32, u64, usize, i32, yes, Is, Ises, owns-make, uint-makes, bool-makes, plain, sint-makes, tripleOf, Contract, Triple, signed, Site, plain-call}
+use Rattle.walks.proofs.Walking.{_≡_, refl, sym, subst, Bool, true, ℕ, _<_, _≤_, _+_, _*_, _^_, List, [], _∷_, length, w32, w64, Operand, Val, vint, vbool, Fits, toZ, URA, SProp, emp, id⊢, Memory, Routine, Heap, Env, Calls, Atoms, Given, Item, Goal, Seq, ‵, _⊛_, Opds, Fun, factI, bool, u32, u64, usize, i32, yes, Is, Ises, owns-make, Nothing, uint-makes, bool-makes, plain, sint-makes, tripleOf, Contract, Triple, Loan, lent, sliceOf, signed, Site, plain-call, mut-call}
 use Rattle.arena.proofs.Arena as T-Arena
 use Rattle.arena.proofs.Arena.Laws as L-Arena
 use denote.Struct.Laws as LL
@@ -11,7 +11,7 @@ use Rattle.arena.specs.declared.Arena.{Arena}
 use Rattle.arena.specs.Registering.{adoptedArena, grownArena, managedArena}
 use Rattle.arena.specs.Claiming.{finishGrant, giveBackRun, takeRun, dirtyRun}
 use Rattle.arena.specs.declared.Commitment.{Commitment}
-use Rattle.arena.specs.Releasing.{tellRun, pendRun}
+use Rattle.arena.specs.Releasing.{tellRun, pendRun, stampRun}
 use Rattle.arena.specs.Record.{withDeadline}
 use Rattle.arena.specs.Sweeping.{disarm, borrowChunk, returnChunk}
 use Rattle.arena.proofs.adopted_arena as adopted-arena′
@@ -40,6 +40,8 @@ use Rattle.arena.proofs.grow as grow′
 use Rattle.arena.proofs.grow.Symbol.{name as #arena·grow}
 use Rattle.arena.proofs.managed_arena as managed-arena′
 use Rattle.arena.proofs.managed_arena.Symbol.{name as #arena·managed-arena}
+use Rattle.arena.proofs.purge.stamp_run_of as stamp-run-of′
+use Rattle.arena.proofs.purge.stamp_run_of.Symbol.{name as #arena·purge·stamp-run-of}
 
 -- the contracts that a walk cites
 module _ {M : Type 1} (𝓤 : URA M) (H : Heap 𝓤) (A : Atoms 𝓤) (mem : Memory → SProp 𝓤) (run : Routine → Fun 𝓤) where
@@ -81,6 +83,9 @@ module _ {M : Type 1} (𝓤 : URA M) (H : Heap 𝓤) (A : Atoms 𝓤) (mem : Mem
 
   abbrev pub ManagedArenaSpec : Contract 𝓤
   ManagedArenaSpec = tripleOf 𝓤 H A managed-arena′.signature (managed-arena′.spec 𝓤 H A mem run)
+
+  abbrev pub StampRunOfSpec : Contract 𝓤
+  StampRunOfSpec = tripleOf 𝓤 H A stamp-run-of′.signature (stamp-run-of′.spec 𝓤 H A mem run)
 
 module _ {M : Type 1} {𝓤 : URA M} {H : Heap 𝓤} {A : Atoms 𝓤} {K : Type 0} {W : Given 𝓤 H A} {Γ : List (Item 𝓤)} {C : Calls 𝓤 H} {E : Env 𝓤 H} {xs : List Operand} {G : Goal 𝓤 H} {after : Val → Goal 𝓤 H} {more : Item 𝓤} where
   pub adopted-arena-step : K → Site K W Γ C E #arena·adopted-arena xs G after → (mem : Memory → SProp 𝓤) (run : Routine → Fun 𝓤) → Triple 𝓤 (C #arena·adopted-arena) (AdoptedArenaSpec 𝓤 H A mem run)
@@ -212,3 +217,13 @@ module _ {M : Type 1} {𝓤 : URA M} {H : Heap 𝓤} {A : Atoms 𝓤} {K : Type 
       plain-call bang site T-Arena.the-row (plain (λ _. u64) ∷ plain (λ _. usize) ∷ plain (λ _. bool) ∷ plain (λ _. i32) ∷ []) (yes, (yes, (yes, (yes, tt)))) (managed-arena′.clauses 𝓤 H A mem run) known (base, (chunks, (exclusive, (toZ w32 node, tt)))) (vint w64 base ∷ [], (vint w64 chunks ∷ [], (vbool exclusive ∷ [], (vint w32 node ∷ [], tt))))
       (owns-make 𝓤 H A (u64 ∷ usize ∷ bool ∷ i32 ∷ []) (Ises (u64 ∷ usize ∷ bool ∷ i32 ∷ [])) (uint-makes 𝓤 H A W w64, (uint-makes 𝓤 H A W w64, (bool-makes 𝓤 H A W, (sint-makes 𝓤 H A W w32, tt)))) (base, (chunks, (exclusive, (toZ w32 node, tt)))) (vint w64 base ∷ [], (vint w64 chunks ∷ [], (vbool exclusive ∷ [], (vint w32 node ∷ [], tt)))) ((refl, f-base), ((refl, f-chunks), (refl, (signed f-node, tt))))) tt (factI 𝓤 _ (emp 𝓤) need)
       (λ out. out ≡ managedArena base chunks exclusive (toZ w32 node)) (λ out ws. id⊢ 𝓤 _) ops (λ val′ out rel′ eq′. then′ val′ (subst (λ (obj′ : Arena). Is T-Arena.the-row obj′ (val′ ∷ [])) eq′ rel′))
+
+  pub stamp-run-of-step : K → Site K W Γ C E #arena·purge·stamp-run-of xs G after → (mem : Memory → SProp 𝓤) (run : Routine → Fun 𝓤) → Triple 𝓤 (C #arena·purge·stamp-run-of) (StampRunOfSpec 𝓤 H A mem run)
+      → (L-stamps : Loan) (stamps : List ℕ) → (id : ℕ) → id < 2 ^ 64 → (s : ℕ) → s < 2 ^ 64 → (n : ℕ) → n < 2 ^ 64 → (at′ : ℕ) → at′ < 2 ^ 32 → ((id < 32) × (s + n ≤ 1024) × (length stamps ≡ 32768))
+      → ((hd′ : Item 𝓤) → Opds K W (hd′ ∷ Γ) E xs (sliceOf L-stamps ∷ vint w64 id ∷ vint w64 s ∷ vint w64 n ∷ vint w32 at′ ∷ []))
+      → ((val′ : Val) → Is Nothing tt (val′ ∷ []) → length (stampRun stamps (1024 * id + s) n at′) ≡ length stamps → Seq K W ((‵ (lent u32 L-stamps (stampRun stamps (1024 * id + s) n at′)) ⊛ more) ∷ Γ) (after val′))
+      → Seq K W ((‵ (lent u32 L-stamps stamps) ⊛ more) ∷ Γ) G
+  stamp-run-of-step bang site mem run known L-stamps stamps id f-id s f-s n f-n at′ f-at′ need ops then′ =
+      mut-call bang site u32 L-stamps Nothing (plain (λ _. usize) ∷ plain (λ _. usize) ∷ plain (λ _. usize) ∷ plain (λ _. u32) ∷ []) (yes, (yes, (yes, (yes, tt)))) (stamp-run-of′.clauses 𝓤 H A mem run) known stamps (λ _. (id, (s, (n, (at′, tt))))) (λ _. (vint w64 id ∷ [], (vint w64 s ∷ [], (vint w64 n ∷ [], (vint w32 at′ ∷ [], tt)))))
+      (λ _. owns-make 𝓤 H A (usize ∷ usize ∷ usize ∷ u32 ∷ []) (Ises (usize ∷ usize ∷ usize ∷ u32 ∷ [])) (uint-makes 𝓤 H A W w64, (uint-makes 𝓤 H A W w64, (uint-makes 𝓤 H A W w64, (uint-makes 𝓤 H A W w32, tt)))) (id, (s, (n, (at′, tt)))) (vint w64 id ∷ [], (vint w64 s ∷ [], (vint w64 n ∷ [], (vint w32 at′ ∷ [], tt)))) ((refl, f-id), ((refl, f-s), ((refl, f-n), ((refl, f-at′), tt))))) (λ _ _. tt) (λ _ _. factI 𝓤 _ (emp 𝓤) need)
+      (λ out stamps-exit. stamps-exit ≡ stampRun stamps (1024 * id + s) n at′) (λ _ _ out ws. id⊢ 𝓤 _) (λ hd′ _. ops hd′) (λ val′ out stamps-exit rel′ eq′ l-stamps. subst (λ (lst′ : List ℕ). Seq K W ((‵ (lent u32 L-stamps lst′) ⊛ more) ∷ Γ) (after val′)) (sym eq′) (then′ val′ rel′ (subst (λ (lst′ : List ℕ). length lst′ ≡ length stamps) eq′ l-stamps)))

@@ -1,10 +1,6 @@
 -- A flag is read as it was written. Assumes nothing.
-use mathlib.Core.Path.{_≡_, refl}
-use mathlib.Core.Bool.{Bool, true, false}
-use Prim.Native.Nat.{ℕ}
-use lib.IntN.{ℤ}
+use Rattle.arena.proofs.Prelude.{_≡_, refl, Bool, true, false, ℕ, ℤ, newArena}
 use Rattle.arena.specs.Flags.{isOn, asFlag}
-use Rattle.arena.specs.Registering.{newArena}
 
 pub flag-read : (b : Bool) → isOn (asFlag b) ≡ b
 flag-read true = refl

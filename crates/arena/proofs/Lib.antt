@@ -1,3 +1,9 @@
+pub mod Prelude
 pub mod FlagLaws
 pub mod Remade
 pub mod Callable
+pub mod PlaceLaws
+pub mod SoundLaws
+pub mod RowLaws
+pub mod Changes
+pub mod StaysSound

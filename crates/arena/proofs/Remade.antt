@@ -1,21 +1,9 @@
 -- A record made anew, as `Arena { used, ..a }`: its signed field is read back from its bits. Assumes nothing.
-use mathlib.Core.Path.{_≡_, refl}
-use mathlib.Core.Bool.{Bool, true, false, cond, _&&_}
-use mathlib.Core.List.{List}
-use Prim.Native.Nat.{ℕ, _<_, _^_}
-use lib.IntN.{ℤ}
+use Rattle.arena.proofs.Prelude.{_≡_, refl, Bool, true, false, cond, _&&_, List, ℕ, _<_, _^_, ℤ, clearRun, Arena, Commitment, Untold, Committed, Uncommitted, withCommitted, giveBackRun, toldRow, tellRun, unpendChunk, returnChunk}
 use lib.Signed.{mag}
 use mir.Facts.{toZ-ofZ}
 use mir.Syntax.{w32}
 use mir.Val.{toZ, ofZ}
-use Rattle.words.specs.Rows.{clearRun}
-use Rattle.arena.specs.declared.Arena.{Arena}
-use Rattle.arena.specs.declared.Commitment.{Commitment}
-use Rattle.arena.specs.declared.Commitment.the-variants.{Untold, Committed, Uncommitted}
-use Rattle.arena.specs.Record.{withCommitted}
-use Rattle.arena.specs.Claiming.{giveBackRun}
-use Rattle.arena.specs.Releasing.{toldRow, tellRun}
-use Rattle.arena.specs.Sweeping.{unpendChunk, returnChunk}
 
 -- the record with all but its base and its flags given
 abbrev pub remade : Arena → ℤ → ℕ → ℕ → List ℕ → List ℕ → List ℕ → List ℕ → Arena

@@ -1,10 +1,10 @@
 -- What a claim finds in one arena and makes of its record. Document 01, "Claiming". Assumes nothing.
-use mathlib.Core.Bool.{Bool, true, false, cond, not}
+use mathlib.Core.Bool.{Bool, cond, not}
 use Prim.Native.Nat.{ℕ}
-use Rattle.words.specs.Bits.{bitAt}
-use Rattle.words.specs.Rows.{setRun, clearRun}
-use Rattle.runs.specs.declared.Found.{Found}
-use Rattle.runs.specs.Lowest.{all, lowestRun}
+use Rattle.bitmap.specs.Bits.{bitAt}
+use Rattle.bitmap.specs.Rows.{setRun, clearRun}
+use Rattle.bitmap.specs.declared.runs.Found.{Found}
+use Rattle.bitmap.specs.Lowest.{all, lowestRun}
 use Rattle.arena.specs.declared.Arena.{Arena}
 use Rattle.arena.specs.Record.{withUsed, withDirty, withCommitted}
 

@@ -5,3 +5,8 @@ pub mod Claiming
 pub mod Releasing
 pub mod Sweeping
 pub mod ChunkSize
+pub mod Place
+pub mod Soundness
+pub mod Rows
+pub mod Stamps
+pub mod Maps

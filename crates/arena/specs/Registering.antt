@@ -5,7 +5,7 @@ use mathlib.Core.List.{List}
 use Prim.Native.Nat.{ℕ, _+_}
 use lib.IntN.{ℤ, negsuc}
 use lib.ListN.{replicate}
-use Rattle.words.specs.Rows.{setRun}
+use Rattle.bitmap.specs.Rows.{setRun}
 use Rattle.arena.specs.declared.Arena.{Arena}
 use Rattle.arena.specs.Flags.{asFlag}
 use Rattle.arena.specs.Record.{withChunks, withDirty, withCommitted}

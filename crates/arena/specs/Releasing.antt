@@ -1,10 +1,10 @@
 -- What a release makes of one arena's record and of its stamps. Document 01, "Releasing": "Clears used bits, held or not. If told, sets or clears
 -- committed bits. If pending, stamps each chunk, sets its pending bit, arms clock + delay, wrapping." Assumes nothing.
-use mathlib.Core.Bool.{Bool, true, false, cond}
+use mathlib.Core.Bool.{Bool, cond}
 use mathlib.Core.List.{List, _++_}
 use Prim.Native.Nat.{ℕ, _+_}
 use lib.ListN.{take, drop, replicate}
-use Rattle.words.specs.Rows.{setRun, clearRun}
+use Rattle.bitmap.specs.Rows.{setRun, clearRun}
 use Rattle.clock.specs.Clock.{armed, dueAt}
 use Rattle.arena.specs.declared.Arena.{Arena}
 use Rattle.arena.specs.declared.Commitment.{Commitment}

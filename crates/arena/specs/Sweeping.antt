@@ -1,14 +1,14 @@
 -- The sweep's work on one arena. Document 01, "Sweeping". `stamps` are the arena's own 1,024; `now` and `delay` are milliseconds. Assumes nothing.
-use mathlib.Core.Bool.{Bool, true, false, cond, not, _&&_, _||_}
+use mathlib.Core.Bool.{Bool, false, cond, not, _&&_, _||_}
 use mathlib.Core.List.{List}
-use Prim.Native.Nat.{ℕ, zero, suc, _+_, _-_, min}
+use Prim.Native.Nat.{ℕ, zero, suc, _-_, min}
 use lib.Dec.{eqb, ltb}
 use lib.ListN.{getD}
-use Rattle.words.specs.Bits.{bitAt}
-use Rattle.words.specs.Rows.{clearRun}
-use Rattle.runs.specs.declared.Found.{Found}
-use Rattle.runs.specs.declared.Found.the-variants.{At, Nothing}
-use Rattle.runs.specs.Lowest.{least}
+use Rattle.bitmap.specs.Bits.{bitAt}
+use Rattle.bitmap.specs.Rows.{clearRun}
+use Rattle.bitmap.specs.declared.runs.Found.{Found}
+use Rattle.bitmap.specs.declared.runs.Found.the-variants.{At, Nothing}
+use Rattle.bitmap.specs.Lowest.{least}
 use Rattle.clock.specs.Clock.{armed, isDue, ageOf, dueAt}
 use Rattle.arena.specs.declared.Arena.{Arena}
 use Rattle.arena.specs.declared.Commitment.the-variants.{Uncommitted}

@@ -14,7 +14,7 @@ pub fn take_run(a: Arena, s: usize, n: usize) -> Arena
     ensures { λ r. ⌜ r ≡ takeRun a s n ⌝ }
 {
     let used = a.used;
-    let taken = rows::row_set(used, s, n);
+    let taken = bitmap::rows::row_set(used, s, n);
     Arena { used: taken, ..a }
 }
 
@@ -25,8 +25,8 @@ pub fn grant_run(a: Arena, s: usize, n: usize) -> Arena
 {
     let used = a.used;
     let dirty = a.dirty;
-    let taken = rows::row_set(used, s, n);
-    let touched = rows::row_set(dirty, s, n);
+    let taken = bitmap::rows::row_set(used, s, n);
+    let touched = bitmap::rows::row_set(dirty, s, n);
     Arena {
         used: taken,
         dirty: touched,
@@ -41,8 +41,8 @@ pub fn finish_grant(a: Arena, s: usize, n: usize) -> Arena
 {
     let dirty = a.dirty;
     let committed = a.committed;
-    let touched = rows::row_set(dirty, s, n);
-    let whole = rows::row_set(committed, s, n);
+    let touched = bitmap::rows::row_set(dirty, s, n);
+    let whole = bitmap::rows::row_set(committed, s, n);
     Arena {
         dirty: touched,
         committed: whole,
@@ -56,7 +56,7 @@ pub fn give_back_run(a: Arena, s: usize, n: usize) -> Arena
     ensures { λ r. ⌜ r ≡ giveBackRun a s n ⌝ }
 {
     let used = a.used;
-    let left = rows::row_cleared(used, s, n);
+    let left = bitmap::rows::row_cleared(used, s, n);
     Arena { used: left, ..a }
 }
 
@@ -67,8 +67,8 @@ fn row_told(row: [u32; 32], s: usize, n: usize, told: Commitment) -> [u32; 32]
 {
     match told {
         Commitment::Untold => row,
-        Commitment::Committed => rows::row_set(row, s, n),
-        Commitment::Uncommitted => rows::row_cleared(row, s, n),
+        Commitment::Committed => bitmap::rows::row_set(row, s, n),
+        Commitment::Uncommitted => bitmap::rows::row_cleared(row, s, n),
     }
 }
 
@@ -79,7 +79,7 @@ pub fn release_run(a: Arena, s: usize, n: usize, told: Commitment) -> Arena
 {
     let used = a.used;
     let committed = a.committed;
-    let freed = rows::row_cleared(used, s, n);
+    let freed = bitmap::rows::row_cleared(used, s, n);
     let known = row_told(committed, s, n, told);
     Arena {
         used: freed,
@@ -96,9 +96,9 @@ pub fn release_pending(a: Arena, s: usize, n: usize, told: Commitment, ms: u32, 
     let used = a.used;
     let committed = a.committed;
     let pending = a.pending;
-    let left = rows::row_cleared(used, s, n);
+    let left = bitmap::rows::row_cleared(used, s, n);
     let known = row_told(committed, s, n, told);
-    let waiting = rows::row_set(pending, s, n);
+    let waiting = bitmap::rows::row_set(pending, s, n);
     Arena {
         deadline: clock::arm(a.deadline, clock::due_at(ms, delay)),
         used: left,

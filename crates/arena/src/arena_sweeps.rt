@@ -3,7 +3,7 @@
 ghost use mathlib.Core.Path.{_≡_};
 ghost use mathlib.Core.Bool.{cond, _&&_};
 ghost use Prim.Native.Nat.{_<_};
-ghost use Rattle.words.specs.Rows.{clearRun};
+ghost use Rattle.bitmap.specs.Rows.{clearRun};
 ghost use Rattle.arena.specs.Record.{withDeadline};
 ghost use Rattle.arena.specs.Sweeping.{disarm, borrowChunk, returnChunk};
 use crate::Arena;
@@ -14,7 +14,7 @@ pub fn first_borrowed(a: Arena, j: usize) -> Arena
     ensures { λ r. ⌜ r ≡ borrowChunk (disarm a) j ⌝ }
 {
     let used = a.used;
-    let taken = rows::row_set(used, j, 1);
+    let taken = bitmap::rows::row_set(used, j, 1);
     Arena {
         deadline: 0,
         used: taken,
@@ -36,7 +36,7 @@ fn row_purged(row: [u32; 32], j: usize, granted: bool, decommit: bool) -> [u32; 
 {
     if granted {
         if decommit {
-            return rows::row_cleared(row, j, 1);
+            return bitmap::rows::row_cleared(row, j, 1);
         }
     }
     row
@@ -51,10 +51,10 @@ pub fn next_borrowed(a: Arena, j: usize, granted: bool, decommit: bool, k: usize
     let used = a.used;
     let committed = a.committed;
     let pending = a.pending;
-    let left = rows::row_cleared(used, j, 1);
-    let taken = rows::row_set(left, k, 1);
+    let left = bitmap::rows::row_cleared(used, j, 1);
+    let taken = bitmap::rows::row_set(left, k, 1);
     let known = row_purged(committed, j, granted, decommit);
-    let settled = rows::row_cleared(pending, j, 1);
+    let settled = bitmap::rows::row_cleared(pending, j, 1);
     Arena {
         used: taken,
         committed: known,
@@ -71,9 +71,9 @@ pub fn last_returned(a: Arena, j: usize, granted: bool, decommit: bool, deadline
     let used = a.used;
     let committed = a.committed;
     let pending = a.pending;
-    let left = rows::row_cleared(used, j, 1);
+    let left = bitmap::rows::row_cleared(used, j, 1);
     let known = row_purged(committed, j, granted, decommit);
-    let settled = rows::row_cleared(pending, j, 1);
+    let settled = bitmap::rows::row_cleared(pending, j, 1);
     Arena {
         deadline,
         used: left,

@@ -2,6 +2,10 @@
 // record stand in `arena_runs` and `arena_sweeps`. It knows no table, no other arena and no question.
 pub mod arena_runs;
 pub mod arena_sweeps;
+pub mod asks;
+pub mod purge;
+pub mod soundness;
+pub mod waits;
 
 ghost use mathlib.Core.Path.{_≡_};
 ghost use Prim.Native.Nat.{_+_, _≤_};
@@ -67,7 +71,7 @@ fn each_bit(chunks: usize, on: bool) -> [u32; 32]
 {
     let none = [0u32; 32];
     if on {
-        return rows::row_set(none, 0, chunks);
+        return bitmap::rows::row_set(none, 0, chunks);
     }
     none
 }
@@ -135,8 +139,8 @@ pub fn grow(a: Arena, n: usize) -> Arena
     let chunks = a.chunks;
     let dirty = a.dirty;
     let committed = a.committed;
-    let touched = rows::row_set(dirty, chunks, n);
-    let whole = rows::row_set(committed, chunks, n);
+    let touched = bitmap::rows::row_set(dirty, chunks, n);
+    let whole = bitmap::rows::row_set(committed, chunks, n);
     let longer = chunks + n;
     Arena {
         chunks: longer,

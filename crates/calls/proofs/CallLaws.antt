@@ -1,16 +1,6 @@
 -- A call taken apart is the call of its parts. Assumes nothing.
-use mathlib.Core.Path.{_≡_, refl, sym, ap, ap₂, _∙_, subst}
-use mathlib.Core.Bool.{Bool, true, false, true≢false}
-use mathlib.Core.List.{List}
-use Prim.Native.Nat.{ℕ}
-use lib.IntN.{ℤ}
+use Rattle.state.proofs.Prelude.{_≡_, refl, sym, ap, subst, true, false, true≢false, List, ℕ, ℤ, Arena, Reply, Settings, World, Outcome, sizeOf, replyIn, Leaves, sound, rules, step}
 use Rattle.layer.proofs.Tools.{by-not}
-use Rattle.arena.specs.declared.Arena.{Arena}
-use Rattle.layer.specs.declared.Reply.{Reply}
-use Rattle.layer.specs.declared.Settings.{Settings}
-use Rattle.layer.specs.World.{World, Outcome, sizeOf, replyOf, Leaves}
-use Rattle.layer.specs.Table.{sound}
-use Rattle.layer.specs.Step.{rules, step}
 use Rattle.layer.specs.Step as S
 use Rattle.calls.specs.declared.kinds.MemoryCall.{MemoryCall}
 use Rattle.calls.specs.declared.kinds.MemoryCall.the-variants.{Reserve, Manage, Adopt}
@@ -37,10 +27,10 @@ module _ (w : World) (ns : ℕ) (settings : Settings) where
   query-keeps q = by-not (λ (o : Outcome). o .world ≡ w) (sound (sizeOf (w .state)) w (settings .page)) _ _ (λ _. refl) (λ _. refl)
 
   -- a query leaves all as it came
-  pub kept : (x y : S.Query) → x ≡ y → Leaves (step w ns settings (S.query y)) (replyOf (step w ns settings (S.query x))) (w .records) (w .stamps)
+  pub kept : (x y : S.Query) → x ≡ y → Leaves (step w ns settings (S.query y)) (replyIn (step w ns settings (S.query x))) (w .records) (w .stamps)
   kept x y e =
       let k : w ≡ step w ns settings (S.query y) .world = sym (query-keeps y) in
-      (ap (λ (q : S.Query). replyOf (step w ns settings (S.query q))) e, ap (λ (v : World). v .records) k, ap (λ (v : World). v .stamps) k)
+      (ap (λ (q : S.Query). replyIn (step w ns settings (S.query q))) e, ap (λ (v : World). v .records) k, ap (λ (v : World). v .stamps) k)
 
 -- ---- memory
 

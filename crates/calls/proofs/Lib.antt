@@ -1,2 +1,4 @@
+pub mod Arrays
 mod CallLaws
 pub mod Callable
+pub mod Owner

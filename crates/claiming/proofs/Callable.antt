@@ -1,6 +1,6 @@
--- Functions of `claiming` that a walk calls, each in one step: chunk-alloc-step, chunk-alloc-n-step, chunk-claim-step, claim-step, claim-at-step, grant-found-step, granted-step, is-allowed-step, miss-step, no-such-run-step, search-step, id-of-step, is-run-step, start-of-step. Written by tools/walks.
+-- Functions of `claiming` that a walk calls, each in one step: chunk-alloc-step, chunk-alloc-n-step, chunk-claim-step, claim-step, claim-at-step, grant-found-step, granted-step, is-allowed-step, miss-step, no-such-run-step, search-step, search-pass, search-none-pass, id-of-step, is-run-step, start-of-step. Written by tools/walks.
 -- Assumes `Given`, the callee's theorem, and that the table of calls is monotone under a frame.
-use Rattle.walks.proofs.Walking.{_≡_, refl, sym, _∙_, ap, subst, Bool, true, false, ℕ, _<_, _+_, _*_, _^_, List, [], _∷_, length, set, w32, w64, Operand, Val, vint, vbool, Fits, toZ, URA, SProp, emp, id⊢, Memory, Routine, Heap, Env, Calls, Atoms, Given, Item, Goal, Seq, ‵, _⊛_, Opds, Fun, factI, bool, u32, u64, usize, i32, yes, Is, Ises, owns-make, uint-makes, bool-tells, bool-makes, plain, sint-makes, only, tripleOf, Contract, Triple, Loan, lent, sliceOf, signed, Site, plain-call, mut-call, shr-call, mut2-call}
+use Rattle.walks.proofs.Walking.{_≡_, refl, sym, _∙_, ap, subst, Bool, true, false, ℕ, _<_, _≤_, _+_, _*_, _^_, List, [], _∷_, length, set, w32, w64, Operand, Val, vint, vbool, Fits, toZ, URA, SProp, emp, id⊢, Memory, Routine, Heap, Env, Calls, Atoms, Given, Item, Goal, Seq, ‵, _⊛_, Opds, Fun, factI, bool, u32, u64, usize, i32, yes, Is, Ises, owns-make, uint-makes, bool-tells, bool-makes, plain, sint-makes, only, tripleOf, Contract, Triple, Loan, lent, shared, sliceOf, signed, Site, plain-call, mut-call, shr-call, pass-call, mut2-call}
 use Rattle.layer.proofs.State as T-State
 use Rattle.layer.proofs.State.Laws as L-State
 use denote.Struct.Laws as LL
@@ -11,8 +11,8 @@ use Rattle.layer.proofs.Reply as T-Reply
 use Rattle.claiming.proofs.verdicts.Verdict as T-Verdict
 use Rattle.claiming.proofs.verdicts.Verdict.Laws as L-Verdict
 use denote.Enum.Laws as EL
-use Rattle.judge.proofs.Head as T-Head
-use Rattle.judge.proofs.Head.Laws as L-Head
+use Rattle.table.proofs.heads.Head as T-Head
+use Rattle.table.proofs.heads.Head.Laws as L-Head
 use Rattle.layer.specs.declared.State.{State}
 use Rattle.layer.specs.declared.Settings.{Settings}
 use Rattle.arena.specs.declared.Arena.{Arena}
@@ -24,7 +24,7 @@ use Rattle.state.specs.Ready.{Ready}
 use Rattle.claiming.specs.declared.verdicts.Verdict.{Verdict}
 use Rattle.layer.specs.Table.{at}
 use Rattle.claiming.specs.Search.{isRun, idOf, startOf, RunAt, searchFrom, Searchable}
-use Rattle.judge.specs.declared.Head.{Head}
+use Rattle.table.specs.declared.heads.Head.{Head}
 use Rattle.layer.specs.declared.Answer.the-variants.{Claimed}
 use Rattle.options.specs.Options.{arenaAllowed}
 use Rattle.arena.specs.ChunkSize.{ChunkSize}
@@ -51,6 +51,8 @@ use Rattle.claiming.proofs.misses.no_such_run as no-such-run′
 use Rattle.claiming.proofs.misses.no_such_run.Symbol.{name as #claiming·misses·no-such-run}
 use Rattle.claiming.proofs.searching.search as search′
 use Rattle.claiming.proofs.searching.search.Symbol.{name as #claiming·searching·search}
+use Rattle.claiming.proofs.searching.search_none as search-none′
+use Rattle.claiming.proofs.searching.search_none.Symbol.{name as #claiming·searching·search-none}
 use Rattle.claiming.proofs.verdicts.id_of as id-of′
 use Rattle.claiming.proofs.verdicts.id_of.Symbol.{name as #claiming·verdicts·id-of}
 use Rattle.claiming.proofs.verdicts.is_run as is-run′
@@ -92,6 +94,9 @@ module _ {M : Type 1} (𝓤 : URA M) (H : Heap 𝓤) (A : Atoms 𝓤) (mem : Mem
 
   abbrev pub SearchSpec : Contract 𝓤
   SearchSpec = tripleOf 𝓤 H A search′.signature (search′.spec 𝓤 H A mem run)
+
+  abbrev pub SearchNoneSpec : Contract 𝓤
+  SearchNoneSpec = tripleOf 𝓤 H A search-none′.signature (search-none′.spec 𝓤 H A mem run)
 
   abbrev pub IdOfSpec : Contract 𝓤
   IdOfSpec = tripleOf 𝓤 H A id-of′.signature (id-of′.spec 𝓤 H A mem run)
@@ -204,7 +209,7 @@ module _ {M : Type 1} {𝓤 : URA M} {H : Heap 𝓤} {A : Atoms 𝓤} {K : Type 
       (λ out. out ≡ turnDown NoRun (calm k mark)) (λ out ws. id⊢ 𝓤 _) ops (λ val′ out rel′ eq′. then′ val′ (subst (λ (obj′ : Reply). Is T-Reply.the-row obj′ (val′ ∷ [])) eq′ rel′))
 
   pub search-step : K → Site K W Γ C E #claiming·searching·search xs G after → (mem : Memory → SProp 𝓤) (run : Routine → Fun 𝓤) → Triple 𝓤 (C #claiming·searching·search) (SearchSpec 𝓤 H A mem run)
-      → (L-records : Loan) (records : List Arena) → (k : ℕ) → k < 2 ^ 64 → (id : ℕ) → Fits w32 id → (n : ℕ) → n < 2 ^ 64 → (Searchable records k)
+      → (L-records : Loan) (records : List Arena) → (k : ℕ) → k < 2 ^ 64 → (id : ℕ) → Fits w32 id → (n : ℕ) → n < 2 ^ 64 → (Searchable records k × (0 < n))
       → ((hd′ : Item 𝓤) → Opds K W (hd′ ∷ Γ) E xs (sliceOf L-records ∷ vint w64 k ∷ vint w32 id ∷ vint w64 n ∷ []))
       → ((val′ : Val) → Is T-Verdict.the-row (searchFrom records (toZ w32 id) n 0 k) (val′ ∷ []) → Seq K W ((‵ (lent T-Arena.the-row L-records records) ⊛ more) ∷ Γ) (after val′))
       → Seq K W ((‵ (lent T-Arena.the-row L-records records) ⊛ more) ∷ Γ) G
@@ -212,6 +217,26 @@ module _ {M : Type 1} {𝓤 : URA M} {H : Heap 𝓤} {A : Atoms 𝓤} {K : Type 
       shr-call bang site T-Arena.the-row L-records T-Verdict.the-row (plain (λ _. usize) ∷ plain (λ _. i32) ∷ plain (λ _. usize) ∷ []) (yes, (yes, (yes, tt))) (search′.clauses 𝓤 H A mem run) known records (λ _. (k, (toZ w32 id, (n, tt)))) (λ _. (vint w64 k ∷ [], (vint w32 id ∷ [], (vint w64 n ∷ [], tt))))
       (λ _. owns-make 𝓤 H A (usize ∷ i32 ∷ usize ∷ []) (Ises (usize ∷ i32 ∷ usize ∷ [])) (uint-makes 𝓤 H A W w64, (sint-makes 𝓤 H A W w32, (uint-makes 𝓤 H A W w64, tt))) (k, (toZ w32 id, (n, tt))) (vint w64 k ∷ [], (vint w32 id ∷ [], (vint w64 n ∷ [], tt))) ((refl, f-k), (signed f-id, ((refl, f-n), tt)))) (λ _ _. tt) (λ _ _. factI 𝓤 _ (emp 𝓤) need)
       (λ out. out ≡ searchFrom records (toZ w32 id) n 0 k) (λ _ _ out ws. id⊢ 𝓤 _) (λ hd′ _. ops hd′) (λ val′ out rel′ eq′. then′ val′ (subst (λ (obj′ : Verdict). Is T-Verdict.the-row obj′ (val′ ∷ [])) eq′ rel′))
+
+  pub search-pass : K → Site K W Γ C E #claiming·searching·search xs G after → (mem : Memory → SProp 𝓤) (run : Routine → Fun 𝓤) → Triple 𝓤 (C #claiming·searching·search) (SearchSpec 𝓤 H A mem run)
+      → (L-records : Loan) (records : List Arena) → (k : ℕ) → k < 2 ^ 64 → (id : ℕ) → Fits w32 id → (n : ℕ) → n < 2 ^ 64 → (Searchable records k × (0 < n))
+      → ((hd′ : Item 𝓤) → Opds K W (hd′ ∷ Γ) E xs (sliceOf L-records ∷ vint w64 k ∷ vint w32 id ∷ vint w64 n ∷ []))
+      → ((val′ : Val) → Is T-Verdict.the-row (searchFrom records (toZ w32 id) n 0 k) (val′ ∷ []) → Seq K W ((‵ (shared T-Arena.the-row L-records records) ⊛ more) ∷ Γ) (after val′))
+      → Seq K W ((‵ (shared T-Arena.the-row L-records records) ⊛ more) ∷ Γ) G
+  search-pass bang site mem run known L-records records k f-k id f-id n f-n need ops then′ =
+      pass-call bang site T-Arena.the-row L-records T-Verdict.the-row (plain (λ _. usize) ∷ plain (λ _. i32) ∷ plain (λ _. usize) ∷ []) (yes, (yes, (yes, tt))) (search′.clauses 𝓤 H A mem run) known records (λ _. (k, (toZ w32 id, (n, tt)))) (λ _. (vint w64 k ∷ [], (vint w32 id ∷ [], (vint w64 n ∷ [], tt))))
+      (λ _. owns-make 𝓤 H A (usize ∷ i32 ∷ usize ∷ []) (Ises (usize ∷ i32 ∷ usize ∷ [])) (uint-makes 𝓤 H A W w64, (sint-makes 𝓤 H A W w32, (uint-makes 𝓤 H A W w64, tt))) (k, (toZ w32 id, (n, tt))) (vint w64 k ∷ [], (vint w32 id ∷ [], (vint w64 n ∷ [], tt))) ((refl, f-k), (signed f-id, ((refl, f-n), tt)))) (λ _ _. tt) (λ _ _. factI 𝓤 _ (emp 𝓤) need)
+      (λ out. out ≡ searchFrom records (toZ w32 id) n 0 k) (λ _ _ out ws. id⊢ 𝓤 _) (λ hd′ _. ops hd′) (λ val′ out rel′ eq′. then′ val′ (subst (λ (obj′ : Verdict). Is T-Verdict.the-row obj′ (val′ ∷ [])) eq′ rel′))
+
+  pub search-none-pass : K → Site K W Γ C E #claiming·searching·search-none xs G after → (mem : Memory → SProp 𝓤) (run : Routine → Fun 𝓤) → Triple 𝓤 (C #claiming·searching·search-none) (SearchNoneSpec 𝓤 H A mem run)
+      → (L-records : Loan) (records : List Arena) → (k : ℕ) → k < 2 ^ 64 → (id : ℕ) → Fits w32 id → (k ≤ length records)
+      → ((hd′ : Item 𝓤) → Opds K W (hd′ ∷ Γ) E xs (sliceOf L-records ∷ vint w64 k ∷ vint w32 id ∷ []))
+      → ((val′ : Val) → Is T-Verdict.the-row (searchFrom records (toZ w32 id) 0 0 k) (val′ ∷ []) → Seq K W ((‵ (shared T-Arena.the-row L-records records) ⊛ more) ∷ Γ) (after val′))
+      → Seq K W ((‵ (shared T-Arena.the-row L-records records) ⊛ more) ∷ Γ) G
+  search-none-pass bang site mem run known L-records records k f-k id f-id need ops then′ =
+      pass-call bang site T-Arena.the-row L-records T-Verdict.the-row (plain (λ _. usize) ∷ plain (λ _. i32) ∷ []) (yes, (yes, tt)) (search-none′.clauses 𝓤 H A mem run) known records (λ _. (k, (toZ w32 id, tt))) (λ _. (vint w64 k ∷ [], (vint w32 id ∷ [], tt)))
+      (λ _. owns-make 𝓤 H A (usize ∷ i32 ∷ []) (Ises (usize ∷ i32 ∷ [])) (uint-makes 𝓤 H A W w64, (sint-makes 𝓤 H A W w32, tt)) (k, (toZ w32 id, tt)) (vint w64 k ∷ [], (vint w32 id ∷ [], tt)) ((refl, f-k), (signed f-id, tt))) (λ _ _. tt) (λ _ _. factI 𝓤 _ (emp 𝓤) need)
+      (λ out. out ≡ searchFrom records (toZ w32 id) 0 0 k) (λ _ _ out ws. id⊢ 𝓤 _) (λ hd′ _. ops hd′) (λ val′ out rel′ eq′. then′ val′ (subst (λ (obj′ : Verdict). Is T-Verdict.the-row obj′ (val′ ∷ [])) eq′ rel′))
 
   pub id-of-step : K → Site K W Γ C E #claiming·verdicts·id-of xs G after → (mem : Memory → SProp 𝓤) (run : Routine → Fun 𝓤) → Triple 𝓤 (C #claiming·verdicts·id-of) (IdOfSpec 𝓤 H A mem run)
       → (v : Verdict) (v-v : Val) → Is T-Verdict.the-row v (v-v ∷ []) → (isRun v ≡ true)

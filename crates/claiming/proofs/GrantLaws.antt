@@ -1,20 +1,7 @@
 -- A grant's replies and records are the definition's, and its sums fit. Assumes nothing.
-use mathlib.Core.Path.{_≡_, sym, ap}
-use mathlib.Core.Bool.{Bool, true, false, not, _&&_}
-use mathlib.Core.List.{List}
-use Prim.Native.Nat.{ℕ, _+_, _*_, _^_, _<_, _≤_}
-use native.Mathlib.Nat.{mul-le-mul}
-use native.Mathlib.Omega.{arith}
-use lib.ListN.{set}
-use Rattle.words.proofs.Tests.{when, unless}
-use Rattle.arena.specs.declared.Arena.{Arena}
-use Rattle.arena.specs.Claiming.{runCommitted, runFresh, takeRun, dirtyRun}
-use Rattle.layer.specs.declared.State.{State}
-use Rattle.layer.specs.declared.Ask.the-variants.{AskCommit}
-use Rattle.layer.specs.declared.Answer.the-variants.{Asks, Claimed}
-use Rattle.layer.specs.declared.Question.the-variants.{Committing}
-use Rattle.layer.specs.World.{stateOf, reply, calm}
-use Rattle.layer.specs.Claiming.{asksCommit, grantArena, grantReply}
+use Rattle.state.proofs.Prelude.{_≡_, sym, ap, Bool, true, false, not, _&&_, List, ℕ, _+_, _*_, _^_, _<_, _≤_, mul-le-mul, arith, set, when, unless, Arena, runCommitted, runFresh, State, AskCommit, Asks, Claimed, Committing, stateWith, reply, calm, grantArena, grantReply}
+use Rattle.arena.specs.Claiming.{takeRun, dirtyRun}
+use Rattle.layer.specs.Claiming.{asksCommit}
 
 pub run-fits : (a : Arena) (s n : ℕ) → s + n ≤ a .chunks → a .chunks ≤ 1024 → s + n ≤ 1024
 run-fits a s n inside few = omega (arith, inside, few)
@@ -32,7 +19,7 @@ module _ (S : ℕ) (a : Arena) (s n : ℕ) (inside : s + n ≤ a .chunks) (fits 
 module _ (S : ℕ) (state : State) (i : ℕ) (a : Arena) (s n : ℕ) (commits : Bool) (l : List Arena) where
   -- the commit is asked for
   pub asks : (commits && not (runCommitted a s n)) ≡ true
-      → (reply (Asks (AskCommit (a .base + s * S) (n * S))) (stateOf (state .count) (state .mark) (Committing i s n)) ≡ grantReply S (state .count) (state .mark) i a s n commits)
+      → (reply (Asks (AskCommit (a .base + s * S) (n * S))) (stateWith (state .count) (state .mark) (Committing i s n)) ≡ grantReply S (state .count) (state .mark) i a s n commits)
       × (set l i (takeRun a s n) ≡ set l i (grantArena a s n commits))
   unfolding grantReply grantArena asksCommit
   asks e = (sym (when _ _ _ e), ap (set l i) (sym (when _ _ _ e)))

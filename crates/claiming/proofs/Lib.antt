@@ -4,4 +4,3 @@ pub mod Callable
 pub mod GrantLaws
 pub mod MissLaws
 pub mod RowLaws
-pub mod EntryLaws

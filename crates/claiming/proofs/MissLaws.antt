@@ -1,19 +1,5 @@
 -- A miss, case by case: which test decides. Assumes nothing.
-use mathlib.Core.Path.{_≡_, refl, sym, ap, ap₂, _∙_}
-use mathlib.Core.Bool.{Bool, true, false, not, _&&_}
-use Prim.Native.Nat.{ℕ, _≤_, _<_}
-use native.Mathlib.Omega.{arith}
-use borrow.Author.Tests.{leb-false, le-leb, lt-leb}
-use lib.Dec.{leb}
-use lib.IntN.{ℤ, pos, negsuc}
-use lib.Signed.{leZ}
-use Rattle.refusals.specs.declared.Refusal.the-variants.{NoRun}
-use Rattle.layer.specs.declared.Settings.{Settings}
-use Rattle.layer.specs.declared.Waiting.the-variants.{Claim}
-use Rattle.layer.specs.World.{turnDown, calm}
-use Rattle.layer.specs.Registering.{tooLarge, askMemory}
-use Rattle.layer.specs.Claiming.{isNegative, missReply}
-use Rattle.words.proofs.Tests.{when, unless}
+use Rattle.state.proofs.Prelude.{_≡_, refl, sym, ap, ap₂, _∙_, Bool, true, false, not, _&&_, ℕ, _≤_, _<_, arith, leb-false, le-leb, lt-leb, leb, ℤ, pos, negsuc, leZ, NoRun, Settings, Claim, turnDown, calm, tooLarge, askMemory, isNegative, missReply, when, unless}
 
 -- ---- a miss
 

@@ -1,25 +1,5 @@
 -- Each return of a claim's core leaves what the definition of a claim says. Assumes nothing.
-use mathlib.Core.Path.{_≡_, sym, ap, _∙_}
-use mathlib.Core.Bool.{Bool, true, false, not}
-use mathlib.Core.List.{List}
-use Prim.Native.Nat.{ℕ, _+_, _<_, _≤_}
-use native.Mathlib.Omega.{arith}
-use lib.Dec.{eqb}
-use lib.IntN.{ℤ}
-use lib.ListN.{length, set}
-use Rattle.refusals.specs.declared.Refusal.{Refusal}
-use Rattle.refusals.specs.declared.Refusal.the-variants.{Zero, ArenasOff}
-use Rattle.words.proofs.Tests.{when, unless}
-use Rattle.options.specs.Options.{arenaAllowed}
-use Rattle.arena.specs.declared.Arena.{Arena}
-use Rattle.lookup.proofs.Changes.{found-inside}
-use Rattle.lookup.proofs.SoundLaws.{SoundArena}
-use Rattle.layer.specs.declared.Settings.{Settings}
-use Rattle.layer.specs.declared.State.{State}
-use Rattle.layer.specs.declared.Reply.{Reply}
-use Rattle.layer.specs.World.{Outcome, sizeOf, after, Leaves, turnDown, calm}
-use Rattle.layer.specs.Table.{at}
-use Rattle.layer.specs.Claiming.{grantArena, grantReply, missReply, searchOf, claimOf}
+use Rattle.state.proofs.Prelude.{_≡_, sym, ap, _∙_, Bool, true, false, not, List, ℕ, _+_, _<_, _≤_, arith, eqb, ℤ, length, set, Refusal, Zero, ArenasOff, when, unless, arenaAllowed, Arena, found-inside, SoundArena, Settings, State, Reply, Outcome, sizeOf, after, Leaves, turnDown, calm, at, grantArena, grantReply, missReply, searchOf, claimOf}
 use Rattle.state.specs.Ready.{Standing, Ready}
 use Rattle.state.proofs.Entry.{calm-is, stands, comes}
 use Rattle.claiming.specs.declared.verdicts.Verdict.{Verdict}

@@ -1,25 +1,8 @@
 -- What a claim's search finds is what the definition of a claim looks for. Assumes nothing.
-use mathlib.Core.Path.{_≡_, refl, sym, ap, _∙_, subst}
-use mathlib.Core.Bool.{Bool, true, false, cond, _&&_, true≢false}
-use mathlib.Core.List.{List}
-use Prim.Native.Nat.{ℕ, zero, suc, _+_, _<_, _≤_}
-use native.Mathlib.Omega.{arith}
-use borrow.Author.Tests.{eqb-true, ltb-true, le-leb, le-ltb}
-use lib.Dec.{eqb, leb, ltb}
-use lib.IntN.{ℤ, pos, negsuc}
-use lib.ListN.{set}
-use Rattle.words.proofs.Tests.{when, unless}
-use Rattle.runs.specs.declared.Found.{Found}
-use Rattle.runs.specs.declared.Found.the-variants.{At, Nothing}
-use Rattle.runs.specs.Lowest.{all, least, lowestRun}
-use Rattle.arena.specs.declared.Arena.{Arena}
-use Rattle.arena.specs.Claiming.{free, findRun}
-use Rattle.lookup.proofs.Changes.{found-inside}
-use Rattle.layer.specs.declared.Reply.{Reply}
-use Rattle.layer.specs.World.{Outcome, after}
-use Rattle.layer.specs.Table.{at, isAt}
-use Rattle.layer.specs.Claiming.{eligible, serves, grantArena, grantReply, grantFound, searchAt, searchOf}
-use Rattle.judge.specs.Heads.{headOf, headed}
+use Rattle.state.proofs.Prelude.{_≡_, refl, sym, ap, _∙_, subst, Bool, true, false, cond, _&&_, true≢false, List, ℕ, zero, suc, _+_, _<_, _≤_, arith, ltb-true, le-leb, le-ltb, eqb, leb, ltb, ℤ, pos, negsuc, set, when, unless, Found, At, Nothing, all, least, lowestRun, Arena, findRun, found-inside, Reply, Outcome, after, at, isAt, eligible, grantArena, grantReply, searchOf}
+use Rattle.arena.specs.Claiming.{free}
+use Rattle.layer.specs.Claiming.{serves, grantFound, searchAt}
+use Rattle.table.specs.Heads.{headOf, headed}
 use Rattle.claiming.specs.declared.verdicts.Verdict.{Verdict}
 use Rattle.claiming.specs.declared.verdicts.Verdict.the-variants.{NotEligible, TooFew, NoRun, Run}
 use Rattle.claiming.specs.Search.{runVerdict, isRun, idOf, startOf, verdictOf, searchFrom}
@@ -39,17 +22,6 @@ module _ (id : ℤ) (n i : ℕ) (a : Arena) where
   unfolding verdictOf
   none-eligible e = sym (unless _ _ _ (sym (by-head id i a) ∙ e))
 
-  -- a run of none starts at 0
-  pub none-wanted : eligible id i (headed (headOf a)) ≡ true → eqb n 0 ≡ true → Run i 0 ≡ verdictOf id n i a
-  unfolding verdictOf findRun lowestRun least all
-  none-wanted e z =
-      let none : n ≡ 0 = eqb-true n 0 z in
-      sym (
-      when _ _ _ (sym (by-head id i a) ∙ e)
-      ∙ ap (λ (m : ℕ). cond (ltb (a .chunks) m) TooFew (runVerdict i (findRun a m))) none
-      ∙ unless _ _ _ (le-ltb (a .chunks) 0 (omega arith))
-      ∙ ap (λ (b : Bool). runVerdict i (cond (b && true) (At 0) (least (λ s. leb (s + 0) (a .chunks) && all (free a) s 0) 1 (a .chunks)))) (le-leb 0 (a .chunks) (omega arith)))
-
   pub few-chunks : eligible id i (headed (headOf a)) ≡ true → ltb (a .chunks) n ≡ true → TooFew ≡ verdictOf id n i a
   unfolding verdictOf
   few-chunks e f = sym (when _ _ _ (sym (by-head id i a) ∙ e) ∙ when _ _ _ f)
@@ -57,6 +29,15 @@ module _ (id : ℤ) (n i : ℕ) (a : Arena) where
   pub of-the-run : eligible id i (headed (headOf a)) ≡ true → ltb (a .chunks) n ≡ false → runVerdict i (findRun a n) ≡ verdictOf id n i a
   unfolding verdictOf
   of-the-run e f = sym (when _ _ _ (sym (by-head id i a) ∙ e) ∙ unless _ _ _ f)
+
+-- a run of none starts at 0
+pub none-wanted : (id : ℤ) (i : ℕ) (a : Arena) → eligible id i (headed (headOf a)) ≡ true → Run i 0 ≡ verdictOf id 0 i a
+unfolding verdictOf findRun lowestRun least all
+none-wanted id i a e =
+    sym (
+    when _ _ _ (sym (by-head id i a) ∙ e)
+    ∙ unless _ _ _ (le-ltb (a .chunks) 0 (omega arith))
+    ∙ ap (λ (b : Bool). runVerdict i (cond (b && true) (At 0) (least (λ s. leb (s + 0) (a .chunks) && all (free a) s 0) 1 (a .chunks)))) (le-leb 0 (a .chunks) (omega arith)))
 
 -- ---- the search
 

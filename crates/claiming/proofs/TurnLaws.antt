@@ -1,18 +1,12 @@
 -- A claim's search, by what its loop knows: no arena before has a run. Assumes nothing.
-use mathlib.Core.Path.{_≡_, refl, sym, ap, _∙_, subst}
-use mathlib.Core.Bool.{Bool, true, false, cond}
-use mathlib.Core.List.{List}
-use mathlib.Core.Logic.{⊎-elim}
-use Prim.Native.Nat.{ℕ, zero, suc, _+_, _<_, _≤_}
+use Rattle.state.proofs.Prelude.{_≡_, refl, sym, ap, _∙_, subst, Bool, true, false, cond, List, ⊎-elim, ℕ, zero, suc, _+_, _<_, _≤_, arith, ℤ, Arena, at, eligible}
 use native.Mathlib.Nat.{eq-or-lt-of-le, le-refl}
-use native.Mathlib.Omega.{arith}
-use lib.IntN.{ℤ}
-use Rattle.arena.specs.declared.Arena.{Arena}
-use Rattle.layer.specs.Table.{at}
+use Rattle.table.specs.Heads.{headOf, headed}
 use Rattle.table.proofs.TurnLaws.{Passed}
 use Rattle.claiming.specs.declared.verdicts.Verdict.{Verdict}
-use Rattle.claiming.specs.declared.verdicts.Verdict.the-variants.{NoRun}
+use Rattle.claiming.specs.declared.verdicts.Verdict.the-variants.{NoRun, Run}
 use Rattle.claiming.specs.Search.{isRun, verdictOf, searchFrom}
+use Rattle.claiming.proofs.SearchLaws.{none-eligible, none-wanted}
 
 module _ (l : List Arena) (id : ℤ) (n : ℕ) where
   abbrev said : ℕ → Verdict
@@ -43,3 +37,14 @@ module _ (l : List Arena) (id : ℤ) (n : ℕ) where
 
   pub none-found : (k : ℕ) → Passed false has-run k → NoRun ≡ searchFrom l id n 0 k
   none-found k h = sym (none-from 0 k (λ j _ y. h j (omega (arith, y))))
+
+-- a claim of none: the first arena that it means has its run
+module _ (l : List Arena) (id : ℤ) where
+  abbrev means : ℕ → Bool
+  means i = eligible id i (headed (headOf (at l i)))
+
+  pub not-meant : (i : ℕ) → means i ≡ false → has-run l id 0 i ≡ false
+  not-meant i e = ap isRun (sym (none-eligible id 0 i (at l i) e))
+
+  pub none-run-found : (k i : ℕ) → i < k → Passed false (has-run l id 0) i → means i ≡ true → Run i 0 ≡ searchFrom l id 0 0 k
+  none-run-found k i m h e = let r : Run i 0 ≡ verdictOf id 0 i (at l i) = none-wanted id i (at l i) e in r ∙ run-found l id 0 k i m h (ap isRun (sym r))

@@ -5,8 +5,8 @@ use Prim.Native.Nat.{ℕ, zero, suc, _+_, _*_, _^_, _<_, _≤_}
 use lib.Dec.{ltb}
 use lib.IntN.{ℤ}
 use lib.ListN.{length}
-use Rattle.runs.specs.declared.Found.{Found}
-use Rattle.runs.specs.declared.Found.the-variants.{At, Nothing}
+use Rattle.bitmap.specs.declared.runs.Found.{Found}
+use Rattle.bitmap.specs.declared.runs.Found.the-variants.{At, Nothing}
 use Rattle.arena.specs.declared.Arena.{Arena}
 use Rattle.arena.specs.Claiming.{findRun}
 use Rattle.layer.specs.Table.{at}

@@ -6,18 +6,18 @@ ghost use lib.ListN.{set};
 ghost use Rattle.layer.specs.declared.Ask.the-variants.{AskCommit};
 ghost use Rattle.layer.specs.declared.Answer.the-variants.{Asks, Claimed};
 ghost use Rattle.layer.specs.declared.Question.the-variants.{Committing};
-ghost use Rattle.layer.specs.World.{sizeOf, stateOf, reply, calm};
+ghost use Rattle.layer.specs.World.{sizeOf, stateWith, reply, calm};
 ghost use Rattle.layer.specs.Table.{at};
 ghost use Rattle.layer.specs.Claiming.{grantArena, grantReply};
 ghost use Rattle.claiming.specs.Search.{isRun, idOf, startOf, RunAt};
 use crate::verdicts::Verdict;
 use arena::Arena;
-use judge::Head;
 use layer::Answer;
 use layer::Ask;
 use layer::Question;
 use layer::Reply;
 use layer::State;
+use table::heads::Head;
 
 // Whether the commit has to be asked for.
 fn asks_commit(commits: bool, committed: bool) -> bool
@@ -32,7 +32,7 @@ fn asks_commit(commits: bool, committed: bool) -> bool
 // The question for the commit of the run of n from s on in arena i.
 fn commit_question(h: Head, state: State, i: usize, s: usize, n: usize, chunk_size: u64) -> Reply
     requires { ⌜ (h .base + s * «chunk_size» < 2 ^ 64) × (n * «chunk_size» < 2 ^ 64) ⌝ }
-    ensures { λ r. ⌜ r ≡ reply (Asks (AskCommit (h .base + s * «chunk_size») (n * «chunk_size»))) (stateOf (state .count) (state .mark) (Committing i s n)) ⌝ }
+    ensures { λ r. ⌜ r ≡ reply (Asks (AskCommit (h .base + s * «chunk_size») (n * «chunk_size»))) (stateWith (state .count) (state .mark) (Committing i s n)) ⌝ }
 {
     let address = h.base + (s as u64) * chunk_size;
     let bytes = (n as u64) * chunk_size;
@@ -69,16 +69,16 @@ fn grant(records: &mut [Arena], state: State, i: usize, s: usize, n: usize, comm
 {
     let size = state::chunk_size(state);
     let h = table::head_at(records, i);
-    let committed = records::run_maps::committed_at(records, i, s, n);
-    let a = records::load(records, i);
+    let committed = table::run_maps::committed_at(records, i, s, n);
+    let a = table::records::load(records, i);
     if asks_commit(commits, committed) {
         let taken = arena::arena_runs::take_run(a, s, n);
-        records::store(records, i, taken);
+        table::records::store(records, i, taken);
         return commit_question(h, state, i, s, n, size);
     }
-    let fresh = records::run_maps::fresh_at(records, i, s, n);
+    let fresh = table::run_maps::fresh_at(records, i, s, n);
     let held = arena::arena_runs::grant_run(a, s, n);
-    records::store(records, i, held);
+    table::records::store(records, i, held);
     granted(h, state, s, fresh, committed, size)
 }
 

@@ -9,7 +9,6 @@ ghost use mathlib.Core.Path.{_≡_};
 ghost use mathlib.Core.Bool.{true, false};
 ghost use mathlib.Core.List.{List};
 ghost use Prim.Native.Nat.{ℕ};
-ghost use Rattle.refusals.specs.declared.Refusal.the-variants.{Zero, ArenasOff};
 ghost use Rattle.options.specs.Options.{arenaAllowed};
 ghost use Rattle.layer.specs.World.{sizeOf, worldOf, Leaves};
 ghost use Rattle.layer.specs.Claiming.{claimOf};

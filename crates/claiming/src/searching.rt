@@ -5,13 +5,13 @@ ghost use lib.Dec.{ltb};
 ghost use lib.ListN.{length};
 ghost use Rattle.layer.specs.Table.{at};
 ghost use Rattle.layer.specs.Claiming.{eligible};
-ghost use Rattle.judge.specs.Heads.{headed};
+ghost use Rattle.table.specs.Heads.{headed};
 ghost use Rattle.claiming.specs.declared.verdicts.Verdict.the-variants.{NoRun, Run};
 ghost use Rattle.claiming.specs.Search.{runVerdict, verdictOf, searchFrom, Searchable};
 use crate::verdicts::Verdict;
 use arena::Arena;
-use judge::Head;
-use runs::Found;
+use bitmap::runs::Found;
+use table::heads::Head;
 
 // ---- one arena
 
@@ -24,14 +24,6 @@ fn is_eligible(id: i32, i: usize, h: Head) -> bool
         return !arena::is_on(h.exclusive);
     }
     i == (id as usize)
-}
-
-// A run of no chunks starts at the arena's first. No call leaves a claim of none waiting, but a state that is
-// lent may.
-fn run_of_none(i: usize) -> Verdict
-    ensures { λ r. ⌜ r ≡ Run i 0 ⌝ }
-{
-    Verdict::Run { id: i, start: 0 }
 }
 
 // Whether the arena has fewer than n chunks.
@@ -51,23 +43,20 @@ fn of_run(i: usize, f: Found) -> Verdict
     }
 }
 
-// What is said of arena i. The map of used chunks is looked at where it lies.
+// What is said of arena i to a claim of one chunk or more. The map of used chunks is looked at where it lies.
 fn verdict_at(records: &[Arena], i: usize, id: i32, n: usize) -> Verdict
-    requires { ⌜ (i < length (now records)) × (at (now records) i .chunks ≤ 1024) ⌝ }
+    requires { ⌜ (i < length (now records)) × (at (now records) i .chunks ≤ 1024) × (0 < n) ⌝ }
     ensures { λ r. ⌜ r ≡ verdictOf id n i (at (now (records .entry)) i) ⌝ }
 {
     let h = table::head_at(records, i);
     if !is_eligible(id, i, h) {
         return Verdict::NotEligible;
     }
-    if n == 0 {
-        return run_of_none(i);
-    }
     if has_too_few(h, n) {
         return Verdict::TooFew;
     }
-    let chunks = judge::chunks_of(h);
-    let f = records::maps::run_at(records, i, chunks, n);
+    let chunks = table::heads::chunks_of(h);
+    let f = table::maps::run_at(records, i, chunks, n);
     of_run(i, f)
 }
 
@@ -79,9 +68,9 @@ fn without_run() -> Verdict
     Verdict::NoRun
 }
 
-// The first of the k arenas, by id, that has a run of n for the claim.
+// The first of the k arenas, by id, that has a run of n for the claim, n being 1 at least.
 pub fn search(records: &[Arena], k: usize, id: i32, n: usize) -> Verdict
-    requires { ⌜ Searchable (now records) k ⌝ }
+    requires { ⌜ Searchable (now records) k × (0 < n) ⌝ }
     ensures { λ r. ⌜ r ≡ searchFrom (now (records .entry)) id n 0 k ⌝ }
 {
     let mut i = 0;
@@ -89,6 +78,31 @@ pub fn search(records: &[Arena], k: usize, id: i32, n: usize) -> Verdict
         let v = verdict_at(records, i, id, n);
         if crate::verdicts::is_run(v) {
             return v;
+        }
+        i = i + 1;
+    }
+    without_run()
+}
+
+// ---- the search for none
+
+// A run of no chunks starts at the arena's first.
+fn run_of_none(i: usize) -> Verdict
+    ensures { λ r. ⌜ r ≡ Run i 0 ⌝ }
+{
+    Verdict::Run { id: i, start: 0 }
+}
+
+// The same for a claim of no chunks: the first of the k arenas that it means.
+pub fn search_none(records: &[Arena], k: usize, id: i32) -> Verdict
+    requires { ⌜ k ≤ length (now records) ⌝ }
+    ensures { λ r. ⌜ r ≡ searchFrom (now (records .entry)) id 0 0 k ⌝ }
+{
+    let mut i = 0;
+    while i < k {
+        let h = table::head_at(records, i);
+        if is_eligible(id, i, h) {
+            return run_of_none(i);
         }
         i = i + 1;
     }

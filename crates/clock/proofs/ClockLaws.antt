@@ -1,12 +1,6 @@
 -- What the clock's definitions say in each case that its functions meet. Assumes nothing.
-use mathlib.Core.Path.{_≡_, refl}
-use mathlib.Core.Bool.{true, false}
-use Prim.Native.Nat.{ℕ, zero, suc, _+_, _%_, _^_, _≤_, _<_}
-use native.Mathlib.Nat.{not-suc-le-zero}
-use native.Mathlib.Omega.{arith}
-use borrow.Author.Tests.{ltb-true, ltb-false, lt-ltb, le-ltb, eq-eqb, ne-eqb}
-use lib.Dec.{T, leb, eqb}
-use lib.IntN.{ℤ, pos, negsuc, natAbs}
+use Rattle.walks.proofs.Prelude.{_≡_, refl, true, false, ℕ, zero, suc, _+_, _%_, _^_, _≤_, _<_, not-suc-le-zero, arith, ltb-true, ltb-false, lt-ltb, le-ltb, eq-eqb, ne-eqb, T, leb, eqb, ℤ, pos, negsuc}
+use lib.IntN.{natAbs}
 use lib.Signed.{ltZ, nonNeg}
 use mir.Syntax.{w32}
 use mir.Val.{Fits}

@@ -1,50 +1,5 @@
 -- One arena along a call, in a table that changes: the book that its record shows stays, or a run of it is granted. No call and no role. Assumes nothing.
-use mathlib.Core.Path.{_≡_, refl, sym, ap, ap₂, _∙_, subst}
-use mathlib.Core.Bool.{Bool, true, false, not, true≢false}
-use mathlib.Core.List.{List, [], _∷_, _++_}
-use Prim.Native.Nat.{ℕ, zero, suc, _+_, _-_, _*_, _/_, _≤_, _<_}
-use native.Mathlib.Omega.{arith}
-use native.Mathlib.Decide.{ℕ-discrete}
-use borrow.Author.Tests.{not-true}
-use lib.IntN.{ℤ}
-use lib.ListN.{length, set, length-set}
-use Rattle.refusals.specs.declared.Refusal.{Refusal}
-use Rattle.words.specs.Bits.{bitAt}
-use Rattle.words.proofs.Tests.{by-cond}
-use Rattle.runs.specs.declared.Found.{Found}
-use Rattle.runs.specs.declared.Found.the-variants.{At, Nothing}
-use Rattle.runs.specs.Lowest.{least, lowestRun}
-use Rattle.runs.proofs.LowestLaws.{First, first-says}
-use Rattle.runs.proofs.SearchLaws.{and-both}
-use Rattle.arena.specs.declared.Arena.{Arena}
-use Rattle.arena.specs.declared.Commitment.{Commitment}
-use Rattle.arena.specs.Claiming.{findRun, runFresh, runCommitted, takeRun, dirtyRun}
-use Rattle.arena.specs.Releasing.{releaseRun}
-use Rattle.arena.specs.Sweeping.{sweepDue, disarm, toAsk, young, nextAsked, borrowChunk, rearm}
-use Rattle.lookup.specs.Place.{isInside}
-use Rattle.purge.specs.Stamps.{stampsOf}
-use Rattle.lookup.specs.Rows.{Rows}
-use Rattle.lookup.proofs.Changes.{found-inside, disarm-rows, rearm-rows}
-use Rattle.layer.specs.declared.Settings.{Settings}
-use Rattle.layer.specs.declared.Sweep.{Sweep}
-use Rattle.layer.specs.declared.Question.{Question}
-use Rattle.layer.specs.declared.Question.the-variants.{Idle, Committing, Purging}
-use Rattle.layer.specs.declared.Waiting.{Waiting}
-use Rattle.layer.specs.declared.Waiting.the-variants.{Reserve, Claim}
-use Rattle.layer.specs.declared.Ask.the-variants.{AskCommit}
-use Rattle.layer.specs.declared.Answer.{Answer}
-use Rattle.layer.specs.declared.Answer.the-variants.{Asks, Claimed}
-use Rattle.layer.specs.declared.Reply.{Reply}
-use Rattle.layer.specs.World.{Outcome, stateOf, reply, after}
-use Rattle.layer.specs.Table.{at, isAt}
-use Rattle.layer.specs.Registering.{askMemory, withRecord}
-use Rattle.layer.specs.Claiming.{serves, missReply, grantFound, searchOf}
-use Rattle.layer.specs.Releasing.{releaseOf}
-use Rattle.layer.specs.Sweeping.{purgeReply, sweptReply, visitAt, visit, sweepFrom}
-use Rattle.layer.specs.Answering.{failReply}
-use Rattle.layer.specs.Step.{reserve, answer}
-use Rattle.layer.specs.Book.{Book, Say, unheld, hold, claimed}
-use Rattle.layer.specs.History.{said}
+use Rattle.layer.proofs.Prelude.{_≡_, refl, sym, ap, ap₂, _∙_, subst, Bool, true, false, not, true≢false, List, [], _∷_, _++_, ℕ, zero, suc, _+_, _-_, _*_, _/_, _≤_, _<_, arith, ℕ-discrete, not-true, ℤ, length, set, length-set, Refusal, bitAt, by-cond, Found, At, Nothing, least, lowestRun, First, first-says, and-both, Arena, Commitment, findRun, runFresh, runCommitted, takeRun, dirtyRun, releaseRun, sweepDue, disarm, toAsk, young, nextAsked, borrowChunk, rearm, isInside, stampsOf, Rows, found-inside, disarm-rows, rearm-rows, Settings, Sweep, Question, Idle, Committing, Purging, Waiting, Reserve, Claim, AskCommit, Answer, Asks, Claimed, Reply, Outcome, stateWith, reply, after, at, isAt, askMemory, withRecord, serves, missReply, grantFound, searchOf, releaseOf, purgeReply, sweptReply, visitAt, visit, sweepFrom, failReply, reserve, answer, Book, Say, unheld, hold, claimed, said}
 use Rattle.layer.proofs.Tools.{at-same, at-other}
 use Rattle.layer.proofs.Rules.{served-found}
 use Rattle.layer.proofs.Shown.{View, calm, committing, purging, viewOf, waitsIn, owedIn, bookIn, Same}
@@ -95,7 +50,7 @@ module _ (S id : ℕ) (c : Arena) (small : c .chunks ≤ 1024) (B : Book) where
 
   -- that table is left, with no question about the arena
   pub rests : (l : List Arena) (k : ℕ) (q : Question) (r : Answer) (stamps : List ℕ) (mark : Bool) → viewOf id q ≡ calm → Stands l k
-      → Leaves (after (reply r (stateOf k mark q)) l stamps)
+      → Leaves (after (reply r (stateWith k mark q)) l stamps)
   rests l k q r stamps mark e h =
       record { low = h .low; same = h .ready .same; book = ap (λ (x : View). bookIn S x (at l id)) e ∙ h .ready .shows; none = ap waitsIn e }
 

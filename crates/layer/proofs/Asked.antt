@@ -1,32 +1,5 @@
 -- The open question is of the call that put it: what the rules' own run remembers of that call is what the question says. Assumes nothing.
-use mathlib.Core.Path.{_≡_, refl, sym, ap, _∙_, subst}
-use mathlib.Core.Bool.{Bool, true, false, cond}
-use mathlib.Core.List.{List}
-use Prim.Native.Nat.{ℕ, suc, _+_, _-_, _<_, _≤_}
-use native.Mathlib.Omega.{arith}
-use lib.IntN.{ℤ, pos, negsuc}
-use lib.ListN.{length, set, length-set}
-use Rattle.refusals.specs.declared.Refusal.{Refusal}
-use Rattle.arena.specs.declared.Arena.{Arena}
-use Rattle.arena.specs.Flags.{isOn}
-use Rattle.arena.specs.Claiming.{takeRun}
-use Rattle.lookup.proofs.SoundLaws.{never}
-use Rattle.layer.specs.declared.Settings.{Settings}
-use Rattle.layer.specs.declared.Sweep.{Sweep}
-use Rattle.layer.specs.declared.Question.{Question}
-use Rattle.layer.specs.declared.Question.the-variants.{Idle, Committing, Purging, Reserving, GivingBack}
-use Rattle.layer.specs.declared.Waiting.{Waiting}
-use Rattle.layer.specs.declared.Waiting.the-variants.{Reserve, Claim}
-use Rattle.layer.specs.declared.Kind.{Kind}
-use Rattle.layer.specs.declared.Reply.{Reply}
-use Rattle.layer.specs.World.{Outcome, after}
-use Rattle.layer.specs.Table.{at}
-use Rattle.layer.specs.Registering.{chunksFor, askMemory, withRecord, withStamps}
-use Rattle.layer.specs.Claiming.{serves, searchOf, missReply}
-use Rattle.layer.specs.Sweeping.{visit, sweepFrom}
-use Rattle.layer.specs.Answering.{isFor, counted, failReply, resume, answerTo, answerOf}
-use Rattle.layer.specs.Step.{Act, reserve, manage, adopt, claim, release, sweep, Call, act, query, answer, sweepOf, actOn, stepOn}
-use Rattle.layer.specs.History.{isIdle}
+use Rattle.layer.proofs.Prelude.{_≡_, refl, sym, ap, _∙_, subst, Bool, true, false, cond, List, ℕ, suc, _+_, _-_, _<_, _≤_, arith, ℤ, pos, negsuc, length, set, length-set, Refusal, Arena, isOn, takeRun, never, Settings, Sweep, Question, Idle, Committing, Purging, Reserving, GivingBack, Waiting, Reserve, Claim, Kind, Reply, Outcome, after, at, chunksFor, askMemory, withRecord, withStamps, serves, searchOf, missReply, visit, sweepFrom, isFor, counted, failReply, resume, answerTo, answerOf, Act, reserve, manage, adopt, claim, release, sweep, Call, act, query, answer, sweepOf, actOn, stepOn, isIdle}
 use Rattle.layer.proofs.Tools.{at-same, by-not}
 use Rattle.layer.proofs.Rules.{not-shared, served-named, Again, again}
 use Rattle.layer.proofs.Cases.{register, grant-cases, search-cases, miss-cases, claim-cases, release-in-cases, release-cases, reserve-cases, register-cases, manage-cases, adopt-cases, memory-cases}

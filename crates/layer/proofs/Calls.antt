@@ -1,24 +1,6 @@
 -- A whole call by its rows: "Order: 1; then 2, or 3 for answers; then the call's own." Assumes nothing.
-use mathlib.Core.Path.{_≡_, refl, sym, ap, _∙_, subst}
-use mathlib.Core.Bool.{Bool, true, false, not, true≢false}
-use Prim.Native.Nat.{ℕ, _*_, _%_, _<_}
-use Rattle.refusals.specs.declared.Refusal.{Refusal}
-use Rattle.refusals.specs.declared.Refusal.the-variants.{Range}
-use Rattle.words.proofs.Tests.{unless}
-use Rattle.arena.specs.Registering.{reservedArena}
-use Rattle.layer.specs.declared.Settings.{Settings}
-use Rattle.layer.specs.declared.Question.{Question}
-use Rattle.layer.specs.declared.Question.the-variants.{Idle, Committing, Purging, Reserving, GivingBack}
-use Rattle.layer.specs.declared.Waiting.{Waiting}
-use Rattle.layer.specs.declared.Unusable.{Unusable}
-use Rattle.layer.specs.declared.Kind.{Kind}
-use Rattle.layer.specs.declared.Kind.the-variants.{ForMemory}
-use Rattle.layer.specs.declared.Answer.the-variants.{Refused}
-use Rattle.layer.specs.World.{World, Outcome, stateOf, worldOf, outcome, after, calm}
-use Rattle.layer.specs.Table.{badRange, sound}
-use Rattle.layer.specs.Registering.{badCount}
-use Rattle.layer.specs.Answering.{isIdle, isFor, giveBackReply, resume, answerTo, answerOf}
-use Rattle.layer.specs.Step.{Act, Call, act, answer, actOn, stepOn, rules}
+use Rattle.layer.proofs.Prelude.{_≡_, refl, sym, ap, _∙_, subst, Bool, true, false, not, true≢false, ℕ, _*_, _%_, _<_, Refusal, Range, unless, reservedArena, Settings, Question, Idle, Committing, Purging, Reserving, GivingBack, Waiting, Unusable, Kind, ForMemory, Refused, World, Outcome, stateWith, worldOf, outcome, after, calm, badRange, sound, badCount, isFor, giveBackReply, resume, answerTo, answerOf, Act, Call, act, answer, actOn, stepOn, rules}
+use Rattle.layer.specs.Answering.{isIdle}
 use Rattle.layer.proofs.Tools.{by-not}
 use Rattle.layer.proofs.Cases.{memory-cases}
 
@@ -31,7 +13,7 @@ idle-is (GivingBack cause waiting) e = absurd (true≢false (sym e))
 
 -- a world with no question open
 pub calm-world : (w : World) → w .state .question ≡ Idle → worldOf (w .records) (w .stamps) (calm (w .state .count) (w .state .mark)) ≡ w
-calm-world w e = ap (λ (q : Question). worldOf (w .records) (w .stamps) (stateOf (w .state .count) (w .state .mark) q)) (sym e)
+calm-world w e = ap (λ (q : Question). worldOf (w .records) (w .stamps) (stateWith (w .state .count) (w .state .mark) q)) (sym e)
 
 module _ (S : ℕ) (w : World) (ns : ℕ) (settings : Settings) where
   -- past row 1
@@ -76,4 +58,4 @@ module _ (S : ℕ) (w : World) (ns : ℕ) (settings : Settings) where
         answer-cases ForMemory true base
         (λ e f. subst (λ (q : Question). P (answerTo S (w .records) (w .stamps) (w .state .count) (w .state .mark) q true base)) (sym is)
         (memory-cases S (w .records) (w .stamps) (w .state .count) (w .state .mark) P chunks bytes commit exclusive waiting base
-        (subst (λ (q : Question). P (outcome (Refused Range) (worldOf (w .records) (w .stamps) (stateOf (w .state .count) (w .state .mark) q)))) is (down _)) unusable (go e)))
+        (subst (λ (q : Question). P (outcome (Refused Range) (worldOf (w .records) (w .stamps) (stateWith (w .state .count) (w .state .mark) q)))) is (down _)) unusable (go e)))

@@ -1,43 +1,8 @@
 -- The case principle of each call: to prove P of what comes out, prove it of each outcome, with what is known there. Assumes nothing.
-use mathlib.Core.Path.{_≡_, refl}
-use mathlib.Core.Bool.{Bool, true, false, cond, not, _&&_, _||_}
-use mathlib.Core.List.{List, [], _∷_}
-use Prim.Native.Nat.{ℕ, _+_, _-_, _*_, _/_, _%_, _<_}
-use native.Mathlib.Omega.{arith}
-use borrow.Author.Tests.{leb-false, eqb-true, eqb-false}
-use lib.Dec.{eqb, leb}
-use lib.IntN.{ℤ}
-use lib.ListN.{set}
-use Rattle.refusals.specs.declared.Refusal.{Refusal}
-use Rattle.refusals.specs.declared.Refusal.the-variants.{Zero, ArenasOff, Range, NotWhole, NotInside, PastEnd, NoRun, ChunkCount, TableFull, NoWholeChunk, HostRefused}
-use Rattle.words.proofs.Tests.{by-cond}
-use Rattle.runs.specs.declared.Found.{Found}
-use Rattle.runs.specs.declared.Found.the-variants.{At, Nothing}
-use Rattle.runs.specs.Lowest.{least}
-use Rattle.runs.proofs.LowestLaws.{First, first-says}
-use Rattle.runs.proofs.SearchLaws.{and-both}
-use Rattle.options.specs.Options.{arenaAllowed}
-use Rattle.arena.specs.declared.Arena.{Arena}
-use Rattle.arena.specs.declared.Commitment.{Commitment}
-use Rattle.arena.specs.Registering.{reservedArena, managedArena, adoptedArena}
-use Rattle.arena.specs.Claiming.{findRun, runCommitted, runFresh, takeRun, dirtyRun}
-use Rattle.arena.specs.Releasing.{releaseRun, stampRun}
-use Rattle.lookup.specs.Place.{isInside}
-use Rattle.layer.specs.declared.Settings.{Settings}
-use Rattle.layer.specs.declared.Question.the-variants.{Committing, Reserving}
-use Rattle.layer.specs.declared.Waiting.{Waiting}
-use Rattle.layer.specs.declared.Waiting.the-variants.{Reserve, Claim}
-use Rattle.layer.specs.declared.Unusable.{Unusable}
-use Rattle.layer.specs.declared.Unusable.the-variants.{Count, Misaligned, Full}
-use Rattle.layer.specs.declared.Ask.the-variants.{AskCommit}
-use Rattle.layer.specs.declared.Answer.the-variants.{Asks, Claimed, Released}
-use Rattle.layer.specs.declared.Reply.{Reply}
-use Rattle.layer.specs.World.{Outcome, stateOf, worldOf, reply, after, turnDown, calm, refuse, firstOf}
-use Rattle.layer.specs.Table.{at, isAt, idFound, badRange, findArena}
-use Rattle.layer.specs.Registering.{tooLarge, askMemory, badCount, registered, firstWhole, pastWhole, noWholeChunk, grows, grown, reserveReply, reserveOf, manageOf, adoptOf}
-use Rattle.layer.specs.Claiming.{serves, isNegative, asksCommit, grantArena, grantReply, missReply, grantFound, searchAt, searchOf, claimOf}
-use Rattle.layer.specs.Releasing.{releaseOf}
-use Rattle.layer.specs.Answering.{giveBackReply, resume, answerMemory}
+use Rattle.layer.proofs.Prelude.{_≡_, refl, Bool, true, false, cond, not, _&&_, _||_, List, [], _∷_, ℕ, _+_, _-_, _*_, _/_, _%_, _<_, arith, leb-false, eqb-true, eqb-false, eqb, leb, ℤ, set, Refusal, Zero, ArenasOff, Range, NotWhole, PastEnd, NoRun, ChunkCount, TableFull, NoWholeChunk, by-cond, Found, At, Nothing, least, First, first-says, and-both, arenaAllowed, Arena, Commitment, reservedArena, managedArena, adoptedArena, findRun, runCommitted, runFresh, takeRun, dirtyRun, releaseRun, stampRun, isInside, Settings, Committing, Reserving, Waiting, Reserve, Claim, Unusable, Count, Misaligned, Full, AskCommit, Asks, Claimed, Released, Reply, Outcome, stateWith, worldOf, reply, after, turnDown, calm, refuse, firstOf, at, isAt, badRange, findArena, tooLarge, askMemory, badCount, firstWhole, pastWhole, noWholeChunk, grows, reserveReply, reserveOf, manageOf, adoptOf, serves, isNegative, asksCommit, grantArena, grantReply, missReply, grantFound, searchAt, searchOf, claimOf, releaseOf, giveBackReply, resume, answerMemory}
+use Rattle.refusals.specs.declared.Refusal.the-variants.{NotInside, HostRefused}
+use Rattle.layer.specs.Table.{idFound}
+use Rattle.layer.specs.Registering.{registered, grown}
 use Rattle.layer.proofs.Tools.{by-not}
 
 -- rows 12 and 13, and else the new arena
@@ -65,7 +30,7 @@ module _ (S : ℕ) (l : List Arena) (stamps : List ℕ) (k : ℕ) (mark : Bool) 
       after (reply (Claimed (at l i .base + s * S) (runFresh (at l i) s m) (runCommitted (at l i) s m)) (calm k mark)) (set l i (dirtyRun (takeRun (at l i) s m) s m)) stamps
 
   abbrev pub asking : ℕ → ℕ → ℕ → Outcome
-  asking i m s = after (reply (Asks (AskCommit (at l i .base + s * S) (m * S))) (stateOf k mark (Committing i s m))) (set l i (takeRun (at l i) s m)) stamps
+  asking i m s = after (reply (Asks (AskCommit (at l i .base + s * S) (m * S))) (stateWith k mark (Committing i s m))) (set l i (takeRun (at l i) s m)) stamps
 
 module _ (S : ℕ) (l : List Arena) (stamps : List ℕ) (k : ℕ) (mark : Bool) (P : Outcome → Type 0) where
   -- ---- claims
@@ -185,7 +150,7 @@ module _ (S : ℕ) (l : List Arena) (stamps : List ℕ) (k : ℕ) (mark : Bool) 
 
   -- memory came
   pub memory-cases : (chunks bytes : ℕ) (commit exclusive : Bool) (waiting : Waiting) (base : ℕ)
-      → P (after (turnDown Range (stateOf k mark (Reserving chunks bytes commit exclusive waiting))) l stamps)
+      → P (after (turnDown Range (stateWith k mark (Reserving chunks bytes commit exclusive waiting))) l stamps)
       → ((cause : Unusable) → P (after (giveBackReply k mark base bytes cause waiting) l stamps))
       → (badRange S l k base (chunks * S) ≡ false → badCount chunks ≡ false → base % S ≡ 0 → k < 32 → P (resume S l stamps k mark (reservedArena base chunks commit exclusive) waiting))
       → P (answerMemory S l stamps k mark chunks bytes commit exclusive waiting true base)

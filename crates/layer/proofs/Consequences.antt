@@ -1,24 +1,8 @@
 -- What follows, in the order's words; and demand 3 as a whole. All but that no other's claim is granted a chunk there follow from what the book says, whatever the layer.
 -- Assumes nothing.
-use mathlib.Core.Path.{_≡_, refl, sym, ap, ap₂, _∙_, subst}
-use mathlib.Core.Bool.{Bool, false, not, _&&_, _||_}
-use mathlib.Core.List.{List, [], _∷_, _++_, append-assoc}
-use mathlib.Core.Logic.{_⊎_, inl, inr, _↔_}
-use Prim.Native.Nat.{ℕ, suc, _+_, _-_, _*_, _/_, _%_, _<_}
-use native.Mathlib.Nat.{mul-div-cancel}
-use native.Mathlib.Omega.{arith}
-use borrow.Author.Tests.{ne-eqb}
-use lib.Dec.{leb, eqb}
-use lib.ListN.{length}
-use Rattle.words.specs.Bits.{within}
-use Rattle.words.proofs.Tests.{by-cond, unless}
-use Rattle.runs.specs.declared.Found.{Found}
-use Rattle.runs.specs.declared.Found.the-variants.{At, Nothing}
-use Rattle.runs.specs.Lowest.{Starts, Lowest, all, lowestRun}
-use Rattle.runs.proofs.LowestLaws.{lowest-says}
-use Rattle.layer.specs.Book.{Book, lowest, Fed, claims, releases, Say, refused, granted, Turn, turn, unheld, claimed, enter, enterAll, sayAll}
-use Rattle.layer.specs.History.{History, Layer, Lent, Place, Where, place, fed, told, Keeps}
-use Rattle.layer.specs.Demand.{bookOf, ByTheBook, heldFrom, leftUnheld, Claims, GrantedExactly, GrantedLowest, Begins, Alike}
+use Rattle.layer.proofs.Prelude.{_≡_, refl, sym, ap, ap₂, _∙_, subst, Bool, false, not, _&&_, _||_, List, [], _∷_, _++_, append-assoc, _⊎_, inl, inr, _↔_, ℕ, suc, _+_, _-_, _*_, _/_, _%_, _<_, mul-div-cancel, arith, ne-eqb, leb, eqb, length, within, by-cond, unless, Found, At, Nothing, Starts, Lowest, all, lowestRun, lowest-says, Book, lowest, Fed, claims, releases, Say, refused, granted, Turn, turn, unheld, claimed, enter, enterAll, sayAll, History, Layer, Lent, Place, Where, ruled, place, fed, told, Keeps, bookOf, ByTheBook}
+use Rattle.layer.specs.Demand.{heldFrom, leftUnheld, Claims, GrantedExactly, GrantedLowest, Begins, Alike}
+use Rattle.layer.proofs.ChunkLaws.{size-fits}
 use Rattle.layer.proofs.Demand.{say-append, place-size}
 
 -- ---- what the program's calls and what it was told leave held is what the book holds
@@ -107,7 +91,7 @@ module _ (L : Layer) (keeps : ByTheBook L) (p : ℕ) (h : History) (w : Where h)
   a = place h w
 
   some-size : 0 < a .size
-  some-size = subst (λ (x : ℕ). 0 < x) (sym (place-size h w)) (omega arith)
+  some-size = subst (λ (x : ℕ). 0 < x) (sym (place-size h w)) (size-fits (ruled h .world .state) .0)
 
   -- the book before it
   abbrev book : Book

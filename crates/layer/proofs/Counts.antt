@@ -1,40 +1,5 @@
 -- How many arenas there are after a call, and the book of a new one. Assumes nothing.
-use mathlib.Core.Path.{_≡_, refl, sym, _∙_, subst}
-use mathlib.Core.Bool.{Bool, true, false}
-use mathlib.Core.List.{List}
-use Prim.Native.Nat.{ℕ, zero, suc, _+_, _-_, _/_, _≤_, _<_}
-use native.Mathlib.Omega.{arith}
-use lib.IntN.{ℤ}
-use lib.ListN.{length-set}
-use Rattle.refusals.specs.declared.Refusal.{Refusal}
-use Rattle.words.proofs.Tests.{by-cond}
-use Rattle.runs.specs.declared.Found.{Found}
-use Rattle.runs.specs.declared.Found.the-variants.{At, Nothing}
-use Rattle.arena.specs.declared.Arena.{Arena}
-use Rattle.arena.specs.declared.Commitment.{Commitment}
-use Rattle.arena.specs.Registering.{newArena, reservedArena, managedArena, adoptedArena}
-use Rattle.arena.specs.Sweeping.{sweepDue, nextAsked}
-use Rattle.purge.specs.Stamps.{stampsOf}
-use Rattle.lookup.specs.Rows.{Rows}
-use Rattle.layer.specs.declared.Settings.{Settings}
-use Rattle.layer.specs.declared.Sweep.{Sweep}
-use Rattle.layer.specs.declared.Question.{Question}
-use Rattle.layer.specs.declared.Question.the-variants.{Idle, Committing, Purging, Reserving, GivingBack}
-use Rattle.layer.specs.declared.Waiting.{Waiting}
-use Rattle.layer.specs.declared.Waiting.the-variants.{Reserve, Claim}
-use Rattle.layer.specs.declared.Kind.{Kind}
-use Rattle.layer.specs.declared.Kind.the-variants.{ForCommit, ForPurge, ForMemory, ForGiveBack, ForNone}
-use Rattle.layer.specs.declared.Reply.{Reply}
-use Rattle.layer.specs.World.{Outcome, after}
-use Rattle.layer.specs.Table.{at}
-use Rattle.layer.specs.Registering.{askMemory, badCount, withRecord, withStamps}
-use Rattle.layer.specs.Claiming.{searchOf, claimOf}
-use Rattle.layer.specs.Releasing.{releaseOf}
-use Rattle.layer.specs.Sweeping.{purgeReply, sweptReply, visitAt, visit, sweepFrom}
-use Rattle.layer.specs.Answering.{isFor, counted, failReply, resume, answerOf}
-use Rattle.layer.specs.Step.{Act, reserve, manage, adopt, claim, release, sweep, Call, act, query, answer, actOn, stepOn}
-use Rattle.layer.specs.Book.{opened}
-use Rattle.layer.specs.History.{Place}
+use Rattle.layer.proofs.Prelude.{_≡_, refl, sym, _∙_, subst, Bool, true, false, List, ℕ, zero, suc, _+_, _/_, _≤_, _<_, arith, ℤ, length-set, Refusal, by-cond, Found, At, Nothing, Arena, Commitment, newArena, reservedArena, managedArena, adoptedArena, sweepDue, nextAsked, stampsOf, Rows, Settings, Sweep, Question, Idle, Committing, Purging, Reserving, GivingBack, Waiting, Reserve, Claim, Kind, ForCommit, ForPurge, ForMemory, ForGiveBack, ForNone, Reply, Outcome, after, at, askMemory, badCount, withRecord, withStamps, searchOf, claimOf, releaseOf, purgeReply, sweptReply, visitAt, visit, sweepFrom, isFor, counted, failReply, resume, answerOf, Act, reserve, manage, adopt, claim, release, sweep, Call, act, query, answer, actOn, stepOn, opened, Place}
 use Rattle.layer.proofs.Tools.{at-same, by-not}
 use Rattle.layer.proofs.Facts.{SoundTable}
 use Rattle.layer.proofs.Rules.{Again, again, count-facts}

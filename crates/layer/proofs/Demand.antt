@@ -1,34 +1,11 @@
 -- Demand 3, over every history from the empty layer, of every layer that answers and leaves what the rules say: what is told is what the book says. Assumes nothing.
-use mathlib.Core.Path.{_≡_, refl, sym, ap, ap₂, _∙_, subst}
-use mathlib.Core.Bool.{Bool, true, false, cond, _&&_, true≢false}
-use mathlib.Core.List.{List, [], _∷_, _++_, append-assoc, append-nil}
-use mathlib.Core.Logic.{inl, inr}
-use Prim.Native.Nat.{ℕ}
-use borrow.Author.Tests.{ne-eqb}
-use lib.Dec.{eqb}
-use lib.IntN.{ℤ, pos, negsuc}
-use lib.ListN.{length}
-use Rattle.words.proofs.Tests.{by-cond, when, unless}
-use Rattle.arena.specs.declared.Arena.{Arena}
-use Rattle.arena.specs.Flags.{isOn}
-use Rattle.layer.specs.declared.Question.{Question}
-use Rattle.layer.specs.declared.Question.the-variants.{Idle, Committing, Purging, Reserving, GivingBack}
-use Rattle.layer.specs.declared.Waiting.the-variants.{Reserve, Claim}
-use Rattle.layer.specs.declared.Kind.{Kind}
-use Rattle.layer.specs.declared.Kind.the-variants.{ForCommit, ForPurge, ForMemory, ForGiveBack, ForNone}
-use Rattle.layer.specs.declared.Answer.{Answer}
-use Rattle.layer.specs.declared.Answer.the-variants.{Refused, Asks, Registered, Claimed, Released, Swept, Owns, Area}
-use Rattle.layer.specs.World.{Outcome}
-use Rattle.layer.specs.Table.{at}
-use Rattle.layer.specs.Answering.{isFor}
-use Rattle.layer.specs.Step.{Act, reserve, manage, adopt, claim, release, sweep, Call, act, query, answer, step}
-use Rattle.layer.specs.Book.{Book, lowest, Fed, claims, Say, enter, enterAll, sayAll}
-use Rattle.layer.specs.History.{Marked, History, begin, next, isSound, Layer, outcomeBy, Lent, Trail, openAt, isIdle, follow, ruled, Entry, claimsAt, releasesAt, entriesOf, entries, said, goesOn, tells, Place, fedAt, isNone, feeds, hears, fedBy, toldBy, standing, Where, place, fed, told, Premises, Keeps}
-use Rattle.layer.specs.Demand.{bookOf, ByTheBook}
-use Rattle.layer.proofs.Shown.{View, calm, committing, purging, viewOf, waitsIn, owedIn, Role, closing, aside, ends, role, fedOf, heard, toldOf, bookAt, owedAt, Inv, Fits}
+use Rattle.layer.proofs.Prelude.{_≡_, refl, sym, ap, ap₂, _∙_, subst, Bool, true, false, cond, _&&_, true≢false, List, [], _∷_, _++_, append-assoc, append-nil, inl, inr, ℕ, ne-eqb, eqb, ℤ, pos, negsuc, length, by-cond, when, unless, Arena, isOn, Question, Idle, Committing, Purging, Reserving, GivingBack, Reserve, Claim, Kind, ForCommit, ForPurge, ForMemory, ForGiveBack, ForNone, Answer, Refused, Asks, Registered, Claimed, Released, Swept, Owns, Area, Outcome, at, isFor, Act, reserve, manage, adopt, claim, release, sweep, Call, act, query, answer, stepOn, step, Book, lowest, Fed, claims, Say, enter, enterAll, sayAll, Marked, History, begin, next, isSound, Layer, outcomeBy, Lent, Trail, openAt, isIdle, follow, ruled, entriesOf, entries, said, goesOn, tells, Place, isNone, feeds, hears, fedBy, toldBy, standing, Where, place, fed, told, Premises, Keeps, bookOf, ByTheBook}
+use Rattle.layer.specs.History.{Entry, claimsAt, releasesAt, fedAt, bytesIn}
+use Rattle.layer.proofs.Facts.{SoundTable}
+use Rattle.layer.proofs.Shown.{View, calm, committing, purging, viewOf, waitsIn, owedIn, Role, closing, aside, ends, role, fedOf, heard, toldAs, bookAt, owedAt, Inv, Fits}
 use Rattle.layer.proofs.Keeps.{keeps}
 use Rattle.layer.proofs.Asked.{ServedIn, Asked}
-use Rattle.layer.proofs.Trails.{S, Good, onTrail, gone, follow-sound, follow-not, good-ruled, answers-ruled}
+use Rattle.layer.proofs.Trails.{Good, onTrail, gone, follow-sound, follow-not, size-follows, good-ruled, answers-ruled}
 use Rattle.layer.proofs.Opened.{opening}
 
 -- ---- the book over two lists
@@ -88,7 +65,7 @@ module _ (a : Place) where
 
   -- ---- what waits: the claim whose commit question about the arena is open
 
-  module _ (l : List Arena) (exclusive : isOn (at l (a .id) .exclusive) ≡ true) where
+  module _ (S : ℕ) (l : List Arena) (exclusive : isOn (at l (a .id) .exclusive) ≡ true) where
     asked-there : (q : Question) (c : Call) → Asked S l q c → isIdle q ≡ false → feeds a (entries c) ≡ waitsIn (viewOf (a .id) q)
     asked-there Idle c h e = absurd (true≢false e)
     asked-there (Committing i s n) c h e = ap (λ (x : Call). feeds a (entries x)) (h .2) ∙ go (h .0) (h .3)
@@ -111,10 +88,10 @@ module _ (a : Place) where
     asked-there (GivingBack cause Reserve) c h e = ap (λ (x : Call). feeds a (entries x)) (h .4)
 
     -- as many as are owed
-    waits-owed : (q : Question) (c : Call) → Asked S l q c → length (owedIn S (viewOf (a .id) q) (at l (a .id))) ≡ length (cond (isIdle q) [] (feeds a (entries c)))
+    waits-owed : (q : Question) (c : Call) → Asked S l q c → length (owedIn (a .size) (viewOf (a .id) q) (at l (a .id))) ≡ length (cond (isIdle q) [] (feeds a (entries c)))
     waits-owed q c h = go (isIdle q) refl
       where
-        owes : (v : View) → length (owedIn S v (at l (a .id))) ≡ length (waitsIn v)
+        owes : (v : View) → length (owedIn (a .size) v (at l (a .id))) ≡ length (waitsIn v)
         owes calm = refl
         owes (committing s n) = refl
         owes (purging j) = refl
@@ -126,13 +103,13 @@ module _ (a : Place) where
         idle (Reserving chunks bytes commit alone waiting) e = refl
         idle (GivingBack cause waiting) e = refl
 
-        go : (b : Bool) → isIdle q ≡ b → length (owedIn S (viewOf (a .id) q) (at l (a .id))) ≡ length (cond b [] (feeds a (entries c)))
-        go true e = ap (λ (v : View). length (owedIn S v (at l (a .id)))) (idle q e)
+        go : (b : Bool) → isIdle q ≡ b → length (owedIn (a .size) (viewOf (a .id) q) (at l (a .id))) ≡ length (cond b [] (feeds a (entries c)))
+        go true e = ap (λ (v : View). length (owedIn (a .size) v (at l (a .id)))) (idle q e)
         go false e = owes (viewOf (a .id) q) ∙ ap length (sym (asked-there q c h e))
 
     -- an answer tells of what waits, if it is for the question
     told-answer : (q : Question) (c : Call) (kind : Kind) (r : Answer) → Asked S l q c
-        → cond (isFor q kind) (hears a (entries c) (said r)) [] ≡ toldOf (cond (ends (a .id) q kind) closing aside) r
+        → cond (isFor q kind) (hears a (entries c) (said r)) [] ≡ toldAs (cond (ends (a .id) q kind) closing aside) r
     told-answer q c kind r h = go q h
       where
         step-by : (q : Question) → isIdle q ≡ false → Asked S l q c → hears a (entries c) (said r) ≡ heard (waitsIn (viewOf (a .id) q)) (said r)
@@ -142,14 +119,14 @@ module _ (a : Place) where
         silent true = refl
         silent false = refl
 
-        go : (q : Question) → Asked S l q c → cond (isFor q kind) (hears a (entries c) (said r)) [] ≡ toldOf (cond (ends (a .id) q kind) closing aside) r
+        go : (q : Question) → Asked S l q c → cond (isFor q kind) (hears a (entries c) (said r)) [] ≡ toldAs (cond (ends (a .id) q kind) closing aside) r
         go Idle h = none kind
           where
             none : (kind : Kind) → cond (isFor Idle kind) (hears a (entries c) (said r)) [] ≡ []
             none kind = ap (λ (b : Bool). cond b (hears a (entries c) (said r)) []) (no-question kind)
         go (Committing i s n) h = ap (λ (ss : List Say). cond (isFor (Committing i s n) kind) ss []) (step-by (Committing i s n) refl h) ∙ both (isFor (Committing i s n) kind) (eqb i (a .id))
           where
-            both : (x y : Bool) → cond x (heard (waitsIn (cond y (committing s n) calm)) (said r)) [] ≡ toldOf (cond (x && y) closing aside) r
+            both : (x y : Bool) → cond x (heard (waitsIn (cond y (committing s n) calm)) (said r)) [] ≡ toldAs (cond (x && y) closing aside) r
             both true true = refl
             both true false = refl
             both false y = refl
@@ -165,15 +142,15 @@ module _ (a : Place) where
 
 -- ---- one call
 
-module _ (p : ℕ) (a : Place) (sized : a .size ≡ S) where
+module _ (p : ℕ) (a : Place) where
   abbrev pub InvAt : Trail → Type 0
-  InvAt t = Inv S p (a .id) (a .base) (a .chunks) (t .world .records) (standing t) (openAt t) (t .asker)
+  InvAt t = Inv (a .size) p (a .id) (a .base) (a .chunks) (t .world .records) (standing t) (openAt t) (t .asker)
 
   abbrev pub bookIn : Trail → Book
-  bookIn t = bookAt S p (a .id) (a .base) (a .chunks) (t .world .records) (openAt t)
+  bookIn t = bookAt (a .size) p (a .id) (a .base) (a .chunks) (t .world .records) (openAt t)
 
   abbrev pub owed : Trail → List Say
-  owed t = owedAt S p (a .id) (a .base) (a .chunks) (t .world .records) (openAt t)
+  owed t = owedAt (a .size) p (a .id) (a .base) (a .chunks) (t .world .records) (openAt t)
 
   -- from t to u by a call that feeds fs and tells ss
   record Moves (t : Trail) (fs : List Fed) (ss : List Say) (u : Trail) : Type 0 where
@@ -186,31 +163,31 @@ module _ (p : ℕ) (a : Place) (sized : a .size ≡ S) where
   fed-role q (query c) = refl
   fed-role q (answer kind accepted base) = by-cond (λ (r : Role). [] ≡ fedOf r) (ends (a .id) q kind) _ _ (λ e. refl) (λ e. refl)
 
-  told-role : (t : Trail) (c : Call) (r : Answer) → Good t → InvAt t → cond (tells t c) (hears a (entries (goesOn t c)) (said r)) [] ≡ toldOf (role a (openAt t) c) r
+  told-role : (t : Trail) (c : Call) (r : Answer) → Good t → InvAt t → cond (tells t c) (hears a (entries (goesOn t c)) (said r)) [] ≡ toldAs (role a (openAt t) c) r
   told-role t (act x) r g v = hears-act a x r
   told-role t (query c) r g v = refl
-  told-role t (answer kind accepted base) r g v = told-answer a (t .world .records) (v .stays .exclusive) (openAt t) (t .asked) kind r (g .asked)
+  told-role t (answer kind accepted base) r g v = told-answer a (bytesIn t) (t .world .records) (v .stays .exclusive) (openAt t) (t .asked) kind r (g .asked)
 
-  one : (t : Trail) (m : Marked) (L : Layer) → Good t → InvAt t → Premises p a t m → (isSound m ≡ true → outcomeBy L m ≡ onTrail t m) → Moves t (fedBy a m) (toldBy L a t m) (follow t m)
-  one t m L g v k is = go (isSound m) refl
+  one : (t : Trail) → a .size ≡ bytesIn t → (m : Marked) (L : Layer) → Good t → InvAt t → Premises p a t m → (isSound m ≡ true → outcomeBy L m ≡ onTrail t m) → Moves t (fedBy a m) (toldBy L a t m) (follow t m)
+  one t sized m L g v k is = go (isSound m) refl
     where
-      fits : isSound m ≡ true → Fits S p (a .id) (a .base) (a .chunks) (t .world .records) (openAt t) (m .who) (t .asker) (role a (openAt t) (m .call)) (onTrail t m)
+      fits : isSound m ≡ true → Fits (a .size) p (a .id) (a .base) (a .chunks) (t .world .records) (openAt t) (m .who) (t .asker) (role a (openAt t) (m .call)) (onTrail t m)
       fits e =
-          subst (λ (z : ℕ). Fits S p (a .id) (a .base) (a .chunks) (t .world .records) (openAt t) (m .who) (t .asker) (role (record { id = a .id; size = z; base = a .base; chunks = a .chunks; managed = a .managed }) (openAt t) (m .call)) (onTrail t m)) (sym sized)
-          (keeps S p (a .id) (a .base) (a .chunks) (a .managed) (t .world .records) (t .world .stamps) (standing t) (t .world .state .mark) (g .world .table) (m .who) (t .asker) (openAt t) (m .ns) (m .settings) (m .call)
-          (g .world .question) v
-          (subst (λ (z : ℕ). isNone (fedOf (role (record { id = a .id; size = z; base = a .base; chunks = a .chunks; managed = a .managed }) (openAt t) (m .call))) ≡ false → m .who ≡ p) sized
-          (λ f. k .alone (ap isNone (when (isSound m) _ _ e ∙ fed-role (openAt t) (m .call)) ∙ f)))
+          subst (λ (S : ℕ). Fits (a .size) p (a .id) (a .base) (a .chunks) (t .world .records) (openAt t) (m .who) (t .asker) (role a (openAt t) (m .call))
+          (stepOn S (t .world .records) (t .world .stamps) (standing t) (t .world .state .mark) (openAt t) (m .ns) (m .settings) (m .call))) sized
+          (keeps (a .size) p (a .id) (a .base) (a .chunks) (a .managed) (t .world .records) (t .world .stamps) (standing t) (t .world .state .mark)
+          (subst (λ (S : ℕ). SoundTable S (t .world .records) (standing t)) (sym sized) (g .world .table)) (m .who) (t .asker) (openAt t) (m .ns) (m .settings) (m .call)
+          (g .world .question) v (λ f. k .alone (ap isNone (when (isSound m) _ _ e ∙ fed-role (openAt t) (m .call)) ∙ f))
           (k .none-open) (λ f. k .agreed f e))
 
       go : (b : Bool) → isSound m ≡ b → Moves t (fedBy a m) (toldBy L a t m) (follow t m)
       go true e =
           let f = fits e in
           let fs : fedBy a m ≡ fedOf (role a (openAt t) (m .call)) = when (isSound m) _ _ e ∙ fed-role (openAt t) (m .call) in
-          let ss : toldBy L a t m ≡ toldOf (role a (openAt t) (m .call)) (onTrail t m .answer) =
+          let ss : toldBy L a t m ≡ toldAs (role a (openAt t) (m .call)) (onTrail t m .answer) =
           ap (λ (b : Bool). cond (b && tells t (m .call)) (hears a (entries (goesOn t (m .call))) (said (outcomeBy L m .answer))) []) e
           ∙ told-role t (m .call) (outcomeBy L m .answer) g v
-          ∙ ap (λ (o : Outcome). toldOf (role a (openAt t) (m .call)) (o .answer)) (is e) in
+          ∙ ap (λ (o : Outcome). toldAs (role a (openAt t) (m .call)) (o .answer)) (is e) in
           subst (Moves t (fedBy a m) (toldBy L a t m)) (sym (follow-sound t m g e))
           (record {
             inv = f .inv;
@@ -245,25 +222,25 @@ module _ (p : ℕ) (a : Place) (sized : a .size ≡ S) where
         ∙ sym (append-assoc ss rs (owed u));
   }
 
--- the size of a place is the chunks'
-abbrev pub place-size : (h : History) (w : Where h) → place h w .size ≡ S
+-- the size of a place is that of the rules' chunks
+pub place-size : (h : History) (w : Where h) → place h w .size ≡ bytesIn (ruled h)
 place-size begin w = absurd w
-place-size (next h m) (inl o) = refl
-place-size (next h m) (inr w) = place-size h w
+place-size (next h m) (inl o) = sym (size-follows (ruled h) m (good-ruled h))
+place-size (next h m) (inr w) = place-size h w ∙ sym (size-follows (ruled h) m (good-ruled h))
 
-pub along : (p : ℕ) (h : History) (w : Where h) → Lent step h → Keeps p h w → Along p (place h w) (place-size h w) (fed h w) (told step h w) (ruled h)
+pub along : (p : ℕ) (h : History) (w : Where h) → Lent step h → Keeps p h w → Along p (place h w) (fed h w) (told step h w) (ruled h)
 along p begin w l k = absurd w
 along p (next h m) (inl o) l k = let x = opening p (ruled h) m (good-ruled h) o in record { inv = x .inv; book = x .book; says = sym (x .owes) }
 along p (next h m) (inr w) l k =
-    go-on p (place h w) (place-size h w) (fed h w) (fedBy (place h w) m) (told step h w) (toldBy step (place h w) (ruled h) m) (ruled h) (follow (ruled h) m) (along p h w (l .0) (k .0))
-    (one p (place h w) (place-size h w) (ruled h) m step (good-ruled h) (along p h w (l .0) (k .0) .inv) (k .1) (answers-ruled h m l))
+    go-on p (place h w) (fed h w) (fedBy (place h w) m) (told step h w) (toldBy step (place h w) (ruled h) m) (ruled h) (follow (ruled h) m) (along p h w (l .0) (k .0))
+    (one p (place h w) (ruled h) (place-size h w) m step (good-ruled h) (along p h w (l .0) (k .0) .inv) (k .1) (answers-ruled h m l))
 
 -- ---- BY THE BOOK
 
 pub by-the-book : ByTheBook step
 by-the-book p h w l k =
     let r = along p h w l k in (
-      owedAt S p (place h w .id) (place h w .base) (place h w .chunks) (ruled h .world .records) (openAt (ruled h)),
+      owedAt (place h w .size) p (place h w .id) (place h w .base) (place h w .chunks) (ruled h .world .records) (openAt (ruled h)),
       sym (r .says),
-      waits-owed (place h w) (ruled h .world .records) (r .inv .stays .exclusive) (openAt (ruled h)) (ruled h .asked) (good-ruled h .asked),
+      waits-owed (place h w) (bytesIn (ruled h)) (ruled h .world .records) (r .inv .stays .exclusive) (openAt (ruled h)) (ruled h .asked) (good-ruled h .asked),
     )

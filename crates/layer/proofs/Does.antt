@@ -1,59 +1,8 @@
 -- What one call does to the share book of any arena below the count, shared or exclusive, and by which call: demand 3's exclusive arena is a case (`Keeps`).
 -- Assumes nothing.
-use mathlib.Core.Path.{_≡_, refl, sym, ap, ap₂, _∙_, subst}
-use mathlib.Core.Bool.{Bool, true, false, cond, _&&_, true≢false}
-use mathlib.Core.List.{List, [], _∷_, _++_}
-use mathlib.Core.Logic.{_⊎_, inl, inr, ⊎-elim}
-use Prim.Native.Nat.{ℕ, suc, _+_, _-_, _*_, _/_, _%_, _≤_, _<_}
-use native.Mathlib.Nat.{div-add-mod'}
-use native.Mathlib.Omega.{arith}
-use native.Mathlib.Decide.{ℕ-discrete}
-use borrow.Author.Tests.{eq-eqb, ne-eqb, eqb-true, eqb-false, leb-true, not-true}
-use lib.IntN.{ℤ, pos, negsuc}
-use lib.Dec.{eqb, leb}
-use lib.ListN.{set, length-set}
-use Rattle.refusals.specs.declared.Refusal.{Refusal}
-use Rattle.refusals.specs.declared.Refusal.the-variants.{QuestionOpen, Zero, NotWhole, PastEnd, NoRun, CommitRefused}
+use Rattle.layer.proofs.Prelude.{_≡_, refl, sym, ap, ap₂, _∙_, subst, Bool, true, false, cond, _&&_, true≢false, List, [], _∷_, _++_, _⊎_, inl, inr, ⊎-elim, ℕ, suc, _+_, _-_, _*_, _/_, _%_, _≤_, _<_, div-add-mod', arith, ℕ-discrete, eq-eqb, ne-eqb, eqb-true, eqb-false, leb-true, ℤ, pos, negsuc, eqb, leb, set, length-set, Refusal, QuestionOpen, Zero, NotWhole, PastEnd, NoRun, CommitRefused, lt-or-le, when, unless, Found, At, Nothing, lowestRun, nowMs, delayMs, arenaAllowed, Arena, isOn, Commitment, grownArena, findRun, giveBackRun, bytesOf, endOf, isInside, Rows, never, return-rows, Settings, Sweep, Question, Idle, Committing, Purging, Reserving, GivingBack, Waiting, Reserve, Claim, Kind, ForCommit, ForPurge, ForMemory, ForGiveBack, ForNone, Answer, Refused, Registered, Released, Outcome, stateWith, reply, after, turnDown, at, isAt, withRecord, withStamps, grows as growsBy, eligible, serves, missReply, claimOf, releaseOf, visit, sweepFrom, isFor, counted, resume, answerCommit, answerPurge, answerOf, Act, reserve, manage, adopt, claim, release, sweep, Call, act, query, answer, actOn, stepOn, Eligible, Book, lowest, Fed, claims, releases, Say, refused, released, turn, unheld, hold, unhold, claimed, enter, isIdle, said, inRange, isAnswer}
 use Rattle.refusals.specs.Number.{number}
-use Rattle.words.proofs.RowLaws.{lt-or-le}
-use Rattle.words.proofs.Tests.{when, unless}
-use Rattle.runs.specs.declared.Found.{Found}
-use Rattle.runs.specs.declared.Found.the-variants.{At, Nothing}
-use Rattle.runs.specs.Lowest.{Lowest, lowestRun}
-use Rattle.runs.proofs.LowestLaws.{lowest-says}
-use Rattle.clock.specs.Clock.{nowMs, delayMs}
-use Rattle.options.specs.Options.{arenaAllowed}
-use Rattle.arena.specs.declared.Arena.{Arena}
-use Rattle.arena.specs.Flags.{isOn}
-use Rattle.arena.specs.declared.Commitment.{Commitment}
-use Rattle.arena.specs.Registering.{grownArena}
-use Rattle.arena.specs.Claiming.{findRun, giveBackRun}
-use Rattle.lookup.specs.Place.{bytesOf, endOf, isInside}
-use Rattle.lookup.proofs.PlaceLaws.{Within, inside-facts}
-use Rattle.lookup.specs.Rows.{Rows}
-use Rattle.lookup.proofs.SoundLaws.{never}
-use Rattle.lookup.proofs.Changes.{return-rows}
-use Rattle.layer.specs.declared.Settings.{Settings}
-use Rattle.layer.specs.declared.Sweep.{Sweep}
-use Rattle.layer.specs.declared.Question.{Question}
-use Rattle.layer.specs.declared.Question.the-variants.{Idle, Committing, Purging, Reserving, GivingBack}
-use Rattle.layer.specs.declared.Waiting.{Waiting}
-use Rattle.layer.specs.declared.Waiting.the-variants.{Reserve, Claim}
-use Rattle.layer.specs.declared.Kind.{Kind}
-use Rattle.layer.specs.declared.Kind.the-variants.{ForCommit, ForPurge, ForMemory, ForGiveBack, ForNone}
-use Rattle.layer.specs.declared.Answer.{Answer}
-use Rattle.layer.specs.declared.Answer.the-variants.{Refused, Registered, Released}
-use Rattle.layer.specs.World.{Outcome, stateOf, reply, after, turnDown}
-use Rattle.layer.specs.Table.{at, isAt}
-use Rattle.layer.specs.Registering.{withRecord, withStamps, grows as growsBy}
-use Rattle.layer.specs.Claiming.{eligible, serves, missReply, claimOf}
-use Rattle.layer.specs.Releasing.{releaseOf}
-use Rattle.layer.specs.Sweeping.{visit, sweepFrom}
-use Rattle.layer.specs.Answering.{isFor, counted, resume, answerCommit, answerPurge, answerOf}
-use Rattle.layer.specs.Step.{Act, reserve, manage, adopt, claim, release, sweep, Call, act, query, answer, actOn, stepOn}
-use Rattle.layer.specs.Ten.{Eligible}
-use Rattle.layer.specs.Book.{Book, lowest, Fed, claims, releases, Say, refused, released, turn, unheld, hold, unhold, claimed, enter}
-use Rattle.layer.specs.History.{isIdle, said, inRange, isAnswer}
+use Rattle.arena.proofs.PlaceLaws.{Within, inside-facts}
 use Rattle.layer.proofs.Tools.{at-same, by-not}
 use Rattle.layer.proofs.Facts.{SoundTable, SoundQuestion}
 use Rattle.layer.proofs.Rules.{served-named, served-eligible, grows-facts, grows-owned, others-left, Again, again}
@@ -180,12 +129,6 @@ module _ (S i : ℕ) (l : List Arena) (q : Question) (call : Call) (o : Outcome)
   Because (undoes s n) = Undoes s n
   Because (grows n) = Grows n
 
-  -- the run that becomes held was unheld
-  pub was-unheld : (s n : ℕ) → Holds s n → (s + n ≤ at l i .chunks) × ((j : ℕ) → s ≤ j → j < s + n → bookBefore .held j ≡ false)
-  was-unheld s n h =
-      let x : Lowest (unheld bookBefore) (bookBefore .chunks) n (At s) = subst (Lowest (unheld bookBefore) (bookBefore .chunks) n) (h .lowest) (lowest-says (unheld bookBefore) (bookBefore .chunks) n) in
-      (x .0 .room, λ j u v. not-true (bookBefore .held j) (x .0 .all-free j u v))
-
   -- what the call does to the arena's book, why, and that base and flags stay
   pub record Does : Type 0 where
     pub what : Change
@@ -285,7 +228,7 @@ module _ (S id : ℕ) (l : List Arena) (small : at l id .chunks ≤ 1024) where
         over o x = passed q (answer ForMemory true base) o refl (λ managed. refl) x
 
         go : (o : Outcome)
-            → Seeks S id (at l id) small (shown Idle) (withRecord old k a) (withStamps stamps k) (suc k) mark h (g .id) m (turnDown NoRun (stateOf (suc k) mark Idle)) o → P o
+            → Seeks S id (at l id) small (shown Idle) (withRecord old k a) (withStamps stamps k) (suc k) mark h (g .id) m (turnDown NoRun (stateWith (suc k) mark Idle)) o → P o
         go o (none f e) = subst P (sym e) (over _ (rests S id (at l id) small (shown Idle) (withRecord old k a) (suc k) Idle _ _ mark refl h))
         go o (other j f d x) = over o x
         go o (this s f e x) =
@@ -321,16 +264,16 @@ module _ (S id : ℕ) (l : List Arena) (stamps : List ℕ) (k : ℕ) (mark : Boo
   stored a = at-same l id a (omega (arith, low, t .long, t .few))
 
   -- nothing but the answer
-  same-table : (q : Question) (call : Call) (r : Answer) (m : Bool) → Still S id l q call (after (reply r (stateOf k m q)) l stamps)
-      → Does S id l q call (after (reply r (stateOf k m q)) l stamps)
+  same-table : (q : Question) (call : Call) (r : Answer) (m : Bool) → Still S id l q call (after (reply r (stateWith k m q)) l stamps)
+      → Does S id l q call (after (reply r (stateWith k m q)) l stamps)
   same-table q call r m why = record { what = still; does-it = refl; because = why; low = low; same = unchanged (at l id) }
 
   -- and that is nothing to the arena
-  nothing : (q : Question) (call : Call) (r : Answer) → Is S id l q call (after (reply r (stateOf k mark q)) l stamps) aside → Does S id l q call (after (reply r (stateOf k mark q)) l stamps)
+  nothing : (q : Question) (call : Call) (r : Answer) → Is S id l q call (after (reply r (stateWith k mark q)) l stamps) aside → Does S id l q call (after (reply r (stateWith k mark q)) l stamps)
   nothing q call r is = same-table q call r mark (passes is refl (inr refl))
 
   -- row 2: a question is open
-  busy : (q : Question) (call : Call) → isIdle q ≡ false → isAnswer call ≡ false → Does S id l q call (after (turnDown QuestionOpen (stateOf k mark q)) l stamps)
+  busy : (q : Question) (call : Call) → isIdle q ≡ false → isAnswer call ≡ false → Does S id l q call (after (turnDown QuestionOpen (stateWith k mark q)) l stamps)
   busy q call e f = same-table q call _ mark (shut e f refl refl)
 
   -- it is none of the arena's business
@@ -338,12 +281,12 @@ module _ (S id : ℕ) (l : List Arena) (stamps : List ℕ) (k : ℕ) (mark : Boo
   over q call o e is h = passed S id l small q call o e is h
 
   -- it leaves the table and no question
-  quiet : (r : Answer) → Over Idle (after (reply r (stateOf k mark Idle)) l stamps)
+  quiet : (r : Answer) → Over Idle (after (reply r (stateWith k mark Idle)) l stamps)
   quiet r = rests S id (at l id) small (before Idle) l k Idle r stamps mark refl (stands Idle refl)
 
   -- what the book turns down is turned down
-  turned : (call : Call) (f : Fed) (why : Refusal) → Is S id l Idle call (after (turnDown why (stateOf k mark Idle)) l stamps) (feeding (f ∷ []))
-      → enter (before Idle) f ≡ turn (refused (number why)) (before Idle) → Does S id l Idle call (after (turnDown why (stateOf k mark Idle)) l stamps)
+  turned : (call : Call) (f : Fed) (why : Refusal) → Is S id l Idle call (after (turnDown why (stateWith k mark Idle)) l stamps) (feeding (f ∷ []))
+      → enter (before Idle) f ≡ turn (refused (number why)) (before Idle) → Does S id l Idle call (after (turnDown why (stateWith k mark Idle)) l stamps)
   turned call f why is e = same-table Idle call (Refused why) mark (turned-down f why is refl e refl refl)
 
   -- ---- claims
@@ -462,7 +405,7 @@ module _ (S id : ℕ) (l : List Arena) (stamps : List ℕ) (k : ℕ) (mark : Boo
   -- ---- adopting: the arena that ends at the block
 
   grown : (address size : ℕ) → size % S ≡ 0 → growsBy S (at l id) address (size / S) ≡ true
-      → Does S id l Idle (act (adopt address size)) (after (reply (Registered id) (stateOf k mark Idle)) (set l id (grownArena (at l id) (size / S))) stamps)
+      → Does S id l Idle (act (adopt address size)) (after (reply (Registered id) (stateWith k mark Idle)) (set l id (grownArena (at l id) (size / S))) stamps)
   unfolding endOf bytesOf
   grown address size e g =
       let f = grows-facts S (at l id) address (size / S) g in
@@ -503,9 +446,9 @@ module _ (S id : ℕ) (l : List Arena) (stamps : List ℕ) (k : ℕ) (mark : Boo
       past o x = over Idle (act (adopt address size)) o refl (λ managed. refl) x
 
       go : (i : ℕ) → size % S ≡ 0 → growsBy S (at l i) address (size / S) ≡ true → Dec (i ≡ id)
-          → P (after (reply (Registered i) (stateOf k mark Idle)) (set l i (grownArena (at l i) (size / S))) stamps)
+          → P (after (reply (Registered i) (stateWith k mark Idle)) (set l i (grownArena (at l i) (size / S))) stamps)
       go i e g (yes d) =
-          subst (λ (x : ℕ). growsBy S (at l x) address (size / S) ≡ true → P (after (reply (Registered x) (stateOf k mark Idle)) (set l x (grownArena (at l x) (size / S))) stamps)) (sym d)
+          subst (λ (x : ℕ). growsBy S (at l x) address (size / S) ≡ true → P (after (reply (Registered x) (stateWith k mark Idle)) (set l x (grownArena (at l x) (size / S))) stamps)) (sym d)
           (grown address size e) g
       go i e g (no d) = past _ (rests S id (at l id) small (before Idle) _ k Idle _ stamps mark refl (elsewhere S id (at l id) small (before Idle) l k i _ d (stands Idle refl)))
   acts ns settings (claim (pos i) m commits) = go (ℕ-discrete i id)

@@ -1,66 +1,44 @@
 -- "no other's claim is granted a chunk there"; and demand 3 as a whole. Assumes nothing.
-use mathlib.Core.Path.{_≡_, refl, sym, ap, ap₂, _∙_, subst}
-use mathlib.Core.Bool.{Bool, true, false, cond, not, _&&_, true≢false}
-use mathlib.Core.List.{List, [], _∷_, _++_}
-use Prim.Native.Nat.{ℕ, _+_, _*_, _<_}
-use native.Mathlib.Omega.{arith}
-use lib.Dec.{leb, ltb, eqb}
-use lib.IntN.{pos, negsuc}
-use Rattle.words.proofs.Tests.{when}
-use Rattle.arena.specs.declared.Arena.{Arena}
-use Rattle.lookup.specs.Place.{bytesOf, endOf, isInside}
-use Rattle.lookup.proofs.SoundLaws.{never}
-use Rattle.refusals.specs.declared.Refusal.the-variants.{NoSuchQuestion}
-use Rattle.layer.specs.declared.Settings.{Settings}
-use Rattle.layer.specs.declared.Question.{Question}
-use Rattle.layer.specs.declared.Question.the-variants.{Idle, Committing, Purging, Reserving, GivingBack}
-use Rattle.layer.specs.declared.Waiting.the-variants.{Reserve, Claim}
-use Rattle.layer.specs.declared.Kind.{Kind}
-use Rattle.layer.specs.declared.Answer.{Answer}
-use Rattle.layer.specs.declared.Answer.the-variants.{Refused, Claimed}
-use Rattle.layer.specs.World.{World, Outcome}
-use Rattle.layer.specs.Table.{at, sound}
-use Rattle.layer.specs.Answering.{isFor, answerOf}
-use Rattle.layer.specs.Step.{Act, reserve, manage, adopt, claim, release, sweep, Call, act, query, answer, stepOn, step}
-use Rattle.layer.specs.Book.{lowest, claims}
-use Rattle.layer.specs.History.{Marked, isSound, Layer, isBroken, Trail, openAt, ruled, entries, goesOn, Place, inRange, isNone, feeds, fedBy, standing, place, isAnswer}
-use Rattle.layer.specs.Demand.{claimant, chunksOf, OthersElsewhere, StaysSound, Demand3}
+use Rattle.layer.proofs.Prelude.{_≡_, refl, sym, ap, ap₂, _∙_, subst, Bool, true, false, cond, not, _&&_, true≢false, List, [], _∷_, _++_, ℕ, _+_, _*_, _<_, arith, leb, ltb, eqb, pos, negsuc, when, Arena, bytesOf, endOf, isInside, never, NoSuchQuestion, Settings, Question, Idle, Committing, Purging, Reserving, GivingBack, Reserve, Claim, Kind, Answer, Refused, Claimed, World, Outcome, at, sound, isFor, answerOf, Act, reserve, manage, adopt, claim, release, sweep, Call, act, query, answer, stepOn, step, lowest, claims, Marked, isSound, Layer, isBroken, Trail, openAt, ruled, entries, goesOn, Place, inRange, isNone, feeds, fedBy, standing, place, isAnswer, claimant, chunksOf, Demand3}
+use Rattle.layer.specs.World.{sizeOf}
+use Rattle.layer.specs.History.{bytesIn}
+use Rattle.layer.specs.Demand.{OthersElsewhere, StaysSound}
 use Rattle.layer.proofs.Tools.{by-not}
 use Rattle.layer.proofs.Shown.{calm, committing, viewOf, Mine}
 use Rattle.layer.proofs.Stepped.{sound-test}
 use Rattle.layer.proofs.Outcomes.{namesIn, actNames, names, asksIn, asksFor, Tells, step-tells}
 use Rattle.layer.proofs.Asked.{Asked}
-use Rattle.layer.proofs.Trails.{S, Good, onTrail, good-ruled, row-1, left-ruled, answers-ruled}
+use Rattle.layer.proofs.Trails.{Good, onTrail, good-ruled, row-1, left-ruled, answers-ruled}
 use Rattle.layer.proofs.Demand.{place-size, along, by-the-book}
 use Rattle.layer.proofs.Consequences.{granted-exactly, granted-lowest, alike}
 
 -- ---- how many chunks a call is about is what the call that it goes on with asked for
 
-asks-asked : (l : List Arena) (q : Question) (c : Call) → Asked S l q c → (q ≡ Idle → ⊥) → asksIn q ≡ chunksOf c
-asks-asked l Idle c h d = absurd (d refl)
-asks-asked l (Committing i s n) c h d = sym (ap chunksOf (h .2))
-asks-asked l (Purging i j w) c h d = sym (ap chunksOf (h .1))
-asks-asked l (Reserving chunks bytes commit exclusive Reserve) c h d = sym (ap chunksOf (h .2))
-asks-asked l (Reserving chunks bytes commit exclusive (Claim n commits)) c h d = sym (ap chunksOf (h .1))
-asks-asked l (GivingBack cause Reserve) c h d = sym (ap chunksOf (h .4))
-asks-asked l (GivingBack cause (Claim n commits)) c h d = sym (ap chunksOf (h .1))
+asks-asked : (S : ℕ) (l : List Arena) (q : Question) (c : Call) → Asked S l q c → (q ≡ Idle → ⊥) → asksIn q ≡ chunksOf c
+asks-asked S l Idle c h d = absurd (d refl)
+asks-asked S l (Committing i s n) c h d = sym (ap chunksOf (h .2))
+asks-asked S l (Purging i j w) c h d = sym (ap chunksOf (h .1))
+asks-asked S l (Reserving chunks bytes commit exclusive Reserve) c h d = sym (ap chunksOf (h .2))
+asks-asked S l (Reserving chunks bytes commit exclusive (Claim n commits)) c h d = sym (ap chunksOf (h .1))
+asks-asked S l (GivingBack cause Reserve) c h d = sym (ap chunksOf (h .4))
+asks-asked S l (GivingBack cause (Claim n commits)) c h d = sym (ap chunksOf (h .1))
 
 -- an answer grants nothing where no question is open
-idle-answer : (l : List Arena) (stamps : List ℕ) (k : ℕ) (mark : Bool) (kind : Kind) (accepted : Bool) (base : ℕ) → answerOf S l stamps k mark Idle kind accepted base .answer ≡ Refused NoSuchQuestion
+idle-answer : (S : ℕ) (l : List Arena) (stamps : List ℕ) (k : ℕ) (mark : Bool) (kind : Kind) (accepted : Bool) (base : ℕ) → answerOf S l stamps k mark Idle kind accepted base .answer ≡ Refused NoSuchQuestion
 unfolding answerOf
-idle-answer l stamps k mark kind accepted base = by-not (λ (o : Outcome). o .answer ≡ Refused NoSuchQuestion) (isFor Idle kind) _ _ (λ e. refl) (λ e. refl)
+idle-answer S l stamps k mark kind accepted base = by-not (λ (o : Outcome). o .answer ≡ Refused NoSuchQuestion) (isFor Idle kind) _ _ (λ e. refl) (λ e. refl)
 
 module _ (t : Trail) (g : Good t) (m : Marked) (x : ℕ) (fresh committed : Bool) where
   asks-for : (c : Call) → m .call ≡ c → onTrail t m .answer ≡ Claimed x fresh committed → asksFor (openAt t) c ≡ chunksOf (goesOn t c)
   asks-for (act a) is e = refl
   asks-for (query c) is e = refl
-  asks-for (answer kind accepted base) is e = asks-asked (t .world .records) (openAt t) (t .asked) (g .asked) none
+  asks-for (answer kind accepted base) is e = asks-asked (bytesIn t) (t .world .records) (openAt t) (t .asked) (g .asked) none
     where
       none : openAt t ≡ Idle → ⊥
       none d =
           let u : Refused NoSuchQuestion ≡ Claimed x fresh committed =
-          sym (idle-answer (t .world .records) (t .world .stamps) (standing t) (t .world .state .mark) kind accepted base)
-          ∙ sym (ap₂ (λ (q : Question) (c : Call). stepOn S (t .world .records) (t .world .stamps) (standing t) (t .world .state .mark) q (m .ns) (m .settings) c .answer) d is) ∙ e in
+          sym (idle-answer (bytesIn t) (t .world .records) (t .world .stamps) (standing t) (t .world .state .mark) kind accepted base)
+          ∙ sym (ap₂ (λ (q : Question) (c : Call). stepOn (bytesIn t) (t .world .records) (t .world .stamps) (standing t) (t .world .state .mark) q (m .ns) (m .settings) c .answer) d is) ∙ e in
           let z : _≡_ {A = ℕ} 0 1 = cc in omega arith
 
 -- ---- who names the arena in a claim, or ends a commit question about it, claims for the program
@@ -101,14 +79,14 @@ others-elsewhere p h m w l k other x fresh committed e y lo hi =
     let sound-m : isSound m ≡ true = not-false (isSound m) (sym (row-1 m) ∙ ap isBroken e) in
     let says : onTrail t m .answer ≡ Claimed x fresh committed = ap (λ (o : Outcome). o .answer) (sym (answers-ruled h m l sound-m)) ∙ e in
     let v = along p h w (l .0) (k .0) .inv in
-    let tells : Tells S (t .world .records) (standing t) (asksFor (openAt t) (m .call)) (names (openAt t) (m .call)) (Claimed x fresh committed) (onTrail t m .world) =
-    subst (λ (r : Answer). Tells S (t .world .records) (standing t) (asksFor (openAt t) (m .call)) (names (openAt t) (m .call)) r (onTrail t m .world)) says
-    (step-tells S (t .world .records) (t .world .stamps) (standing t) (t .world .state .mark) (openAt t) (m .ns) (m .settings) (m .call) (g .world .question)) in
+    let tells : Tells (bytesIn t) (t .world .records) (standing t) (asksFor (openAt t) (m .call)) (names (openAt t) (m .call)) (Claimed x fresh committed) (onTrail t m .world) =
+    subst (λ (r : Answer). Tells (bytesIn t) (t .world .records) (standing t) (asksFor (openAt t) (m .call)) (names (openAt t) (m .call)) r (onTrail t m .world)) says
+    (step-tells (bytesIn t) (t .world .records) (t .world .stamps) (standing t) (t .world .state .mark) (openAt t) (m .ns) (m .settings) (m .call) (g .world .question)) in
     let unnamed : names (openAt t) (m .call) (a .id) ≡ false =
     never (names (openAt t) (m .call) (a .id)) (λ u. other (names-mine p a t m sound-m (k .1 .alone) (v .mine) (m .call) refl u)) in
     let n : asksFor (openAt t) (m .call) ≡ chunksOf (goesOn t (m .call)) = asks-for t g m x fresh committed (m .call) refl says in
-    let size : a .size ≡ S = place-size h w in
-    let top : y < x + asksFor (openAt t) (m .call) * S = subst (λ (z : ℕ). y < x + z) (ap₂ (λ (i j : ℕ). i * j) (sym n) size) hi in
+    let size : a .size ≡ bytesIn t = place-size h w in
+    let top : y < x + asksFor (openAt t) (m .call) * bytesIn t = subst (λ (z : ℕ). y < x + z) (ap₂ (λ (i j : ℕ). i * j) (sym n) size) hi in
     ap₂ (λ (b c : ℕ). leb b y && ltb y (b + c * a .size)) (sym (v .stays .base)) (sym (v .stays .chunks))
     ∙ ap (λ (z : ℕ). leb (at (t .world .records) (a .id) .base) y && ltb y (at (t .world .records) (a .id) .base + at (t .world .records) (a .id) .chunks * z)) size
     ∙ tells (g .world .table) (a .id) (v .low) (v .stays .exclusive) unnamed y lo top
@@ -119,7 +97,7 @@ others-elsewhere p h m w l k other x fresh committed e y lo hi =
 
 -- what the rules leave stays sound
 pub stays-sound : StaysSound step
-stays-sound h l page e = ap (λ (w : World). sound S w page) (left-ruled h l) ∙ sound-test S (ruled h .world) page (good-ruled h .world) e
+stays-sound h l page e = ap (λ (w : World). sound (sizeOf (w .state)) w page) (left-ruled h l) ∙ sound-test (bytesIn (ruled h)) (ruled h .world) page (good-ruled h .world) e
 
 -- DEMAND 3, of the rules
 pub demand3-rules : Demand3 step

@@ -1,26 +1,6 @@
 -- A sound table, by facts, and when a store leaves one. Assumes nothing.
-use mathlib.Core.Path.{_≡_, refl, sym, ap, ap₂, _∙_}
-use mathlib.Core.Bool.{true, false, not, _&&_, true≢false}
-use mathlib.Core.List.{List}
-use Prim.Native.Nat.{ℕ, _+_, _*_, _<_, _≤_}
-use native.Mathlib.Omega.{arith}
-use native.Mathlib.Decide.{ℕ-discrete}
-use borrow.Author.Tests.{not-true, leb-true, ltb-true, le-leb, lt-ltb}
-use lib.Dec.{leb, ltb}
-use lib.ListN.{length, set, length-set}
-use Rattle.words.specs.Bits.{bitAt}
-use Rattle.runs.specs.declared.Found.{Found}
-use Rattle.runs.specs.declared.Found.the-variants.{At, Nothing}
-use Rattle.runs.specs.Lowest.{least}
-use Rattle.runs.proofs.LowestLaws.{all-free-of, free-all, First, first-says, least-none}
-use Rattle.runs.proofs.SearchLaws.{and-both}
-use Rattle.arena.specs.declared.Arena.{Arena}
-use Rattle.lookup.specs.Place.{bytesOf, endOf}
-use Rattle.lookup.proofs.SoundLaws.{SoundArena}
-use Rattle.lookup.specs.Rows.{Rows}
-use Rattle.layer.specs.declared.Question.{Question}
-use Rattle.layer.specs.declared.Question.the-variants.{Idle, Committing, Purging, Reserving, GivingBack}
-use Rattle.layer.specs.Table.{at, isAt, meets, overlaps, apart, askedId, soundQuestion}
+use Rattle.layer.proofs.Prelude.{_≡_, refl, sym, ap, ap₂, _∙_, true, false, not, _&&_, true≢false, List, ℕ, _+_, _*_, _<_, _≤_, arith, ℕ-discrete, not-true, leb-true, ltb-true, le-leb, lt-ltb, leb, ltb, length, set, length-set, bitAt, Found, At, Nothing, least, all-free-of, free-all, First, first-says, and-both, Arena, bytesOf, endOf, SoundArena, Rows, Question, Idle, Committing, Purging, Reserving, GivingBack, at, isAt, meets, overlaps, apart, askedId, soundQuestion}
+use Rattle.bitmap.proofs.runs.LowestLaws.{least-none}
 use Rattle.layer.proofs.Tools.{at-same, at-other, by-set}
 
 -- ---- ranges

@@ -1,29 +1,7 @@
 -- One call keeps the invariant, moves the book as it is fed, and tells its program what the book says: of all that a call can do to an arena (`Does`), what is
 -- left where the arena is exclusive and its program keeps the premises. Assumes nothing.
-use mathlib.Core.Path.{_≡_, refl, sym, ap, ap₂, _∙_, subst}
-use mathlib.Core.Bool.{Bool, false, cond, true≢false}
-use mathlib.Core.List.{List, [], _∷_, _++_, append-nil}
-use mathlib.Core.Logic.{_⊎_, inl, inr}
-use Prim.Native.Nat.{ℕ, _<_}
-use native.Mathlib.Omega.{arith}
-use borrow.Author.Tests.{eq-eqb, ne-eqb}
-use lib.Dec.{eqb}
-use lib.IntN.{pos, negsuc}
+use Rattle.layer.proofs.Prelude.{_≡_, refl, sym, ap, ap₂, _∙_, subst, Bool, false, cond, true≢false, List, [], _∷_, _++_, append-nil, _⊎_, inl, inr, ℕ, _<_, arith, eq-eqb, ne-eqb, eqb, pos, negsuc, unless, At, Arena, isOn, Settings, Question, Idle, Committing, Purging, Reserving, GivingBack, Answer, Outcome, at, isFor, Call, act, query, answer, stepOn, Book, lowest, Fed, claims, releases, Say, refused, released, Turn, turn, unhold, claimed, enter, isIdle, entriesOf, said, Place, isNone, feeds, isAnswer, declines}
 use Rattle.refusals.specs.Number.{number}
-use Rattle.words.proofs.Tests.{unless}
-use Rattle.runs.specs.declared.Found.the-variants.{At}
-use Rattle.arena.specs.declared.Arena.{Arena}
-use Rattle.arena.specs.Flags.{isOn}
-use Rattle.layer.specs.declared.Settings.{Settings}
-use Rattle.layer.specs.declared.Question.{Question}
-use Rattle.layer.specs.declared.Question.the-variants.{Idle, Committing, Purging, Reserving, GivingBack}
-use Rattle.layer.specs.declared.Answer.{Answer}
-use Rattle.layer.specs.World.{Outcome}
-use Rattle.layer.specs.Table.{at}
-use Rattle.layer.specs.Answering.{isFor}
-use Rattle.layer.specs.Step.{Call, act, query, answer, stepOn}
-use Rattle.layer.specs.Book.{Book, lowest, Fed, claims, releases, Say, refused, released, Turn, turn, unhold, claimed, enter}
-use Rattle.layer.specs.History.{isIdle, entriesOf, said, Place, isNone, feeds, isAnswer, declines}
 use Rattle.layer.proofs.Facts.{SoundTable, SoundQuestion}
 use Rattle.layer.proofs.Shown.{View, calm, committing, purging, viewOf, waitsIn, owedIn, Role, feeding, closing, aside, role, fedOf, askerAfter, bookIn, Mine, Same, bookAt, owedAt, Inv, Fits}
 use Rattle.layer.proofs.View.{view-commit}

@@ -1,38 +1,8 @@
 -- Sound in, sound out: a call on a table that row 1 lets pass leaves one that row 1 lets pass. First what does not register. Assumes nothing.
-use mathlib.Core.Path.{_≡_, refl, sym, _∙_, subst}
-use mathlib.Core.Bool.{Bool, true, false, cond}
-use mathlib.Core.List.{List, _++_}
-use Prim.Native.Nat.{ℕ, zero, suc, _+_, _-_, _*_, _/_, _<_, _≤_}
-use native.Mathlib.Omega.{arith}
-use borrow.Author.Tests.{leb-true}
-use lib.IntN.{ℤ}
-use lib.ListN.{length, set, take, drop, replicate, length-append, length-take, length-drop, length-replicate}
-use Rattle.words.specs.Bits.{bitAt}
-use Rattle.words.proofs.Tests.{by-cond}
-use Rattle.runs.specs.declared.Found.{Found}
-use Rattle.runs.specs.declared.Found.the-variants.{At, Nothing}
-use Rattle.runs.specs.Lowest.{least}
-use Rattle.runs.proofs.LowestLaws.{First, first-says}
-use Rattle.arena.specs.declared.Arena.{Arena}
-use Rattle.arena.specs.declared.Commitment.{Commitment}
-use Rattle.arena.specs.declared.Commitment.the-variants.{Untold, Committed, Uncommitted}
-use Rattle.arena.specs.Claiming.{findRun, takeRun, giveBackRun, commitRun, dirtyRun, finishGrant}
-use Rattle.arena.specs.Releasing.{tellRun, pendRun, releaseRun, stampRun}
-use Rattle.arena.specs.Sweeping.{sweepDue, toAsk, nextAsked, disarm, borrowChunk, unpendChunk, returnChunk, nextWait, rearmAt, rearm}
-use Rattle.lookup.proofs.SoundLaws.{SoundArena}
-use Rattle.purge.specs.Stamps.{stampsOf}
-use Rattle.lookup.specs.Rows.{Rows}
-use Rattle.lookup.proofs.RowLaws.{bit-in}
-use Rattle.lookup.proofs.Changes.{found-inside, take-rows, dirty-rows, release-rows, disarm-rows, borrow-rows, rearm-rows}
-use Rattle.lookup.proofs.StaysSound.{take-sound, dirty-sound, release-sound, disarm-sound, borrow-sound, rearm-sound}
-use Rattle.layer.specs.declared.Sweep.{Sweep}
-use Rattle.layer.specs.declared.Question.the-variants.{Committing}
-use Rattle.layer.specs.declared.Reply.{Reply}
-use Rattle.layer.specs.World.{World, Outcome, worldOf, calm}
-use Rattle.layer.specs.Table.{at}
-use Rattle.layer.specs.Claiming.{searchOf}
-use Rattle.layer.specs.Releasing.{releaseOf}
-use Rattle.layer.specs.Sweeping.{purgeReply, sweptReply, visitAt, visit, sweepFrom}
+use Rattle.layer.proofs.Prelude.{_≡_, refl, sym, _∙_, subst, Bool, true, false, cond, List, _++_, ℕ, zero, suc, _+_, _-_, _*_, _/_, _<_, _≤_, arith, leb-true, ℤ, length, set, take, drop, replicate, length-replicate, bitAt, by-cond, Found, At, Nothing, least, First, first-says, Arena, Commitment, Untold, Committed, Uncommitted, findRun, takeRun, giveBackRun, commitRun, dirtyRun, finishGrant, tellRun, pendRun, releaseRun, stampRun, sweepDue, toAsk, nextAsked, disarm, borrowChunk, unpendChunk, returnChunk, nextWait, rearmAt, rearm, SoundArena, stampsOf, Rows, bit-in, found-inside, disarm-rows, rearm-rows, Sweep, Committing, Reply, World, Outcome, worldOf, calm, at, searchOf, releaseOf, purgeReply, sweptReply, visitAt, visit, sweepFrom}
+use lib.ListN.{length-append, length-take, length-drop}
+use Rattle.arena.proofs.Changes.{take-rows, dirty-rows, release-rows, borrow-rows}
+use Rattle.arena.proofs.StaysSound.{take-sound, dirty-sound, release-sound, disarm-sound, borrow-sound, rearm-sound}
 use Rattle.layer.proofs.Tools.{at-same}
 use Rattle.layer.proofs.Facts.{SoundTable, SoundQuestion, put-sound}
 use Rattle.layer.proofs.Cases.{grant-cases, search-cases, release-in-cases, release-cases}

@@ -1,4 +1,6 @@
+pub mod Prelude
 pub mod Tools
+pub mod ChunkLaws
 pub mod Facts
 pub mod Rules
 pub mod Kept

@@ -1,41 +1,20 @@
 -- The book opens where Registering's rules, in plain arithmetic, register an exclusive arena: a managed one, and a reserved one whose memory question is open.
 -- Assumes nothing.
-use mathlib.Core.Path.{_≡_, refl, sym, ap, ap₂, _∙_, subst}
-use mathlib.Core.Bool.{Bool, true, false, not, _||_, true≢false}
-use mathlib.Core.List.{List, []}
-use Prim.Native.Nat.{ℕ, suc, _+_, _-_, _*_, _/_, _%_, _^_, _<_, _≤_}
-use native.Mathlib.Omega.{arith}
-use borrow.Author.Tests.{eq-eqb, ne-eqb, lt-leb}
-use lib.Dec.{eqb, leb}
-use lib.IntN.{ℤ, negsuc}
-use Rattle.words.proofs.Tests.{unless}
-use Rattle.arena.specs.declared.Arena.{Arena}
-use Rattle.arena.specs.Flags.{isOn}
-use Rattle.arena.specs.Registering.{newArena, reservedArena, managedArena}
-use Rattle.layer.specs.declared.Question.{Question}
-use Rattle.layer.specs.declared.Question.the-variants.{Idle, Committing, Purging, Reserving, GivingBack}
-use Rattle.layer.specs.declared.Waiting.the-variants.{Reserve, Claim}
-use Rattle.layer.specs.declared.Kind.the-variants.{ForMemory}
-use Rattle.layer.specs.declared.Answer.the-variants.{Registered}
-use Rattle.layer.specs.World.{Outcome, outcome, worldOf}
+use Rattle.layer.proofs.Prelude.{_≡_, refl, sym, ap, ap₂, _∙_, subst, Bool, true, false, not, _||_, true≢false, List, [], ℕ, suc, _+_, _-_, _*_, _/_, _%_, _^_, _<_, _≤_, mul-div-cancel, mul-le-mul-right, arith, eq-eqb, ne-eqb, lt-leb, eqb, leb, ℤ, negsuc, unless, Arena, isOn, newArena, reservedArena, managedArena, Question, Idle, Committing, Purging, Reserving, GivingBack, Reserve, Claim, ForMemory, Registered, Outcome, outcome, worldOf, at, badRange, chunksFor, badCount, withRecord, withStamps, firstWhole, pastWhole, noWholeChunk, manageOf, isFor, answerMemory, answerOf, claim, reserve, Call, act, answer, stepOn, opened, Marked, Trail, openAt, follow, standing, Registrable, OpensAt}
 use Rattle.layer.specs.World as W
-use Rattle.layer.specs.Table.{at, badRange}
-use Rattle.layer.specs.Registering.{chunksFor, badCount, withRecord, withStamps, firstWhole, pastWhole, noWholeChunk, manageOf}
-use Rattle.layer.specs.Answering.{isFor, answerMemory, answerOf}
-use Rattle.layer.specs.Step.{claim, reserve, Call, act, answer, stepOn}
-use Rattle.layer.specs.Book.{opened}
-use Rattle.layer.specs.History.{Marked, Trail, openAt, follow, standing, Registrable, Manages, Reserves, Registers, OpensAt}
+use Rattle.layer.specs.History.{bytesIn, Manages, Reserves, Registers}
 use Rattle.layer.proofs.Cases.{register}
 use Rattle.layer.proofs.Tools.{at-same}
+use Rattle.layer.proofs.ChunkLaws.{size-fits, up-is, first-is, past-is}
 use Rattle.layer.proofs.Shown.{calm, bookIn, Stays, bookAt, owedAt, Inv}
 use Rattle.layer.proofs.View.{book-reserved, book-managed}
 use Rattle.layer.proofs.Plain.{not-12, not-6}
 use Rattle.layer.proofs.Asked.{Asked}
-use Rattle.layer.proofs.Trails.{S, Good, onTrail, gone, follow-sound}
+use Rattle.layer.proofs.Trails.{Good, onTrail, gone, follow-sound}
 
 -- ---- the rules, where none turns the arena down
 
-module _ (l : List Arena) (stamps : List ℕ) (k : ℕ) (mark : Bool) where
+module _ (S : ℕ) (some-size : 0 < S) (l : List Arena) (stamps : List ℕ) (k : ℕ) (mark : Bool) where
   -- the record stands at the end of the table
   abbrev added : Arena → Outcome
   added a = outcome (Registered k) (worldOf (withRecord l k a) (withStamps stamps k) (W.calm (suc k) mark))
@@ -49,7 +28,7 @@ module _ (l : List Arena) (stamps : List ℕ) (k : ℕ) (mark : Bool) where
   unfolding manageOf
   manage-adds from size node b n first past whole range count room =
       let bytes : pastWhole S from size - firstWhole S from ≡ n * S = omega (arith, first, past) in
-      let chunks : (pastWhole S from size - firstWhole S from) / S ≡ n = ap (λ (x : ℕ). x / S) bytes ∙ omega arith in
+      let chunks : (pastWhole S from size - firstWhole S from) / S ≡ n = ap (λ (x : ℕ). x / S) bytes ∙ mul-div-cancel n some-size in
       unless (noWholeChunk S from size) _ _ whole
       ∙ unless (badRange S l k _ _) _ _ (ap₂ (badRange S l k) first bytes ∙ range)
       ∙ register-adds _ _ (ap badCount chunks ∙ count) room
@@ -64,6 +43,12 @@ module _ (l : List Arena) (stamps : List ℕ) (k : ℕ) (mark : Bool) where
 -- ---- the tests of manage, by plain arithmetic
 
 module _ (t : Trail) (g : Good t) (b n : ℕ) (r : Registrable (t .world) b n) where
+  abbrev S : ℕ
+  S = bytesIn t
+
+  some-size : 0 < S
+  some-size = size-fits (t .world .state) .0
+
   abbrev l : List Arena
   l = t .world .records
 
@@ -81,19 +66,22 @@ module _ (t : Trail) (g : Good t) (b n : ℕ) (r : Registrable (t .world) b n) w
 
   module _ (m : Marked) (x : Manages t m b n) where
     first : firstWhole S (x .from) ≡ b
-    unfolding chunksFor
-    first = let a : b % 33554432 ≡ 0 = r .whole in let lo : x .from ≤ b = x .first .0 in let hi : b < x .from + 33554432 = x .first .1 in omega arith
+    first = first-is S some-size b (r .whole) (x .from) (x .first .0) (x .first .1)
 
     past : pastWhole S (x .from) (x .bytes) ≡ b + n * S
-    past = let a : b % 33554432 ≡ 0 = r .whole in let lo : b + n * 33554432 ≤ x .from + x .bytes = x .last .0 in let hi : x .from + x .bytes < b + n * 33554432 + 33554432 = x .last .1 in omega arith
+    past = past-is S some-size b (r .whole) (x .from) (x .bytes) n (x .last .0) (x .last .1)
+
+    -- a chunk has room in it
+    chunk : S ≤ n * S
+    chunk = let one : 1 * S ≤ n * S = mul-le-mul-right S (r .some) in omega arith
 
     not-15 : noWholeChunk S (x .from) (x .bytes) ≡ false
     unfolding noWholeChunk
     not-15 =
         ap₂ _||_ (ne-eqb (x .from) 0 (λ e. omega (arith, x .some-start)))
         (ap₂ _||_ (lt-leb (2 ^ 64) (x .from + x .bytes) (x .sum-fits))
-        (ap₂ _||_ (lt-leb (2 ^ 64) (x .from + (S - 1)) (let lo : x .from ≤ b = x .first .0 in let up : b + n * 33554432 ≤ x .from + x .bytes = x .last .0 in let top : x .from + x .bytes < 2 ^ 64 = x .sum-fits in let some : 1 ≤ n = r .some in omega arith))
-        (lt-leb (pastWhole S (x .from) (x .bytes)) (firstWhole S (x .from)) (let some : 1 ≤ n = r .some in omega (arith, first, past)))))
+        (ap₂ _||_ (lt-leb (2 ^ 64) (x .from + (S - 1)) (omega (arith, x .first .0, x .last .0, x .sum-fits, chunk, some-size)))
+        (lt-leb (pastWhole S (x .from) (x .bytes)) (firstWhole S (x .from)) (omega (arith, first, past, chunk, some-size)))))
 
   -- ---- the call registers it
 
@@ -101,16 +89,16 @@ module _ (t : Trail) (g : Good t) (b n : ℕ) (r : Registrable (t .world) b n) w
     abbrev does : Question → Call → Outcome
     does q c = stepOn S l (t .world .stamps) k (t .world .state .mark) q (m .ns) (m .settings) c
 
-    managed-adds : (x : Manages t m b n) → onTrail t m ≡ added l (t .world .stamps) k (t .world .state .mark) (managedArena b n true (x .node))
+    managed-adds : (x : Manages t m b n) → onTrail t m ≡ added S some-size l (t .world .stamps) k (t .world .state .mark) (managedArena b n true (x .node))
     managed-adds x =
         ap₂ does (x .none-open) (x .is-call)
-        ∙ manage-adds l (t .world .stamps) k (t .world .state .mark) (x .from) (x .bytes) (x .node) b n (first m x) (past m x) (not-15 m x) range-passes count-passes (r .room)
+        ∙ manage-adds S some-size l (t .world .stamps) k (t .world .state .mark) (x .from) (x .bytes) (x .node) b n (first m x) (past m x) (not-15 m x) range-passes count-passes (r .room)
 
-    reserved-adds : (x : Reserves t m b n) → onTrail t m ≡ added l (t .world .stamps) k (t .world .state .mark) (reservedArena b n (x .commit) true)
+    reserved-adds : (x : Reserves t m b n) → onTrail t m ≡ added S some-size l (t .world .stamps) k (t .world .state .mark) (reservedArena b n (x .commit) true)
     unfolding answerOf isFor
     reserved-adds x = ap (does (openAt t)) (x .is-call) ∙ go (openAt t) (x .memory-open) (g .asked)
       where
-        go : (q : Question) → isFor q ForMemory ≡ true → Asked S l q (t .asked) → does q (answer ForMemory true b) ≡ added l (t .world .stamps) k (t .world .state .mark) (reservedArena b n (x .commit) true)
+        go : (q : Question) → isFor q ForMemory ≡ true → Asked S l q (t .asked) → does q (answer ForMemory true b) ≡ added S some-size l (t .world .stamps) k (t .world .state .mark) (reservedArena b n (x .commit) true)
         go Idle e a = absurd (true≢false (sym e))
         go (Committing i s c) e a = absurd (true≢false (sym e))
         go (Purging i j w) e a = absurd (true≢false (sym e))
@@ -125,42 +113,42 @@ module _ (t : Trail) (g : Good t) (b n : ℕ) (r : Registrable (t .world) b n) w
             let count : chunks ≡ n = a .3 ∙ ap (chunksFor S) size ∙ rounded in
             ap₂ (λ (y : ℕ) (z : Bool). answerMemory S l (t .world .stamps) k (t .world .state .mark) y bytes z exclusive Reserve true b) count same
             ∙ ap (λ (z : Bool). answerMemory S l (t .world .stamps) k (t .world .state .mark) n bytes (x .commit) z Reserve true b) alone
-            ∙ memory-adds l (t .world .stamps) k (t .world .state .mark) n bytes (x .commit) b range-passes count-passes (r .whole) (r .room)
+            ∙ memory-adds S some-size l (t .world .stamps) k (t .world .state .mark) n bytes (x .commit) b range-passes count-passes (r .whole) (r .room)
           where
             rounded : chunksFor S (x .bytes) ≡ n
-            rounded = unfold chunksFor in let lo : x .bytes ≤ n * 33554432 = x .rounds .0 in let hi : n * 33554432 < x .bytes + 33554432 = x .rounds .1 in omega arith
+            rounded = up-is S some-size (x .bytes) n (x .rounds .0) (x .rounds .1)
 
 -- ---- then its book is as it is opened
 
-pub record Opening (p id b n : ℕ) (managed : Bool) (u : Trail) : Type 0 where
+pub record Opening (S p id b n : ℕ) (managed : Bool) (u : Trail) : Type 0 where
   pub inv : Inv S p id b n (u .world .records) (u .world .state .count) (openAt u) (u .asker)
   pub book : bookAt S p id b n (u .world .records) (openAt u) ≡ opened S b n managed
   pub owes : owedAt S p id b n (u .world .records) (openAt u) ≡ []
 
 module _ (p : ℕ) (t : Trail) (m : Marked) (g : Good t) (o : OpensAt t m) where
   -- the record at the end of the table
-  stands : (a : Arena) → isOn (a .exclusive) ≡ true → a .base ≡ o .base → a .chunks ≡ o .chunks → bookIn S calm a ≡ opened S (o .base) (o .chunks) (o .managed)
-      → onTrail t m ≡ added (t .world .records) (t .world .stamps) (standing t) (t .world .state .mark) a → Opening p (standing t) (o .base) (o .chunks) (o .managed) (gone t m (onTrail t m))
+  stands : (a : Arena) → isOn (a .exclusive) ≡ true → a .base ≡ o .base → a .chunks ≡ o .chunks → bookIn (bytesIn t) calm a ≡ opened (bytesIn t) (o .base) (o .chunks) (o .managed)
+      → onTrail t m ≡ added (bytesIn t) (size-fits (t .world .state) .0) (t .world .records) (t .world .stamps) (standing t) (t .world .state .mark) a → Opening (bytesIn t) p (standing t) (o .base) (o .chunks) (o .managed) (gone t m (onTrail t m))
   stands a x y z shows e =
-      subst (λ (c : Outcome). Opening p (standing t) (o .base) (o .chunks) (o .managed) (gone t m c)) (sym e)
+      subst (λ (c : Outcome). Opening (bytesIn t) p (standing t) (o .base) (o .chunks) (o .managed) (gone t m c)) (sym e)
       (record {
         inv = record { low = omega arith; stays = subst (Stays (o .base) (o .chunks)) (sym there) (record { exclusive = x; base = y; chunks = z }); mine = tt };
-        book = ap (bookIn S calm) there ∙ shows;
+        book = ap (bookIn (bytesIn t) calm) there ∙ shows;
         owes = refl;
       })
     where
       there : at (withRecord (t .world .records) (standing t) a) (standing t) ≡ a
       there = at-same (t .world .records) (standing t) a (omega (arith, g .world .table .long, o .registrable .room))
 
-  by-kind : (managed : Bool) → o .managed ≡ managed → Registers t m (o .base) (o .chunks) managed → Opening p (standing t) (o .base) (o .chunks) (o .managed) (gone t m (onTrail t m))
+  by-kind : (managed : Bool) → o .managed ≡ managed → Registers t m (o .base) (o .chunks) managed → Opening (bytesIn t) p (standing t) (o .base) (o .chunks) (o .managed) (gone t m (onTrail t m))
   by-kind true e x =
       stands (managedArena (o .base) (o .chunks) true (x .node)) (unfold managedArena newArena in refl) (unfold managedArena newArena in refl) (unfold managedArena newArena in refl)
-      (book-managed (o .base) (o .chunks) true (x .node) (o .registrable .few) ∙ ap (opened S (o .base) (o .chunks)) (sym e))
+      (book-managed (o .base) (o .chunks) true (x .node) (o .registrable .few) ∙ ap (opened (bytesIn t) (o .base) (o .chunks)) (sym e))
       (managed-adds t g (o .base) (o .chunks) (o .registrable) m x)
   by-kind false e x =
       stands (reservedArena (o .base) (o .chunks) (x .commit) true) (unfold reservedArena newArena in refl) (unfold reservedArena newArena in refl) (unfold reservedArena newArena in refl)
-      (book-reserved (o .base) (o .chunks) (x .commit) true (o .registrable .few) ∙ ap (opened S (o .base) (o .chunks)) (sym e))
+      (book-reserved (o .base) (o .chunks) (x .commit) true (o .registrable .few) ∙ ap (opened (bytesIn t) (o .base) (o .chunks)) (sym e))
       (reserved-adds t g (o .base) (o .chunks) (o .registrable) m x)
 
-  pub opening : Opening p (standing t) (o .base) (o .chunks) (o .managed) (follow t m)
-  opening = subst (Opening p (standing t) (o .base) (o .chunks) (o .managed)) (sym (follow-sound t m g (o .is-sound))) (by-kind (o .managed) refl (o .registers))
+  pub opening : Opening (bytesIn t) p (standing t) (o .base) (o .chunks) (o .managed) (follow t m)
+  opening = subst (Opening (bytesIn t) p (standing t) (o .base) (o .chunks) (o .managed)) (sym (follow-sound t m g (o .is-sound))) (by-kind (o .managed) refl (o .registers))

@@ -1,52 +1,14 @@
 -- What the answer of a call on a sound table tells, whatever the call: a refusal is none of row 1's, and a grant lies in no exclusive arena but one that the
 -- call or the open question names. Assumes nothing.
-use mathlib.Core.Path.{_≡_, refl, sym, ap, ap₂, _∙_, subst}
-use mathlib.Core.Bool.{Bool, true, false, cond, not}
-use mathlib.Core.List.{List}
-use Prim.Native.Nat.{ℕ, suc, _+_, _-_, _*_, _/_, _%_, _<_, _≤_}
-use native.Mathlib.Nat.{add-mul, mul-le-mul-right}
-use native.Mathlib.Omega.{arith}
-use borrow.Author.Tests.{eqb-false}
-use lib.Dec.{leb, ltb, eqb}
-use lib.IntN.{ℤ, pos, negsuc}
-use lib.ListN.{length}
-use Rattle.words.proofs.Tests.{by-cond}
-use Rattle.runs.specs.Lowest.{all}
-use Rattle.runs.proofs.SearchLaws.{and-both}
-use Rattle.options.specs.Options.{pageSizeSound}
-use Rattle.refusals.specs.declared.Refusal.{Refusal}
-use Rattle.refusals.specs.declared.Refusal.the-variants.{Broken}
+use Rattle.layer.proofs.Prelude.{_≡_, refl, sym, ap, ap₂, _∙_, subst, Bool, true, false, cond, not, List, ℕ, suc, _+_, _-_, _*_, _/_, _%_, _<_, _≤_, add-mul, mul-le-mul-right, arith, eqb-false, leb, ltb, eqb, ℤ, pos, negsuc, length, by-cond, all, and-both, pageSizeSound, Refusal, Broken, Arena, isOn, reservedArena, isInside, soundArena, never, found-inside, Settings, Question, Idle, Committing, Purging, Reserving, GivingBack, Waiting, Reserve, Claim, Unusable, Count, Misaligned, Full, Kind, Answer, Refused, Asks, Registered, Claimed, Released, Swept, Owns, Area, World, Outcome, after, outcome, at, meets, badRange, apart, soundTable, soundLent, sound, askMemory, badCount, withRecord, withStamps, serves, claimOf, isFor, causeRefusal, counted, failReply, answerCommit, resume, answerMemory, answerTo, answerOf, Act, reserve, manage, adopt, claim, release, sweep, owns, area, Call, act, query, answer, sweepOf, actOn, stepOn, rules, isBroken, chunksOf}
 use Rattle.refusals.specs.Number.{number}
-use Rattle.arena.specs.declared.Arena.{Arena}
-use Rattle.arena.specs.Flags.{isOn}
-use Rattle.arena.specs.Registering.{reservedArena}
-use Rattle.lookup.specs.Place.{isInside}
-use Rattle.lookup.specs.Soundness.{soundArena}
-use Rattle.lookup.proofs.SoundLaws.{never}
-use Rattle.lookup.proofs.PlaceLaws.{inside-test}
-use Rattle.lookup.proofs.Changes.{found-inside}
-use Rattle.layer.specs.declared.Settings.{Settings}
-use Rattle.layer.specs.declared.Question.{Question}
-use Rattle.layer.specs.declared.Question.the-variants.{Idle, Committing, Purging, Reserving, GivingBack}
-use Rattle.layer.specs.declared.Waiting.{Waiting}
-use Rattle.layer.specs.declared.Waiting.the-variants.{Reserve, Claim}
-use Rattle.layer.specs.declared.Unusable.{Unusable}
-use Rattle.layer.specs.declared.Unusable.the-variants.{Count, Misaligned, Full}
-use Rattle.layer.specs.declared.Kind.{Kind}
-use Rattle.layer.specs.declared.Answer.{Answer}
-use Rattle.layer.specs.declared.Answer.the-variants.{Refused, Asks, Registered, Claimed, Released, Swept, Owns, Area}
-use Rattle.layer.specs.World.{World, Outcome, after, outcome}
-use Rattle.layer.specs.Table.{at, meets, badRange, apart, soundTable, soundLent, sound}
-use Rattle.layer.specs.Registering.{askMemory, badCount, withRecord, withStamps}
-use Rattle.layer.specs.Claiming.{serves, claimOf}
-use Rattle.layer.specs.Answering.{isFor, causeRefusal, counted, failReply, answerCommit, resume, answerMemory, answerTo, answerOf, isIdle}
-use Rattle.layer.specs.Step.{Act, reserve, manage, adopt, claim, release, sweep, Query, owns, area, Call, act, query, answer, sweepOf, actOn, queryOn, stepOn, rules}
+use Rattle.arena.proofs.PlaceLaws.{inside-test}
+use Rattle.layer.specs.Answering.{isIdle}
+use Rattle.layer.specs.Step.{Query, queryOn}
 use Rattle.layer.proofs.Tools.{at-other, by-not}
 use Rattle.layer.proofs.Facts.{SoundTable, SoundQuestion, question-facts}
 use Rattle.layer.proofs.Rules.{not-shared, served-named, Again, again, count-facts}
 use Rattle.layer.proofs.Registered.{good-range, new-table, reserved-rows, reserved-sound, reserved-range}
-use Rattle.layer.specs.History.{isBroken}
-use Rattle.layer.specs.Demand.{chunksOf}
 use Rattle.layer.proofs.Cases.{register, grant-cases, search-cases, miss-cases, claim-cases, release-in-cases, release-cases, reserve-cases, register-cases, manage-cases, adopt-cases, memory-cases}
 use Rattle.layer.proofs.Sweeps.{visit-cases, sweep-cases}
 use Rattle.layer.proofs.Does.{only-one}

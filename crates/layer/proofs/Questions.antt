@@ -1,38 +1,12 @@
 -- What each call leaves of the open question. Assumes nothing.
-use mathlib.Core.Path.{_≡_, refl, sym, ap, _∙_, subst}
-use mathlib.Core.Bool.{Bool, true, false, not, true≢false}
-use mathlib.Core.List.{List}
-use mathlib.Core.Logic.{_⊎_, inl, inr}
-use Prim.Native.Nat.{ℕ, suc, _+_, _-_, _*_, _%_, _≤_, _^_, _<_}
-use native.Mathlib.Omega.{arith}
-use borrow.Author.Tests.{ne-eqb, lt-leb}
-use lib.Dec.{eqb, leb}
-use Rattle.refusals.specs.declared.Refusal.{Refusal}
-use Rattle.refusals.specs.declared.Refusal.the-variants.{NoSuchQuestion, Range, MemoryRefused}
+use Rattle.layer.proofs.Prelude.{_≡_, refl, sym, ap, _∙_, subst, Bool, true, false, not, true≢false, List, _⊎_, inl, inr, ℕ, suc, _+_, _-_, _*_, _%_, _≤_, _^_, _<_, arith, ne-eqb, lt-leb, eqb, leb, Refusal, NoSuchQuestion, Range, MemoryRefused, by-cond, when, unless, Arena, reservedArena, Settings, Sweep, Question, Idle, Committing, Purging, Reserving, GivingBack, Waiting, Reserve, Claim, Count, Misaligned, Full, Kind, Reply, Answer, Refused, Asks, Registered, Claimed, Released, Swept, Owns, Area, World, Outcome, stateWith, worldOf, after, badRange, sound, chunksFor, tooLarge, bytesAsked, reserveReply, reserveOf, askMemory, badCount, withRecord, withStamps, isFor, counted, failReply, resume, answerPurge, answerMemory, answerTo, answerOf, Act, reserve, manage, adopt, claim, release, sweep, Call, act, query, answer, sweepOf, actOn, stepOn, step}
 use Rattle.refusals.specs.Number.{number}
-use Rattle.words.proofs.Tests.{by-cond, when, unless}
-use Rattle.arena.specs.declared.Arena.{Arena}
-use Rattle.arena.specs.Registering.{reservedArena}
-use Rattle.layer.specs.declared.Settings.{Settings}
-use Rattle.layer.specs.declared.Sweep.{Sweep}
-use Rattle.layer.specs.declared.Question.{Question}
-use Rattle.layer.specs.declared.Question.the-variants.{Idle, Committing, Purging, Reserving, GivingBack}
-use Rattle.layer.specs.declared.Waiting.{Waiting}
-use Rattle.layer.specs.declared.Waiting.the-variants.{Reserve, Claim}
-use Rattle.layer.specs.declared.Unusable.the-variants.{Count, Misaligned, Full}
-use Rattle.layer.specs.declared.Kind.{Kind}
 use Rattle.layer.specs.declared.Ask.{Ask}
 use Rattle.layer.specs.declared.Ask.the-variants.{AskMemory}
-use Rattle.layer.specs.declared.Reply.{Reply}
-use Rattle.layer.specs.declared.Answer.{Answer}
-use Rattle.layer.specs.declared.Answer.the-variants.{Refused, Asks, Registered, Claimed, Released, Swept, Owns, Area}
-use Rattle.layer.specs.World.{World, Outcome, stateOf, worldOf, after}
-use Rattle.layer.specs.Table.{badRange, sound}
-use Rattle.layer.specs.Registering.{chunksFor, tooLarge, bytesAsked, reserveReply, reserveOf, askMemory, badCount, withRecord, withStamps}
-use Rattle.layer.specs.Answering.{isFor, counted, failReply, resume, answerPurge, answerMemory, answerTo, answerOf}
-use Rattle.layer.specs.Step.{Act, reserve, manage, adopt, claim, release, sweep, Call, act, query, answer, sweepOf, actOn, stepOn, step}
+use Rattle.layer.specs.World.{sizeOf}
 use Rattle.layer.specs.Questions.{TurnedDown, CommitOf, AfterAnswer, AfterAct, AfterCall, QuestionsByRules, ReservesAsk}
 use Rattle.layer.proofs.Tools.{by-not}
+use Rattle.layer.proofs.ChunkLaws.{size-fits, up-is}
 use Rattle.layer.proofs.Facts.{SoundQuestion}
 use Rattle.layer.proofs.Rules.{Again, again}
 use Rattle.layer.proofs.Cases.{register, grant-cases, search-cases, miss-cases, claim-cases, release-in-cases, release-cases, reserve-cases, register-cases, manage-cases, adopt-cases}
@@ -40,14 +14,13 @@ use Rattle.layer.proofs.Sweeps.{visit-cases, sweep-cases}
 use Rattle.layer.proofs.Plain.{some-chunk, few-chunks, not-6, passes}
 use Rattle.layer.proofs.Outcomes.{sound-question}
 use Rattle.layer.proofs.Demand.{no-question}
-use Rattle.layer.proofs.Trails.{S}
 
 -- ---- acts: an answer that is no question leaves none
 
 abbrev Put : Outcome → Type 0
 Put o = (o .world .state .question ≡ Idle) ⊎ ((ask : Ask) × (o .answer ≡ Asks ask))
 
-module _ (l : List Arena) (stamps : List ℕ) (k : ℕ) (mark : Bool) where
+module _ (S : ℕ) (l : List Arena) (stamps : List ℕ) (k : ℕ) (mark : Bool) where
   register-put : (chunks : ℕ) (a : Arena) → Put (register l stamps k mark chunks a)
   register-put chunks a = register-cases S l stamps k mark Put chunks a (inl refl) (inl refl) (λ e f. inl refl)
 
@@ -86,7 +59,10 @@ isRange (Area at-base bytes) = false
 not-range : (r : Answer) → isRange r ≡ false → r ≡ Refused Range → ⊥
 not-range r e f = true≢false (sym (ap isRange f) ∙ e)
 
-module _ (w : World) (page : ℕ) (e : sound S w page ≡ true) (base : ℕ) where
+module _ (w : World) (page : ℕ) (e : sound (sizeOf (w .state)) w page ≡ true) (base : ℕ) where
+  abbrev S : ℕ
+  S = sizeOf (w .state)
+
   abbrev After : Question → Outcome → Type 0
   After q o = AfterAnswer w base q (o .answer) (o .world .state .question)
 
@@ -144,9 +120,9 @@ module _ (w : World) (page : ℕ) (e : sound S w page ≡ true) (base : ℕ) whe
       (omega (arith, h .1, few-chunks w page e i (h .0)))))
     where
       later : Outcome → Type 0
-      later = From l (w .stamps) k (w .state .mark) (1024 * i + (j + 1))
+      later = From S l (w .stamps) k (w .state .mark) (1024 * i + (j + 1))
 
-      behind : (o : Outcome) → From l (w .stamps) k (w .state .mark) (1024 * i + (j + 1)) o → After (Purging i j x) o
+      behind : (o : Outcome) → From S l (w .stamps) k (w .state .mark) (1024 * i + (j + 1)) o → After (Purging i j x) o
       behind o (inl y) = inl y
       behind o (inr y) = inr (y .0, y .1, y .2, y .3, omega (arith, y .4))
   answer-after (Reserving chunks bytes commit exclusive waiting) h kind accepted f = memory-after chunks bytes commit exclusive waiting accepted
@@ -154,10 +130,10 @@ module _ (w : World) (page : ℕ) (e : sound S w page ≡ true) (base : ℕ) whe
 
 -- ---- a reserve of so many chunks
 
-asks-for : (l : List Arena) (stamps : List ℕ) (k : ℕ) (mark : Bool) (size n : ℕ) (commit large exclusive : Bool) (page : ℕ) → chunksFor S size ≡ n → (size ≡ 0 → ⊥) → n * S + S < 2 ^ 64
+asks-for : (S : ℕ) (l : List Arena) (stamps : List ℕ) (k : ℕ) (mark : Bool) (size n : ℕ) (commit large exclusive : Bool) (page : ℕ) → chunksFor S size ≡ n → (size ≡ 0 → ⊥) → n * S + S < 2 ^ 64
     → reserveOf S l stamps k mark size commit large exclusive page .answer ≡ Asks (AskMemory (n * S) S commit large)
 unfolding reserveOf reserveReply askMemory tooLarge bytesAsked
-asks-for l stamps k mark size n commit large exclusive page c some fits =
+asks-for S l stamps k mark size n commit large exclusive page c some fits =
     ap (λ (r : Reply). r .answer) (unless (leb (2 ^ 64) (chunksFor S size * S + S)) _ _ (ap (λ (x : ℕ). leb (2 ^ 64) (x * S + S)) c ∙ lt-leb (2 ^ 64) (n * S + S) fits))
     ∙ ap (λ (x : ℕ). Asks (AskMemory x S commit large)) (unless (eqb size 0) _ _ (ne-eqb size 0 some) ∙ ap (λ (x : ℕ). x * S) c)
 
@@ -167,12 +143,15 @@ pub questions-by-rules : QuestionsByRules step
 unfolding answerOf
 questions-by-rules w ns settings c e = subst (AfterCall w c) (sym (passes w ns settings c (w .state .question) e refl)) (go c)
   where
+    S : ℕ
+    S = sizeOf (w .state)
+
     shut : (q : Question) → w .state .question ≡ q → (a : Act) → AfterAct w q (stepOn S (w .records) (w .stamps) (w .state .count) (w .state .mark) q ns settings (act a))
-    shut Idle is a = act-put (w .records) (w .stamps) (w .state .count) (w .state .mark) ns settings a
-    shut (Committing i s n) is a = (refl, ap (λ (q : Question). worldOf (w .records) (w .stamps) (stateOf (w .state .count) (w .state .mark) q)) (sym is))
-    shut (Purging i j x) is a = (refl, ap (λ (q : Question). worldOf (w .records) (w .stamps) (stateOf (w .state .count) (w .state .mark) q)) (sym is))
-    shut (Reserving chunks bytes commit exclusive waiting) is a = (refl, ap (λ (q : Question). worldOf (w .records) (w .stamps) (stateOf (w .state .count) (w .state .mark) q)) (sym is))
-    shut (GivingBack cause waiting) is a = (refl, ap (λ (q : Question). worldOf (w .records) (w .stamps) (stateOf (w .state .count) (w .state .mark) q)) (sym is))
+    shut Idle is a = act-put S (w .records) (w .stamps) (w .state .count) (w .state .mark) ns settings a
+    shut (Committing i s n) is a = (refl, ap (λ (q : Question). worldOf (w .records) (w .stamps) (stateWith (w .state .count) (w .state .mark) q)) (sym is))
+    shut (Purging i j x) is a = (refl, ap (λ (q : Question). worldOf (w .records) (w .stamps) (stateWith (w .state .count) (w .state .mark) q)) (sym is))
+    shut (Reserving chunks bytes commit exclusive waiting) is a = (refl, ap (λ (q : Question). worldOf (w .records) (w .stamps) (stateWith (w .state .count) (w .state .mark) q)) (sym is))
+    shut (GivingBack cause waiting) is a = (refl, ap (λ (q : Question). worldOf (w .records) (w .stamps) (stateWith (w .state .count) (w .state .mark) q)) (sym is))
 
     answered : (kind : Kind) (accepted : Bool) (base : ℕ) → AfterCall w (answer kind accepted base) (answerOf S (w .records) (w .stamps) (w .state .count) (w .state .mark) (w .state .question) kind accepted base)
     answered kind accepted base = (
@@ -192,8 +171,11 @@ pub reserves-ask : ReservesAsk step
 reserves-ask w ns settings size n commit large exclusive e idle some lo hi fits =
     ap (λ (o : Outcome). o .answer) (passes w ns settings (act (reserve size commit large exclusive)) Idle e idle) ∙ asks
   where
+    S : ℕ
+    S = sizeOf (w .state)
+
     chunks : chunksFor S size ≡ n
-    chunks = unfold chunksFor in let a : size ≤ n * 33554432 = lo in let b : n * 33554432 < size + 33554432 = hi in omega arith
+    chunks = up-is S (size-fits (w .state) .0) size n lo hi
 
     asks : reserveOf S (w .records) (w .stamps) (w .state .count) (w .state .mark) size commit large exclusive (settings .page) .answer ≡ Asks (AskMemory (n * S) S commit large)
-    asks = asks-for (w .records) (w .stamps) (w .state .count) (w .state .mark) size n commit large exclusive (settings .page) chunks (λ z. omega (arith, some, z)) fits
+    asks = asks-for S (w .records) (w .stamps) (w .state .count) (w .state .mark) size n commit large exclusive (settings .page) chunks (λ z. omega (arith, some, z)) fits

@@ -1,27 +1,10 @@
 -- Sound in, sound out, for what registers: a new arena, one that grows, and the calls that make them. Assumes nothing.
-use mathlib.Core.Path.{_≡_, refl, sym, ap, ap₂, _∙_, subst}
-use mathlib.Core.Bool.{Bool, true, false, _&&_, true≢false}
-use mathlib.Core.List.{List}
-use mathlib.Core.Logic.{_⊎_, inl, inr, ⊎-elim}
-use Prim.Native.Nat.{ℕ, zero, suc, _+_, _-_, _*_, _/_, _%_, _^_, _<_, _≤_}
-use native.Mathlib.Nat.{add-mul, mul-comm, mul-sub, suc-mul, div-add-mod', mul-mod-left, mul-div-cancel}
-use native.Mathlib.Omega.{arith}
-use native.Mathlib.Decide.{ℕ-discrete}
-use borrow.Author.Tests.{leb-false, ltb-false, eqb-false, lt-ltb, le-ltb}
-use lib.Dec.{leb, ltb, eqb}
-use lib.IntN.{ℤ, negsuc}
-use lib.ListN.{length, set, length-set}
-use Rattle.words.proofs.RowLaws.{lt-or-le}
-use Rattle.arena.specs.declared.Arena.{Arena}
-use Rattle.arena.specs.Registering.{newArena, reservedArena, managedArena, adoptedArena, grownArena}
-use Rattle.lookup.specs.Place.{bytesOf, endOf}
-use Rattle.lookup.proofs.SoundLaws.{SoundRange, SoundArena}
-use Rattle.lookup.specs.Rows.{Rows}
-use Rattle.lookup.proofs.Changes.{new-rows, grown-rows}
-use Rattle.lookup.proofs.StaysSound.{new-sound, grown-sound}
-use Rattle.layer.specs.Table.{at, meets, badRange}
-use Rattle.layer.specs.Registering.{chunksFor, askMemory, badCount, withStamps, firstWhole, pastWhole, grows, reserveOf, manageOf, adoptOf}
+use Rattle.layer.proofs.Prelude.{_≡_, refl, sym, ap, ap₂, _∙_, subst, Bool, true, false, _&&_, true≢false, List, _⊎_, inl, inr, ⊎-elim, ℕ, zero, suc, _+_, _-_, _*_, _/_, _%_, _^_, _<_, _≤_, add-mul, mul-mod-left, arith, ℕ-discrete, leb-false, ltb-false, eqb-false, lt-ltb, leb, ltb, eqb, ℤ, negsuc, length, set, length-set, lt-or-le, Arena, newArena, reservedArena, managedArena, adoptedArena, grownArena, bytesOf, endOf, SoundRange, SoundArena, Rows, at, meets, badRange, chunksFor, askMemory, badCount, withStamps, firstWhole, pastWhole, grows, reserveOf, manageOf, adoptOf}
+use borrow.Author.Tests.{le-ltb}
+use Rattle.arena.proofs.Changes.{new-rows, grown-rows}
+use Rattle.arena.proofs.StaysSound.{new-sound, grown-sound}
 use Rattle.layer.proofs.Tools.{or-false, at-same, at-other, by-set}
+use Rattle.layer.proofs.ChunkLaws.{mul-pos, whole, managed-whole}
 use Rattle.layer.proofs.Facts.{SoundTable, overlaps-none}
 use Rattle.layer.proofs.Rules.{grows-facts, count-facts}
 use Rattle.layer.proofs.Cases.{register, reserve-cases, register-cases, manage-cases, adopt-cases}
@@ -135,14 +118,6 @@ pub adopted-range : (S base n : ℕ) → (adoptedArena base n .base ≡ base) ×
 unfolding adoptedArena newArena bytesOf
 adopted-range S base n = (refl, refl)
 
--- products
-mul-pos : (m n : ℕ) → 1 ≤ m → 0 < n → 0 < m * n
-mul-pos zero n h p = absurd (omega arith)
-mul-pos (suc m) n h p = let z : suc m * n ≡ m * n + n = suc-mul m n in omega arith
-
-sub-mul : (m n k : ℕ) → (m - n) * k ≡ m * k - n * k
-sub-mul m n k = mul-comm (m - n) k ∙ mul-sub k m n ∙ ap₂ _-_ (mul-comm k m) (mul-comm k n)
-
 -- ---- registering
 
 module _ (S : ℕ) (l : List Arena) (stamps : List ℕ) (k : ℕ) (mark : Bool) (t : SoundTable S l k) (ls : length stamps ≡ 32768) where
@@ -162,19 +137,7 @@ module _ (S : ℕ) (l : List Arena) (stamps : List ℕ) (k : ℕ) (mark : Bool) 
   reserve-kept size commit large exclusive page =
       reserve-cases S l stamps k mark (Kept S) size commit large exclusive page (calm-kept S l stamps k mark t ls mark) (record { table = t; stamps = ls; question = tt })
 
-  -- a whole number of chunks, as bytes and back
   module _ (pos : 0 < S) where
-    whole : (x : ℕ) → x % S ≡ 0 → x / S * S ≡ x
-    whole x e = let z : x / S * S + x % S ≡ x = div-add-mod' x S in omega arith
-
-    -- the whole chunks of a managed range
-    pub managed-whole : (start size : ℕ) → (pastWhole S start size - firstWhole S start) / S * S ≡ pastWhole S start size - firstWhole S start
-    managed-whole start size =
-        ap (λ (x : ℕ). x / S * S) difference ∙ ap (λ (x : ℕ). x * S) (mul-div-cancel ((start + size) / S - chunksFor S start) pos) ∙ sym difference
-      where
-        difference : pastWhole S start size - firstWhole S start ≡ ((start + size) / S - chunksFor S start) * S
-        difference = sym (sub-mul ((start + size) / S) (chunksFor S start) S)
-
     -- a range of whole chunks that row 6 lets pass, and that can be registered, is an arena's
     pub arena-range : (base bytes : ℕ) → base % S ≡ 0 → bytes / S * S ≡ bytes → GoodRange S l k base bytes → badCount (bytes / S) ≡ false → SoundRange S base (bytes / S)
     arena-range base bytes e w g r =
@@ -192,9 +155,9 @@ module _ (S : ℕ) (l : List Arena) (stamps : List ℕ) (k : ℕ) (mark : Bool) 
             register-kept ((pastWhole S start size - firstWhole S start) / S) (managedArena (firstWhole S start) ((pastWhole S start size - firstWhole S start) / S) exclusive node)
             (managed-rows (firstWhole S start) ((pastWhole S start size - firstWhole S start) / S) exclusive node)
             (λ r. managed-sound S (firstWhole S start) ((pastWhole S start size - firstWhole S start) / S) exclusive node
-            (arena-range (firstWhole S start) (pastWhole S start size - firstWhole S start) (mul-mod-left (chunksFor S start) S) (managed-whole start size) g r))
+            (arena-range (firstWhole S start) (pastWhole S start size - firstWhole S start) (mul-mod-left (chunksFor S start) S) (managed-whole S pos start size) g r))
             (λ i u. let z = managed-range S (firstWhole S start) ((pastWhole S start size - firstWhole S start) / S) exclusive node in
-            ap₂ (meets S (at l i)) (z .0) (z .1 ∙ managed-whole start size) ∙ g .alone i u)
+            ap₂ (meets S (at l i)) (z .0) (z .1 ∙ managed-whole S pos start size) ∙ g .alone i u)
 
     -- ---- growth
 
@@ -287,13 +250,13 @@ module _ (S : ℕ) (l : List Arena) (stamps : List ℕ) (k : ℕ) (mark : Bool) 
     pub adopt-kept : (address size : ℕ) → Kept S (adoptOf S l stamps k mark address size)
     adopt-kept address size =
         adopt-cases S l stamps k mark (Kept S) address size (calm-kept S l stamps k mark t ls mark) (calm-kept S l stamps k mark t ls mark) (calm-kept S l stamps k mark t ls mark)
-        (λ i w u g. let e = whole size (w .2) in
+        (λ i w u g. let e = whole S pos size (w .2) in
         record {
           table = grown-table i address (size / S) u g (some-chunks (size / S) e (w .0)) (subst (λ (x : ℕ). GoodRange S l k address x) (sym e) (good-range S l k address size (w .3)));
           stamps = ls;
           question = tt;
         })
-        (λ w. let e = whole size (w .2) in
+        (λ w. let e = whole S pos size (w .2) in
         let good : GoodRange S l k address size = good-range S l k address size (w .3) in
         register-kept (size / S) (adoptedArena address (size / S)) (adopted-rows address (size / S))
         (λ r. adopted-sound S address (size / S) (arena-range address size (w .1) e good r))

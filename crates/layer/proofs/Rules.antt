@@ -1,26 +1,5 @@
 -- What single rules say, each as a short fact: a layer that breaks one of them fails demand 3. Assumes nothing.
-use mathlib.Core.Path.{_≡_, refl, sym, ap, _∙_}
-use mathlib.Core.Bool.{Bool, true, false, not, _&&_, true≢false}
-use mathlib.Core.List.{List}
-use Prim.Native.Nat.{ℕ, zero, suc, _+_, _≤_}
-use native.Mathlib.Omega.{arith}
-use borrow.Author.Tests.{eqb-true, eqb-false, leb-true, ltb-false}
-use lib.Dec.{eqb, leb}
-use lib.IntN.{ℤ, pos, negsuc}
-use Rattle.refusals.specs.declared.Refusal.the-variants.{NoRun}
-use Rattle.runs.proofs.SearchLaws.{and-both}
-use Rattle.arena.specs.declared.Arena.{Arena}
-use Rattle.arena.specs.Flags.{isOn}
-use Rattle.arena.specs.Claiming.{findRun}
-use Rattle.lookup.specs.Place.{endOf}
-use Rattle.lookup.proofs.SoundLaws.{never}
-use Rattle.layer.specs.declared.Waiting.the-variants.{Claim}
-use Rattle.layer.specs.World.{turnDown, calm}
-use Rattle.layer.specs.Table.{at, isAt}
-use Rattle.layer.specs.Registering.{grows, badCount, withRecord, withStamps}
-use Rattle.layer.specs.Claiming.{eligible, serves, searchOf}
-use Rattle.layer.specs.Answering.{answerCommit, resume}
-use Rattle.layer.specs.Ten.{Eligible}
+use Rattle.layer.proofs.Prelude.{_≡_, refl, sym, ap, _∙_, Bool, true, false, not, _&&_, true≢false, List, ℕ, zero, suc, _+_, _≤_, arith, eqb-true, eqb-false, leb-true, ltb-false, eqb, leb, ℤ, pos, negsuc, NoRun, and-both, Arena, isOn, findRun, endOf, never, Claim, turnDown, calm, at, isAt, grows, badCount, withRecord, withStamps, eligible, serves, searchOf, answerCommit, resume, Eligible}
 use Rattle.layer.proofs.Tools.{or-false, at-other}
 
 -- ---- claims

@@ -1,24 +1,6 @@
 -- The share book that a record and what is open about it show; what a call is to one arena; the invariant of a history, and what one call does to it. The book
 -- shown knows no id and no table. Assumes nothing.
-use mathlib.Core.Path.{_≡_}
-use mathlib.Core.Bool.{Bool, true, false, cond, not, _&&_, _||_}
-use mathlib.Core.List.{List, [], _∷_, _++_}
-use Prim.Native.Nat.{ℕ, _+_, _*_, _<_}
-use lib.Dec.{eqb}
-use Rattle.words.specs.Bits.{bitAt, within}
-use Rattle.arena.specs.declared.Arena.{Arena}
-use Rattle.arena.specs.Flags.{isOn}
-use Rattle.arena.specs.Claiming.{runFresh}
-use Rattle.layer.specs.declared.Question.{Question}
-use Rattle.layer.specs.declared.Question.the-variants.{Idle, Committing, Purging, Reserving, GivingBack}
-use Rattle.layer.specs.declared.Kind.{Kind}
-use Rattle.layer.specs.declared.Answer.{Answer}
-use Rattle.layer.specs.World.{Outcome}
-use Rattle.layer.specs.Table.{at}
-use Rattle.layer.specs.Answering.{isFor}
-use Rattle.layer.specs.Step.{Call, act, query, answer}
-use Rattle.layer.specs.Book.{Book, lowest, Fed, claims, Say, granted, enterAll, sayAll}
-use Rattle.layer.specs.History.{isIdle, entriesOf, said, Place, feeds}
+use Rattle.layer.proofs.Prelude.{_≡_, Bool, true, false, cond, not, _&&_, _||_, List, [], _∷_, _++_, ℕ, _+_, _*_, _<_, eqb, bitAt, within, Arena, isOn, runFresh, Question, Idle, Committing, Purging, Reserving, GivingBack, Kind, Answer, Outcome, at, isFor, Call, act, query, answer, Book, lowest, Fed, claims, Say, granted, enterAll, sayAll, isIdle, entriesOf, said, Place, feeds}
 
 -- ---- what is open about an arena
 
@@ -77,9 +59,9 @@ abbrev pub heard : List Fed → List Say → List Say
 heard [] ss = []
 heard (f ∷ fs) ss = ss
 
-abbrev pub toldOf : Role → Answer → List Say
-toldOf (feeding fs) r = heard fs (said r)
-toldOf closing r = said r
+abbrev pub toldAs : Role → Answer → List Say
+toldAs (feeding fs) r = heard fs (said r)
+toldAs closing r = said r
 
 -- whoever calls while no question is open asks the one that the call puts
 abbrev pub askerAfter : Question → ℕ → ℕ → ℕ
@@ -150,4 +132,4 @@ module _ (S p id b n : ℕ) where
   pub record Fits (l : List Arena) (q : Question) (who z : ℕ) (r : Role) (o : Outcome) : Type 0 where
     pub inv : Inv (o .world .records) (o .world .state .count) (o .world .state .question) (askerAfter q who z)
     pub book : bookAt (o .world .records) (o .world .state .question) ≡ enterAll (bookAt l q) (fedOf r)
-    pub says : owedAt l q ++ sayAll (bookAt l q) (fedOf r) ≡ toldOf r (o .answer) ++ owedAt (o .world .records) (o .world .state .question)
+    pub says : owedAt l q ++ sayAll (bookAt l q) (fedOf r) ≡ toldAs r (o .answer) ++ owedAt (o .world .records) (o .world .state .question)

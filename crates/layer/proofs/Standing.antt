@@ -1,41 +1,13 @@
 -- As many arenas stand after a call, or one more, the one that the call asked for. Assumes nothing.
-use mathlib.Core.Path.{_≡_, refl, sym, ap, _∙_, subst}
-use mathlib.Core.Bool.{Bool, true, false}
-use mathlib.Core.List.{List}
-use mathlib.Core.Logic.{_⊎_, inl, inr}
-use Prim.Native.Nat.{ℕ, suc, _+_, _-_, _*_, _/_, _%_, _<_, _≤_}
-use native.Mathlib.Omega.{arith}
-use native.Mathlib.Decide.{ℕ-discrete}
-use lib.Dec.{eqb}
-use lib.IntN.{ℤ}
-use lib.ListN.{length, set, length-set}
-use borrow.Author.Tests.{eqb-true}
-use Rattle.refusals.specs.declared.Refusal.{Refusal}
-use Rattle.refusals.specs.declared.Refusal.the-variants.{MemoryRefused}
-use Rattle.runs.proofs.SearchLaws.{and-both}
-use Rattle.arena.specs.declared.Arena.{Arena}
-use Rattle.arena.specs.Flags.{isOn}
-use Rattle.arena.specs.Registering.{newArena, reservedArena, managedArena, adoptedArena}
-use Rattle.arena.specs.Claiming.{takeRun, dirtyRun}
-use Rattle.arena.proofs.FlagLaws.{flag-read}
-use Rattle.layer.specs.declared.Settings.{Settings}
-use Rattle.layer.specs.declared.Question.{Question}
-use Rattle.layer.specs.declared.Question.the-variants.{Idle, Committing, Purging, Reserving, GivingBack}
-use Rattle.layer.specs.declared.Waiting.{Waiting}
-use Rattle.layer.specs.declared.Waiting.the-variants.{Reserve, Claim}
-use Rattle.layer.specs.declared.Kind.{Kind}
-use Rattle.layer.specs.World.{Outcome, after}
-use Rattle.layer.specs.Table.{at, soundLent}
-use Rattle.layer.specs.Registering.{chunksFor, askMemory, withRecord, withStamps, firstWhole, pastWhole}
-use Rattle.layer.specs.Answering.{isFor, causeRefusal, counted, failReply, resume, answerTo, answerOf}
-use Rattle.layer.specs.Step.{Act, reserve, manage, adopt, claim, release, sweep, Call, act, query, answer, sweepOf, actOn, stepOn, step}
+use Rattle.layer.proofs.Prelude.{_≡_, refl, sym, ap, _∙_, subst, Bool, true, false, List, _⊎_, inl, inr, ℕ, suc, _+_, _-_, _*_, _/_, _%_, _<_, _≤_, arith, ℕ-discrete, eqb, ℤ, length, set, length-set, eqb-true, Refusal, MemoryRefused, and-both, Arena, isOn, newArena, reservedArena, managedArena, adoptedArena, takeRun, dirtyRun, flag-read, Settings, Question, Idle, Committing, Purging, Reserving, GivingBack, Waiting, Reserve, Claim, Kind, Outcome, after, at, soundLent, askMemory, withRecord, withStamps, firstWhole, pastWhole, isFor, causeRefusal, counted, failReply, resume, answerTo, answerOf, Act, reserve, manage, adopt, claim, release, sweep, Call, act, query, answer, sweepOf, actOn, stepOn, step}
+use Rattle.layer.specs.World.{sizeOf}
 use Rattle.layer.specs.Standing.{Brought, AskedFor, NoneUnasked}
 use Rattle.layer.proofs.Tools.{at-same, at-other, by-not}
+use Rattle.layer.proofs.ChunkLaws.{size-fits, whole, managed-inside}
 use Rattle.layer.proofs.Rules.{Again, again, count-facts}
 use Rattle.layer.proofs.Cases.{register, grant-cases, search-cases, miss-cases, claim-cases, release-in-cases, release-cases, reserve-cases, register-cases, manage-cases, adopt-cases, memory-cases}
 use Rattle.layer.proofs.Sweeps.{visit-cases, sweep-cases}
 use Rattle.layer.proofs.Plain.{passes}
-use Rattle.layer.proofs.Trails.{S}
 
 -- a change that leaves the range and the flag
 abbrev Kept : Arena → Arena → Type 0
@@ -49,7 +21,7 @@ granted-kept : (a : Arena) (s n : ℕ) → Kept a (dirtyRun (takeRun a s n) s n)
 unfolding takeRun dirtyRun
 granted-kept a s n = (refl, refl, refl)
 
-module _ (l : List Arena) (stamps : List ℕ) (k : ℕ) (mark : Bool) (long : length l ≡ 32) where
+module _ (S : ℕ) (some-size : 0 < S) (l : List Arena) (stamps : List ℕ) (k : ℕ) (mark : Bool) (long : length l ≡ 32) where
   -- as many, or the one more that A says
   abbrev Stands : (Arena → Type 0) → Outcome → Type 0
   Stands A o = (o .world .state .count ≡ k) ⊎ ((o .world .state .count ≡ suc k) × A (at (o .world .records) k))
@@ -60,23 +32,21 @@ module _ (l : List Arena) (stamps : List ℕ) (k : ℕ) (mark : Bool) (long : le
       (λ e f. inr (refl, subst A (sym (at-same l k a (omega (arith, long)))) (h (count-facts chunks e .0))))
 
   -- the whole chunks of a managed range lie in it
-  managed-asked : (from size : ℕ) (exclusive : Bool) (node : ℤ) (chunks : ℕ) → (pastWhole S from size - firstWhole S from) / S ≡ chunks → 1 ≤ chunks
+  managed-asked : (from size : ℕ) (exclusive : Bool) (node : ℤ) → let chunks = (pastWhole S from size - firstWhole S from) / S in 1 ≤ chunks
       → let a = managedArena (firstWhole S from) chunks exclusive node in (from ≤ a .base) × (a .base + a .chunks * S ≤ from + size) × (isOn (a .exclusive) ≡ exclusive)
-  unfolding managedArena newArena chunksFor
-  managed-asked from size exclusive node chunks e some =
-      let d : ((from + size) / 33554432 * 33554432 - (from + (33554432 - 1)) / 33554432 * 33554432) / 33554432 ≡ chunks = e in
-      (omega arith, omega arith, flag-read exclusive)
+  unfolding managedArena newArena
+  managed-asked from size exclusive node some = let inside = managed-inside S some-size from size some in (inside .0, inside .1, flag-read exclusive)
 
   adopted-asked : (address size : ℕ) → size % S ≡ 0 → let a = adoptedArena address (size / S) in (a .base ≡ address) × (a .chunks * S ≡ size) × (isOn (a .exclusive) ≡ false)
   unfolding adoptedArena newArena
-  adopted-asked address size e = (refl, let d : size % 33554432 ≡ 0 = e in omega arith, refl)
+  adopted-asked address size e = (refl, whole S some-size size e, refl)
 
   act-stands : (q : Question) (ns : ℕ) (settings : Settings) (a : Act) → Stands (AskedFor S q (act a)) (actOn S l stamps k mark q ns settings a)
   unfolding askMemory
   act-stands q ns settings (reserve size commit large exclusive) = reserve-cases S l stamps k mark (Stands (λ a. ⊥)) size commit large exclusive (settings .page) (inl refl) (inl refl)
   act-stands q ns settings (manage start size exclusive node mapped reserved) =
       manage-cases S l stamps k mark (Stands (AskedFor S q (act (manage start size exclusive node mapped reserved)))) start size exclusive node mapped reserved (inl refl) (inl refl) (inl refl)
-      (λ e. register-stands (AskedFor S q (act (manage start size exclusive node mapped reserved))) _ _ (managed-asked start size exclusive node _ refl))
+      (λ e. register-stands (AskedFor S q (act (manage start size exclusive node mapped reserved))) _ _ (managed-asked start size exclusive node))
   act-stands q ns settings (adopt address size) =
       adopt-cases S l stamps k mark (Stands (AskedFor S q (act (adopt address size)))) address size (inl refl) (inl refl) (inl refl) (λ i w u e. inl refl)
       (λ w. register-stands (AskedFor S q (act (adopt address size))) _ _ (λ s. adopted-asked address size (w .2)))
@@ -162,8 +132,14 @@ module _ (l : List Arena) (stamps : List ℕ) (k : ℕ) (mark : Bool) (long : le
 pub none-unasked : NoneUnasked step
 unfolding soundLent
 none-unasked w ns settings c e =
-    subst (λ (o : Outcome). Stands (w .records) (w .stamps) (w .state .count) (w .state .mark) long (AskedFor S (w .state .question) c) o) (sym (passes w ns settings c (w .state .question) e refl))
-    (call-stands (w .records) (w .stamps) (w .state .count) (w .state .mark) long (w .state .question) ns settings c)
+    subst (λ (o : Outcome). Stands S some-size (w .records) (w .stamps) (w .state .count) (w .state .mark) long (AskedFor S (w .state .question) c) o) (sym (passes w ns settings c (w .state .question) e refl))
+    (call-stands S some-size (w .records) (w .stamps) (w .state .count) (w .state .mark) long (w .state .question) ns settings c)
   where
+    S : ℕ
+    S = sizeOf (w .state)
+
+    some-size : 0 < S
+    some-size = size-fits (w .state) .0
+
     long : length (w .records) ≡ 32
     long = eqb-true (length (w .records)) 32 (and-both (eqb (length (w .records)) 32) _ e .0)

@@ -1,42 +1,9 @@
 -- Sound in, sound out, for every call: answers, and then the one step. Assumes nothing.
-use mathlib.Core.Path.{_≡_, ap₂, _∙_}
-use mathlib.Core.Bool.{Bool, true, false, _&&_}
-use mathlib.Core.List.{List}
-use Prim.Native.Nat.{ℕ, suc, _+_, _-_, _*_, _<_, _≤_}
-use native.Mathlib.Omega.{arith}
-use borrow.Author.Tests.{leb-true, le-leb, eqb-true, eq-eqb}
-use lib.Dec.{leb, eqb}
-use lib.IntN.{ℤ}
-use lib.ListN.{length}
-use Rattle.runs.specs.Lowest.{all}
-use Rattle.runs.proofs.LowestLaws.{all-free-of, free-all}
-use Rattle.runs.proofs.SearchLaws.{and-both}
-use Rattle.options.specs.Options.{pageSizeSound}
-use Rattle.arena.specs.declared.Arena.{Arena}
-use Rattle.arena.specs.Registering.{reservedArena}
-use Rattle.arena.specs.Claiming.{giveBackRun, finishGrant}
-use Rattle.arena.specs.Sweeping.{returnChunk}
-use Rattle.lookup.specs.Soundness.{soundArena}
-use Rattle.lookup.proofs.SoundLaws.{SoundRange, arena-facts, arena-test}
-use Rattle.lookup.specs.Rows.{Rows}
-use Rattle.lookup.proofs.Changes.{finish-rows, give-back-rows, return-rows}
-use Rattle.lookup.proofs.StaysSound.{finish-sound, give-back-sound, return-sound}
-use Rattle.layer.specs.declared.Settings.{Settings}
-use Rattle.layer.specs.declared.Sweep.{Sweep}
-use Rattle.layer.specs.declared.Question.{Question}
-use Rattle.layer.specs.declared.Question.the-variants.{Idle, Committing, Purging, Reserving, GivingBack}
-use Rattle.layer.specs.declared.Waiting.{Waiting}
-use Rattle.layer.specs.declared.Waiting.the-variants.{Reserve, Claim}
-use Rattle.layer.specs.declared.Kind.{Kind}
-use Rattle.refusals.specs.declared.Refusal.{Refusal}
-use Rattle.refusals.specs.declared.Refusal.the-variants.{NoRun}
-use Rattle.layer.specs.World.{World, worldOf, calm, turnDown}
-use Rattle.layer.specs.Table.{at, meets, apart, soundTable, soundLent, sound}
-use Rattle.layer.specs.Registering.{askMemory, withRecord, withStamps}
-use Rattle.layer.specs.Claiming.{missReply, claimOf}
-use Rattle.layer.specs.Answering.{isFor, counted, failReply, answerCommit, answerPurge, resume, answerMemory, answerTo, answerOf, isIdle}
-use Rattle.layer.specs.Sweeping.{sweepFrom}
-use Rattle.layer.specs.Step.{Act, reserve, manage, adopt, claim, release, sweep, Call, act, query, answer, sweepOf, actOn, stepOn, rules}
+use Rattle.layer.proofs.Prelude.{_≡_, ap₂, _∙_, Bool, true, false, _&&_, List, ℕ, suc, _+_, _-_, _*_, _<_, _≤_, arith, leb-true, le-leb, eqb-true, eq-eqb, leb, eqb, ℤ, length, all, all-free-of, free-all, and-both, pageSizeSound, Arena, reservedArena, giveBackRun, finishGrant, returnChunk, soundArena, SoundRange, arena-facts, Rows, return-rows, Settings, Sweep, Question, Idle, Committing, Purging, Reserving, GivingBack, Waiting, Reserve, Claim, Kind, Refusal, NoRun, World, worldOf, calm, turnDown, at, meets, apart, soundTable, soundLent, sound, askMemory, withRecord, withStamps, missReply, claimOf, isFor, counted, failReply, answerCommit, answerPurge, resume, answerMemory, answerTo, answerOf, sweepFrom, Act, reserve, manage, adopt, claim, release, sweep, Call, act, query, answer, sweepOf, actOn, stepOn, rules}
+use Rattle.arena.proofs.SoundLaws.{arena-test}
+use Rattle.arena.proofs.Changes.{finish-rows, give-back-rows}
+use Rattle.arena.proofs.StaysSound.{finish-sound, give-back-sound, return-sound}
+use Rattle.layer.specs.Answering.{isIdle}
 use Rattle.layer.proofs.Tools.{by-not}
 use Rattle.layer.proofs.Facts.{SoundTable, SoundQuestion, apart-facts, apart-test, question-facts, question-test, put-sound}
 use Rattle.layer.proofs.Rules.{count-facts}

@@ -1,27 +1,10 @@
 -- The case principle of a sweep: to prove P of what comes out, prove it of each question that it may put, and of its end. Assumes nothing.
-use Prim.Native.Nat.{ℕ, zero, suc, _+_, _-_, _*_, _≤_}
-use mathlib.Core.Bool.{Bool}
-use mathlib.Core.List.{List}
-use native.Mathlib.Omega.{arith}
-use Rattle.words.proofs.Tests.{by-cond}
-use Rattle.runs.specs.declared.Found.{Found}
-use Rattle.runs.specs.declared.Found.the-variants.{At, Nothing}
-use Rattle.runs.specs.Lowest.{least}
-use Rattle.runs.proofs.LowestLaws.{First, first-says}
-use Rattle.arena.specs.declared.Arena.{Arena}
-use Rattle.arena.specs.Sweeping.{sweepDue, disarm, toAsk, nextAsked}
-use Rattle.purge.specs.Stamps.{stampsOf}
-use Rattle.layer.specs.declared.Sweep.{Sweep}
-use Rattle.layer.specs.declared.Question.the-variants.{Purging}
+use Rattle.layer.proofs.Prelude.{ℕ, zero, suc, _+_, _-_, _*_, _≤_, Bool, List, arith, by-cond, Found, At, Nothing, least, First, first-says, Arena, sweepDue, disarm, toAsk, nextAsked, stampsOf, Sweep, Purging, Asks, Swept, Outcome, stateWith, reply, after, calm, at, purgeReply, sweptReply, visitAt, visit, sweepFrom}
 use Rattle.layer.specs.declared.Ask.the-variants.{AskPurge}
-use Rattle.layer.specs.declared.Answer.the-variants.{Asks, Swept}
-use Rattle.layer.specs.World.{Outcome, stateOf, reply, after, calm}
-use Rattle.layer.specs.Table.{at}
-use Rattle.layer.specs.Sweeping.{purgeReply, sweptReply, visitAt, visit, sweepFrom}
 
 -- it asks about a place from lo on, or ends
 module _ (S : ℕ) (stamps : List ℕ) (k : ℕ) (mark : Bool) (w : Sweep) (P : Outcome → Type 0) (lo : ℕ)
-    (asks : (l : List Arena) (i : ℕ) (a : Arena) (j : ℕ) → lo ≤ 1024 * i + j → P (after (reply (Asks (AskPurge (a .base + j * S) S (w .decommit))) (stateOf k mark (Purging i j w))) l stamps))
+    (asks : (l : List Arena) (i : ℕ) (a : Arena) (j : ℕ) → lo ≤ 1024 * i + j → P (after (reply (Asks (AskPurge (a .base + j * S) S (w .decommit))) (stateWith k mark (Purging i j w))) l stamps))
     (ends : (l : List Arena) → P (after (reply (Swept (w .purged)) (calm k mark)) l stamps)) where
   pub visit-cases : (l : List Arena) (i : ℕ) (a : Arena) (from : ℕ) (rest : List Arena → Outcome) → lo ≤ 1024 * i + from → ((m : List Arena) → P (rest m)) → P (visit S stamps k mark w l i a from rest)
   unfolding visit nextAsked purgeReply

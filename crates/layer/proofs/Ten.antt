@@ -1,40 +1,10 @@
 -- Refusal 10 comes exactly where no eligible arena has the run: of a claim, and of one that goes on once its memory came. Assumes nothing.
-use mathlib.Core.Path.{_≡_, refl, sym, ap, ap₂, _∙_, subst}
-use mathlib.Core.Bool.{Bool, true, not, _&&_, true≢false}
-use mathlib.Core.List.{List}
-use mathlib.Core.Logic.{_↔_}
-use Prim.Native.Nat.{ℕ, suc, _%_, _*_}
-use native.Mathlib.Omega.{arith}
-use borrow.Author.Tests.{eq-eqb, ne-eqb, not-true, lt-leb}
-use lib.Dec.{eqb, leb}
-use lib.IntN.{ℤ, pos, negsuc}
-use Rattle.words.specs.Bits.{bitAt}
-use Rattle.words.proofs.Tests.{unless}
-use Rattle.runs.specs.declared.Found.{Found}
-use Rattle.runs.specs.declared.Found.the-variants.{At, Nothing}
-use Rattle.runs.specs.Lowest.{Starts, Lowest}
-use Rattle.runs.proofs.LowestLaws.{lowest-says}
-use Rattle.options.specs.Options.{arenaAllowed}
-use Rattle.arena.specs.declared.Arena.{Arena}
-use Rattle.arena.specs.Registering.{reservedArena}
-use Rattle.arena.specs.Claiming.{free, findRun}
-use Rattle.refusals.specs.declared.Refusal.the-variants.{NoRun}
-use Rattle.layer.specs.declared.Settings.{Settings}
-use Rattle.layer.specs.declared.Question.the-variants.{Idle, Reserving}
-use Rattle.layer.specs.declared.Waiting.the-variants.{Claim}
-use Rattle.layer.specs.declared.Kind.the-variants.{ForMemory}
-use Rattle.layer.specs.declared.Reply.{Reply}
-use Rattle.layer.specs.World.{Outcome, turnDown, calm}
-use Rattle.layer.specs.Table.{at, isAt, badRange}
-use Rattle.layer.specs.Registering.{askMemory, badCount, withRecord, withStamps}
-use Rattle.layer.specs.Claiming.{eligible, serves, missReply, searchOf, claimOf}
-use Rattle.layer.specs.Answering.{isFor, answerMemory, answerOf}
-use Rattle.layer.specs.Step.{claim, act, answer, step}
-use Rattle.layer.specs.Ten.{Eligible, ClearFrom, NoneHas, IsMiss, TenExactly, TenAfterMemory}
+use Rattle.layer.proofs.Prelude.{_≡_, refl, sym, ap, ap₂, _∙_, subst, Bool, true, not, _&&_, true≢false, List, _↔_, ℕ, suc, _%_, _*_, arith, eq-eqb, ne-eqb, not-true, lt-leb, eqb, leb, ℤ, pos, negsuc, bitAt, unless, Found, At, Nothing, Starts, Lowest, lowest-says, arenaAllowed, Arena, reservedArena, free, findRun, NoRun, Settings, Idle, Reserving, Claim, ForMemory, Reply, Outcome, turnDown, calm, at, isAt, badRange, askMemory, badCount, withRecord, withStamps, eligible, serves, missReply, searchOf, claimOf, isFor, answerMemory, answerOf, claim, act, answer, step, Eligible, TenExactly}
+use Rattle.layer.specs.World.{sizeOf}
+use Rattle.layer.specs.Ten.{ClearFrom, NoneHas, IsMiss, TenAfterMemory}
 use Rattle.layer.proofs.Rules.{served-eligible, served-found}
 use Rattle.layer.proofs.Cases.{grant-cases, search-cases, miss-cases}
 use Rattle.layer.proofs.Plain.{some-chunk, not-12, not-6, passes}
-use Rattle.layer.proofs.Trails.{S}
 
 -- ---- an arena serves a claim exactly if it is eligible and has the run
 
@@ -68,7 +38,7 @@ module _ (id : ℤ) (n : ℕ) (l : List Arena) (i : ℕ) where
 
 -- ---- a search misses exactly if none has the run
 
-module _ (l : List Arena) (stamps : List ℕ) (k : ℕ) (mark : Bool) (id : ℤ) (n : ℕ) (commits : Bool) (missed : Reply) (is-miss : IsMiss (missed .answer)) where
+module _ (S : ℕ) (l : List Arena) (stamps : List ℕ) (k : ℕ) (mark : Bool) (id : ℤ) (n : ℕ) (commits : Bool) (missed : Reply) (is-miss : IsMiss (missed .answer)) where
   abbrev Exactly : Outcome → Type 0
   Exactly o = IsMiss (o .answer) ↔ NoneHas id n l k
 
@@ -83,17 +53,20 @@ module _ (l : List Arena) (stamps : List ℕ) (k : ℕ) (mark : Bool) (id : ℤ)
 
 -- ---- the claim, and the answer that goes on with one
 
-missed-is : (l : List Arena) (stamps : List ℕ) (k : ℕ) (mark : Bool) (id : ℤ) (n : ℕ) (commits : Bool) (settings : Settings) → IsMiss (missReply S k mark id n commits settings .answer)
+missed-is : (S : ℕ) (l : List Arena) (stamps : List ℕ) (k : ℕ) (mark : Bool) (id : ℤ) (n : ℕ) (commits : Bool) (settings : Settings) → IsMiss (missReply S k mark id n commits settings .answer)
 unfolding askMemory
-missed-is l stamps k mark id n commits settings = miss-cases S l stamps k mark (λ (o : Outcome). IsMiss (o .answer)) id n commits settings refl refl tt
+missed-is S l stamps k mark id n commits settings = miss-cases S l stamps k mark (λ (o : Outcome). IsMiss (o .answer)) id n commits settings refl refl tt
 
 pub ten-exactly : TenExactly step
 ten-exactly w ns settings id n commits e idle some allowed =
     subst (λ (o : Outcome). IsMiss (o .answer) ↔ NoneHas id n (w .records) (w .state .count))
     (sym (passes w ns settings (act (claim id n commits)) Idle e idle ∙ searches))
-    (search-exactly (w .records) (w .stamps) (w .state .count) (w .state .mark) id n commits (missReply S (w .state .count) (w .state .mark) id n commits settings)
-    (missed-is (w .records) (w .stamps) (w .state .count) (w .state .mark) id n commits settings))
+    (search-exactly S (w .records) (w .stamps) (w .state .count) (w .state .mark) id n commits (missReply S (w .state .count) (w .state .mark) id n commits settings)
+    (missed-is S (w .records) (w .stamps) (w .state .count) (w .state .mark) id n commits settings))
   where
+    S : ℕ
+    S = sizeOf (w .state)
+
     searches : claimOf S (w .records) (w .stamps) (w .state .count) (w .state .mark) id n commits settings
         ≡ searchOf S (w .records) (w .stamps) (w .state .count) (w .state .mark) id n commits (missReply S (w .state .count) (w .state .mark) id n commits settings)
     searches = unfold claimOf in unless (eqb n 0) _ _ (ne-eqb n 0 (λ z. omega (arith, some))) ∙ unless (not (arenaAllowed (settings .off) id)) _ _ (ap not allowed)
@@ -102,8 +75,11 @@ pub ten-after-memory : TenAfterMemory step
 ten-after-memory w ns settings chunks bytes n base commit exclusive commits e open-is r =
     subst (λ (o : Outcome). IsMiss (o .answer) ↔ NoneHas (negsuc 0) n l (suc k))
     (sym (passes w ns settings (answer ForMemory true base) (Reserving chunks bytes commit exclusive (Claim n commits)) e open-is ∙ goes-on))
-    (search-exactly l (withStamps (w .stamps) k) (suc k) (w .state .mark) (negsuc 0) n commits (turnDown NoRun (calm (suc k) (w .state .mark))) refl)
+    (search-exactly S l (withStamps (w .stamps) k) (suc k) (w .state .mark) (negsuc 0) n commits (turnDown NoRun (calm (suc k) (w .state .mark))) refl)
   where
+    S : ℕ
+    S = sizeOf (w .state)
+
     k : ℕ
     k = w .state .count
 

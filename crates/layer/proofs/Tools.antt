@@ -1,14 +1,6 @@
 -- Tests, and a table after a store. Assumes nothing.
-use mathlib.Core.Path.{_≡_, refl, sym, subst}
-use mathlib.Core.Bool.{Bool, true, false, cond, not, _||_, true≢false}
-use mathlib.Core.List.{List}
-use Prim.Native.Nat.{ℕ, _<_}
-use native.Mathlib.Decide.{ℕ-discrete}
-use lib.ListN.{length, set}
+use Rattle.layer.proofs.Prelude.{_≡_, refl, sym, subst, Bool, true, false, cond, not, _||_, true≢false, List, ℕ, _<_, ℕ-discrete, length, set, Arena, blank, at}
 use lib.Seq.{getD-set-same, getD-set-other}
-use Rattle.arena.specs.declared.Arena.{Arena}
-use Rattle.layer.specs.World.{blank}
-use Rattle.layer.specs.Table.{at}
 
 pub or-false : (a b : Bool) → a || b ≡ false → (a ≡ false) × (b ≡ false)
 or-false true b e = absurd (true≢false e)

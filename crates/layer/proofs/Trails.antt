@@ -1,26 +1,13 @@
 -- The rules' own run of a history: its table stays sound and its open question is of the call that put it; and the rules, lent as they left it, go that way. Assumes nothing.
-use mathlib.Core.Path.{_≡_, refl, sym, ap, _∙_, subst}
-use mathlib.Core.Bool.{Bool, true, false, cond, not}
-use Prim.Native.Nat.{ℕ}
-use native.Mathlib.Omega.{arith}
-use lib.Dec.{eqb}
-use lib.ListN.{length, length-replicate}
-use Rattle.words.proofs.Tests.{when, unless}
-use Rattle.runs.proofs.SearchLaws.{and-both}
-use Rattle.options.specs.Options.{pageSizeSound}
-use Rattle.layer.specs.World.{World, Outcome, empty}
-use Rattle.layer.specs.Table.{soundLent}
-use Rattle.layer.specs.Step.{stepOn, step}
-use Rattle.layer.specs.History.{Marked, History, begin, next, isSound, outcomeBy, isBroken, left, Lent, Trail, openAt, isIdle, follow, start, ruled}
+use Rattle.layer.proofs.Prelude.{_≡_, refl, sym, ap, _∙_, subst, Bool, true, false, cond, not, ℕ, arith, eqb, length, length-replicate, when, unless, and-both, pageSizeSound, World, Outcome, empty, soundLent, stepOn, step, Marked, History, begin, next, isSound, outcomeBy, isBroken, left, Lent, Trail, openAt, isIdle, follow, start, ruled}
+use Rattle.layer.specs.World.{sizeOf}
+use Rattle.layer.specs.History.{bytesIn}
+use Rattle.layer.proofs.ChunkLaws.{size-fits}
 use Rattle.layer.proofs.Kept.{SoundWorld}
 use Rattle.layer.proofs.Stepped.{step-on-kept, sound-test}
 use Rattle.layer.proofs.Outcomes.{refused-1}
 use Rattle.layer.proofs.Asked.{Asked, step-asked}
 use Rattle.layer.proofs.Calls.{past-1}
-
--- the bytes of a chunk
-abbrev pub S : ℕ
-S = 33554432
 
 -- facts that hold of the rules' own tables alone, and not of every sound one; none so far
 abbrev pub Own : World → Type 0
@@ -28,21 +15,21 @@ Own w = Unit {0}
 
 -- what holds of the rules' own run
 pub record Good (t : Trail) : Type 0 where
-  pub world : SoundWorld S (t .world)
-  pub asked : Asked S (t .world .records) (openAt t) (t .asked)
+  pub world : SoundWorld (bytesIn t) (t .world)
+  pub asked : Asked (bytesIn t) (t .world .records) (openAt t) (t .asked)
   pub own : Own (t .world)
 
 module _ (t : Trail) (m : Marked) where
   -- the call, where row 1 lets it pass
   abbrev pub onTrail : Outcome
-  onTrail = stepOn S (t .world .records) (t .world .stamps) (t .world .state .count) (t .world .state .mark) (openAt t) (m .ns) (m .settings) (m .call)
+  onTrail = stepOn (bytesIn t) (t .world .records) (t .world .stamps) (t .world .state .count) (t .world .state .mark) (openAt t) (m .ns) (m .settings) (m .call)
 
   page-sound : isSound m ≡ true → pageSizeSound (m .settings .page) ≡ true
   unfolding soundLent
   page-sound e = and-both (pageSizeSound (m .settings .page)) _ (and-both (eqb (length (m .lent .stamps)) 32768) _ (and-both (eqb (length (m .lent .records)) 32) _ e .1) .1) .0
 
   pub on-rules : Good t → isSound m ≡ true → step (t .world) (m .ns) (m .settings) (m .call) ≡ onTrail
-  on-rules g e = past-1 S (t .world) (m .ns) (m .settings) (sound-test S (t .world) (m .settings .page) (g .world) (page-sound e)) (m .call)
+  on-rules g e = past-1 (bytesIn t) (t .world) (m .ns) (m .settings) (sound-test (bytesIn t) (t .world) (m .settings .page) (g .world) (page-sound e)) (m .call)
 
   abbrev pub gone : Outcome → Trail
   gone o = record { world = o .world; asker = cond (isIdle (openAt t)) (m .who) (t .asker); asked = cond (isIdle (openAt t)) (m .call) (t .asked) }
@@ -53,19 +40,30 @@ module _ (t : Trail) (m : Marked) where
   pub follow-not : isSound m ≡ false → follow t m ≡ t
   follow-not e = unless (isSound m) _ _ e
 
+  -- the size of a chunk stays
+  pub size-stays : sizeOf (onTrail .world .state) ≡ bytesIn t
+  size-stays = refl
+
   pub good-follow : Good t → Good (follow t m)
   good-follow g = go (isSound m) refl
     where
       kept : Good (gone onTrail)
       kept = record {
-        world = step-on-kept S (omega arith) (t .world .records) (t .world .stamps) (t .world .state .count) (t .world .state .mark) (g .world .table) (g .world .stamps) (openAt t) (m .ns) (m .settings) (m .call) (g .world .question);
-        asked = step-asked S (t .world .records) (t .world .stamps) (t .world .state .count) (t .world .state .mark) (g .world .table .long) (g .world .table .few) (openAt t) (t .asked) (m .ns) (m .settings) (m .call) (g .asked);
+        world = subst (λ (S : ℕ). SoundWorld S (onTrail .world)) (sym size-stays) (step-on-kept (bytesIn t) (size-fits (t .world .state) .0) (t .world .records) (t .world .stamps) (t .world .state .count) (t .world .state .mark) (g .world .table) (g .world .stamps) (openAt t) (m .ns) (m .settings) (m .call) (g .world .question));
+        asked = subst (λ (S : ℕ). Asked S (onTrail .world .records) (onTrail .world .state .question) (gone onTrail .asked)) (sym size-stays) (step-asked (bytesIn t) (t .world .records) (t .world .stamps) (t .world .state .count) (t .world .state .mark) (g .world .table .long) (g .world .table .few) (openAt t) (t .asked) (m .ns) (m .settings) (m .call) (g .asked));
         own = tt;
       }
 
       go : (b : Bool) → isSound m ≡ b → Good (follow t m)
       go true e = subst Good (sym (follow-sound g e)) kept
       go false e = subst Good (sym (follow-not e)) g
+
+  pub size-follows : Good t → bytesIn (follow t m) ≡ bytesIn t
+  size-follows g = go (isSound m) refl
+    where
+      go : (b : Bool) → isSound m ≡ b → bytesIn (follow t m) ≡ bytesIn t
+      go true e = ap bytesIn (follow-sound g e) ∙ size-stays
+      go false e = ap bytesIn (follow-not e)
 
 good-start : Good start
 unfolding empty
@@ -87,7 +85,7 @@ good-ruled (next h m) = good-follow (ruled h) m (good-ruled h)
 
 -- "1" exactly if row 1 does not let it pass
 pub row-1 : (m : Marked) → isBroken (outcomeBy step m .answer) ≡ not (isSound m)
-row-1 m = refused-1 S (m .lent) (m .ns) (m .settings) (m .call)
+row-1 m = refused-1 (sizeOf (m .lent .state)) (m .lent) (m .ns) (m .settings) (m .call)
 
 -- lent as the order says, they leave what their own run leaves
 pub left-ruled : (h : History) → Lent step h → left step h ≡ ruled h .world

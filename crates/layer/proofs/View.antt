@@ -1,31 +1,10 @@
 -- What each change of a record does to the share book that it shows, and what it leaves of the record's range. No id and no table. Assumes nothing.
-use mathlib.Core.Path.{_≡_, refl, sym, ap, _∙_}
-use mathlib.Core.Bool.{Bool, true, false, cond, not, _&&_, _||_}
-use mathlib.Core.List.{List, [], _∷_}
-use Prim.Native.Nat.{ℕ, _+_, _*_, _≤_, _<_}
-use native.Mathlib.Omega.{arith}
-use borrow.Author.Tests.{eq-eqb, ne-eqb}
-use lib.IntN.{ℤ}
-use Rattle.words.specs.Bits.{bitAt, within}
-use Rattle.words.specs.Rows.{clearRun}
-use Rattle.words.proofs.RowLaws.{Stands, stands, before, inside, after, within-yes, within-before, within-after}
-use Rattle.runs.specs.declared.Found.{Found}
-use Rattle.runs.specs.declared.Found.the-variants.{At, Nothing}
-use Rattle.arena.specs.declared.Arena.{Arena}
-use Rattle.arena.specs.declared.Commitment.{Commitment}
-use Rattle.arena.specs.declared.Commitment.the-variants.{Untold, Committed, Uncommitted}
-use Rattle.arena.specs.Registering.{noBits, eachBit, newArena, reservedArena, managedArena, adoptedArena, grownArena}
-use Rattle.arena.specs.Claiming.{runFresh, takeRun, giveBackRun, commitRun, dirtyRun, finishGrant}
-use Rattle.arena.specs.Releasing.{tellRun, pendRun, releaseRun}
-use Rattle.arena.specs.Sweeping.{disarm, borrowChunk, unpendChunk, returnChunk, nextWait, rearmAt, rearm}
-use Rattle.lookup.specs.Rows.{Rows}
-use Rattle.lookup.proofs.RowLaws.{bit-write, no-bits-row, no-bits}
-use Rattle.lookup.proofs.SoundLaws.{Past}
-use Rattle.lookup.proofs.Changes.{take-used, give-back-used, dirty-dirty, finish-dirty, release-used, release-dirty}
-use Rattle.layer.specs.declared.Sweep.{Sweep}
-use Rattle.layer.specs.declared.Question.the-variants.{Committing, Purging}
+use Rattle.layer.proofs.Prelude.{_≡_, refl, sym, ap, _∙_, Bool, true, false, cond, not, _&&_, _||_, List, [], _∷_, ℕ, _+_, _*_, _≤_, _<_, arith, eq-eqb, ne-eqb, ℤ, bitAt, within, clearRun, Stands, stands, before, inside, within-before, within-after, Found, At, Nothing, Arena, Commitment, Untold, Committed, Uncommitted, noBits, eachBit, newArena, reservedArena, managedArena, adoptedArena, grownArena, runFresh, takeRun, giveBackRun, commitRun, dirtyRun, finishGrant, tellRun, pendRun, releaseRun, disarm, borrowChunk, unpendChunk, returnChunk, nextWait, rearmAt, rearm, Rows, no-bits-row, no-bits, Sweep, Committing, Purging, Book, granted, opened, hold, unhold, claimed}
+use Rattle.bitmap.proofs.words.RowLaws.{beyond, within-yes}
+use Rattle.arena.proofs.RowLaws.{bit-write}
+use Rattle.arena.proofs.SoundLaws.{Past}
+use Rattle.arena.proofs.Changes.{take-used, give-back-used, dirty-dirty, finish-dirty, release-used, release-dirty}
 use Rattle.layer.proofs.Kept.{take-range, release-range}
-use Rattle.layer.specs.Book.{Book, granted, opened, hold, unhold, claimed}
 use Rattle.layer.proofs.Shown.{calm, committing, purging, viewOf, owedIn, bookIn, grow, Same}
 
 -- ---- a written bit, in the book's words
@@ -99,7 +78,7 @@ module _ (a : Arena) (s n : ℕ) (r : Rows a) (h : s + n ≤ 1024) where
     where
       go : (j : ℕ) → Stands s n j → within s n j || (not (within s n j) && bitAt (a .used) j) ≡ bitAt (a .used) j
       go j (before p) = ap (λ (t : Bool). t || (not t && bitAt (a .used) j)) (within-before s n j p)
-      go j (after p) = ap (λ (t : Bool). t || (not t && bitAt (a .used) j)) (within-after s n j p)
+      go j (beyond p) = ap (λ (t : Bool). t || (not t && bitAt (a .used) j)) (within-after s n j p)
       go j (inside p q) = ap (λ (t : Bool). t || (not t && bitAt (a .used) j)) (within-yes s n j p q) ∙ sym (e j p q)
 
 -- what a claim is told: the book's fresh is the record's
@@ -135,7 +114,7 @@ book-borrowed a c r h e =
   where
     go : (j : ℕ) → Stands c 1 j → not (within c 1 j) && (within c 1 j || bitAt (a .used) j) ≡ bitAt (a .used) j
     go j (before p) = ap (λ (t : Bool). not t && (t || bitAt (a .used) j)) (within-before c 1 j p)
-    go j (after p) = ap (λ (t : Bool). not t && (t || bitAt (a .used) j)) (within-after c 1 j p)
+    go j (beyond p) = ap (λ (t : Bool). not t && (t || bitAt (a .used) j)) (within-after c 1 j p)
     go j (inside p q) =
         ap (λ (t : Bool). not t && (t || bitAt (a .used) j)) (within-yes c 1 j p q)
         ∙ sym (ap (bitAt (a .used)) (let z : j ≡ c = omega arith in z) ∙ e)
@@ -193,7 +172,7 @@ book-grown a n r h past =
   where
     go : (j : ℕ) → Stands (a .chunks) n j → bitAt (a .used) j ≡ not (within (a .chunks) n j) && bitAt (a .used) j
     go j (before p) = sym (ap (λ (t : Bool). not t && bitAt (a .used) j) (within-before (a .chunks) n j p))
-    go j (after p) = sym (ap (λ (t : Bool). not t && bitAt (a .used) j) (within-after (a .chunks) n j p))
+    go j (beyond p) = sym (ap (λ (t : Bool). not t && bitAt (a .used) j) (within-after (a .chunks) n j p))
     go j (inside p q) = past j p (omega arith) ∙ sym (ap (λ (t : Bool). not t && bitAt (a .used) j) (within-yes (a .chunks) n j p q))
 
 -- ---- what a change leaves of an arena's range and flags

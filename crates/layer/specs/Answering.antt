@@ -1,6 +1,6 @@
 -- The answer to an open question. Document 01: "A second call brings yes or no, for memory a base too." Assumes nothing.
 use Rattle.layer.specs.Prelude.{Bool, true, false, cond, not, List, [], _∷_, ℕ, suc, _+_, _-_, _*_, _%_, eqb, leb, negsuc, set, Refusal, NoSuchQuestion, Range, NotWhole, NoRun, CommitRefused, ChunkCount, TableFull, MemoryRefused, Arena, reservedArena, runFresh, giveBackRun, finishGrant, returnChunk, Sweep, Question, Idle, Committing, Purging, Reserving, GivingBack, Waiting, Reserve, Claim, Unusable, Count, Misaligned, Full, Kind, ForCommit, ForPurge, ForMemory, ForGiveBack, ForNone, AskGiveBack, Asks, Claimed, Reply}
-use Rattle.layer.specs.World.{Outcome, stateOf, calm, worldOf, reply, after, turnDown, Row, row, refuse, firstOf}
+use Rattle.layer.specs.World.{Outcome, stateWith, calm, worldOf, reply, after, turnDown, Row, row, refuse, firstOf}
 use Rattle.layer.specs.Table.{at, badRange}
 use Rattle.layer.specs.Registering.{badCount, withRecord, withStamps, registered}
 use Rattle.layer.specs.Claiming.{searchOf}
@@ -57,7 +57,7 @@ failReply k mark why (Claim n commits) = turnDown NoRun (calm k true)
 
 -- "A block that cannot be registered is given back (answer ignored), then refused"
 abbrev pub giveBackReply : ℕ → Bool → ℕ → ℕ → Unusable → Waiting → Reply
-giveBackReply k mark base bytes cause waiting = reply (Asks (AskGiveBack base bytes)) (stateOf k mark (GivingBack cause waiting))
+giveBackReply k mark base bytes cause waiting = reply (Asks (AskGiveBack base bytes)) (stateWith k mark (GivingBack cause waiting))
 
 module _ (S : ℕ) (l : List Arena) (stamps : List ℕ) (k : ℕ) (mark : Bool) where
   abbrev pub answerCommit : ℕ → ℕ → ℕ → Bool → Outcome
@@ -78,7 +78,7 @@ module _ (S : ℕ) (l : List Arena) (stamps : List ℕ) (k : ℕ) (mark : Bool) 
   -- "Reserve after yes: 6, 12, 7, 13." 6 keeps the question open; past it the block is given back.
   abbrev pub yesRows : ℕ → ℕ → Bool → Bool → Waiting → ℕ → List (Row Outcome)
   yesRows chunks bytes commit exclusive waiting base =
-      refuse (worldOf l stamps (stateOf k mark (Reserving chunks bytes commit exclusive waiting))) Range (badRange S l k base (chunks * S))
+      refuse (worldOf l stamps (stateWith k mark (Reserving chunks bytes commit exclusive waiting))) Range (badRange S l k base (chunks * S))
       ∷ row (after (giveBackReply k mark base bytes Count waiting) l stamps) (badCount chunks)
       ∷ row (after (giveBackReply k mark base bytes Misaligned waiting) l stamps) (not (eqb (base % S) 0))
       ∷ row (after (giveBackReply k mark base bytes Full waiting) l stamps) (leb 32 k)
@@ -100,4 +100,4 @@ module _ (S : ℕ) (l : List Arena) (stamps : List ℕ) (k : ℕ) (mark : Bool) 
   -- row 3: "none open, or other kind"
   unfoldable pub answerOf : Question → Kind → Bool → ℕ → Outcome
   answerOf q kind granted base =
-      firstOf (refuse (worldOf l stamps (stateOf k mark q)) NoSuchQuestion (not (isFor q kind)) ∷ []) (answerTo q granted base)
+      firstOf (refuse (worldOf l stamps (stateWith k mark q)) NoSuchQuestion (not (isFor q kind)) ∷ []) (answerTo q granted base)

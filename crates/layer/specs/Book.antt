@@ -4,10 +4,10 @@ use mathlib.Core.Bool.{Bool, false, cond, not, _&&_, _||_}
 use mathlib.Core.List.{List, [], _∷_}
 use Prim.Native.Nat.{ℕ, _+_, _-_, _*_, _/_, _%_}
 use lib.Dec.{leb, eqb}
-use Rattle.words.specs.Bits.{within}
-use Rattle.runs.specs.declared.Found.{Found}
-use Rattle.runs.specs.declared.Found.the-variants.{At, Nothing}
-use Rattle.runs.specs.Lowest.{all, lowestRun}
+use Rattle.bitmap.specs.Bits.{within}
+use Rattle.bitmap.specs.declared.runs.Found.{Found}
+use Rattle.bitmap.specs.declared.runs.Found.the-variants.{At, Nothing}
+use Rattle.bitmap.specs.Lowest.{all, lowestRun}
 
 -- the bytes of a chunk, the range, which chunks are held, and which were ever granted
 pub record Book : Type 0 where

@@ -1,6 +1,6 @@
 -- The three claims, where no question is open. Document 01, "Claiming". k arenas stand; S is the size of a chunk. Assumes nothing.
 use Rattle.layer.specs.Prelude.{Bool, true, false, cond, not, _&&_, List, [], _∷_, ℕ, _+_, _*_, eqb, leb, ℤ, pos, negsuc, set, Zero, ArenasOff, NoRun, arenaAllowed, Found, At, Nothing, least, Arena, isOn, findRun, runCommitted, runFresh, takeRun, dirtyRun, Settings, Committing, Claim, AskCommit, Asks, Claimed, Reply}
-use Rattle.layer.specs.World.{Outcome, stateOf, calm, worldOf, reply, after, turnDown, refuse, firstOf}
+use Rattle.layer.specs.World.{Outcome, stateWith, calm, worldOf, reply, after, turnDown, refuse, firstOf}
 use Rattle.layer.specs.Table.{at, isAt}
 use Rattle.layer.specs.Registering.{tooLarge, askMemory}
 
@@ -29,7 +29,7 @@ grantArena a s n commits = cond (asksCommit a s n commits) (takeRun a s n) (dirt
 
 unfoldable pub grantReply : ℕ → ℕ → Bool → ℕ → Arena → ℕ → ℕ → Bool → Reply
 grantReply S k mark i a s n commits =
-    cond (asksCommit a s n commits) (reply (Asks (AskCommit (a .base + s * S) (n * S))) (stateOf k mark (Committing i s n)))
+    cond (asksCommit a s n commits) (reply (Asks (AskCommit (a .base + s * S) (n * S))) (stateWith k mark (Committing i s n)))
     (reply (Claimed (a .base + s * S) (runFresh a s n) (runCommitted a s n)) (calm k mark))
 
 -- ---- a miss

@@ -6,9 +6,9 @@ use mathlib.Core.List.{List, [], _∷_, _++_}
 use mathlib.Core.Logic.{_⊎_, inr, _↔_}
 use Prim.Native.Nat.{ℕ, _+_, _-_, _*_, _/_, _<_, _≤_}
 use lib.ListN.{length}
-use Rattle.words.specs.Bits.{within}
-use Rattle.runs.specs.declared.Found.the-variants.{At}
-use Rattle.runs.specs.Lowest.{Starts, Lowest}
+use Rattle.bitmap.specs.Bits.{within}
+use Rattle.bitmap.specs.declared.runs.Found.the-variants.{At}
+use Rattle.bitmap.specs.Lowest.{Starts, Lowest}
 use Rattle.options.specs.Options.{pageSizeSound}
 use Rattle.layer.specs.declared.Answer.the-variants.{Claimed}
 use Rattle.layer.specs.World.{sizeOf}

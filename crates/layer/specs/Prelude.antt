@@ -10,10 +10,10 @@ pub use Rattle.refusals.specs.declared.Refusal.{Refusal}
 pub use Rattle.refusals.specs.declared.Refusal.the-variants.{Broken, QuestionOpen, NoSuchQuestion, Zero, ArenasOff, Range, NotWhole, NotInside, PastEnd, NoRun, CommitRefused, ChunkCount, TableFull, MemoryRefused, NoWholeChunk, HostRefused}
 pub use Rattle.clock.specs.Clock.{nowMs, delayMs}
 pub use Rattle.options.specs.Options.{pageSizeSound, arenaAllowed}
-pub use Rattle.words.specs.Bits.{bitAt}
-pub use Rattle.runs.specs.declared.Found.{Found}
-pub use Rattle.runs.specs.declared.Found.the-variants.{At, Nothing}
-pub use Rattle.runs.specs.Lowest.{all, least}
+pub use Rattle.bitmap.specs.Bits.{bitAt}
+pub use Rattle.bitmap.specs.declared.runs.Found.{Found}
+pub use Rattle.bitmap.specs.declared.runs.Found.the-variants.{At, Nothing}
+pub use Rattle.bitmap.specs.Lowest.{all, least}
 pub use Rattle.arena.specs.declared.Arena.{Arena}
 pub use Rattle.arena.specs.declared.Commitment.{Commitment}
 pub use Rattle.arena.specs.Flags.{isOn}
@@ -21,9 +21,9 @@ pub use Rattle.arena.specs.Registering.{noBits, reservedArena, managedArena, ad
 pub use Rattle.arena.specs.Claiming.{findRun, runCommitted, runFresh, takeRun, dirtyRun, giveBackRun, finishGrant}
 pub use Rattle.arena.specs.Releasing.{releaseRun, stampRun}
 pub use Rattle.arena.specs.Sweeping.{sweepDue, disarm, nextAsked, borrowChunk, returnChunk, rearm}
-pub use Rattle.purge.specs.Stamps.{stampsOf}
-pub use Rattle.lookup.specs.Place.{bytesOf, endOf, isInside}
-pub use Rattle.lookup.specs.Soundness.{soundArena}
+pub use Rattle.arena.specs.Stamps.{stampsOf}
+pub use Rattle.arena.specs.Place.{bytesOf, endOf, isInside}
+pub use Rattle.arena.specs.Soundness.{soundArena}
 pub use Rattle.layer.specs.declared.State.{State}
 pub use Rattle.layer.specs.declared.Settings.{Settings}
 pub use Rattle.layer.specs.declared.Sweep.{Sweep}

@@ -1,6 +1,6 @@
 -- The calls that register arenas, where no question is open. Document 01, "Registering". k arenas stand; S is the size of a chunk. Assumes nothing.
 use Rattle.layer.specs.Prelude.{Bool, cond, not, _&&_, _||_, List, [], _∷_, ℕ, suc, _+_, _-_, _*_, _/_, _%_, _^_, eqb, leb, ltb, ℤ, set, Zero, Range, NotWhole, ChunkCount, TableFull, NoWholeChunk, HostRefused, Found, least, Arena, isOn, managedArena, adoptedArena, grownArena, stampRun, endOf, Reserving, Waiting, Reserve, AskMemory, Asks, Registered, Reply}
-use Rattle.layer.specs.World.{Outcome, stateOf, calm, worldOf, reply, after, turnDown, row, refuse, firstOf}
+use Rattle.layer.specs.World.{Outcome, stateWith, calm, worldOf, reply, after, turnDown, row, refuse, firstOf}
 use Rattle.layer.specs.Table.{at, isAt, idFound, badRange}
 
 -- ---- reserving
@@ -21,7 +21,7 @@ bytesAsked S size page = cond (eqb size 0) page (chunksFor S size * S)
 unfoldable pub askMemory : ℕ → ℕ → Bool → ℕ → ℕ → Bool → Bool → Bool → Waiting → Reply
 askMemory S k mark size page commit large exclusive waiting =
     reply (Asks (AskMemory (bytesAsked S size page) S commit large))
-    (stateOf k mark (Reserving (chunksFor S size) (bytesAsked S size page) commit exclusive waiting))
+    (stateWith k mark (Reserving (chunksFor S size) (bytesAsked S size page) commit exclusive waiting))
 
 -- `reserve_os_memory_ex`: 12 unasked
 unfoldable pub reserveReply : ℕ → ℕ → Bool → ℕ → Bool → Bool → Bool → ℕ → Reply

@@ -1,5 +1,5 @@
 -- Which arenas stand after a call, of any layer: as many as before, or one more, the one that the call asked for. Demand 3 reads what is registered off the rules' own
--- run; this says that the run registers nothing else. That an arena stands for good is said in refusal_laws. Assumes nothing.
+-- run; this says that the run registers nothing else. That an arena stands for good is said in layer_laws (after_refusal). Assumes nothing.
 use mathlib.Core.Path.{_≡_}
 use mathlib.Core.Bool.{true, false}
 use mathlib.Core.Logic.{_⊎_}

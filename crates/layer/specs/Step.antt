@@ -1,6 +1,6 @@
 -- One call: the rules of document 01 put together. Assumes nothing.
 use Rattle.layer.specs.Prelude.{Bool, cond, not, List, [], _∷_, ℕ, ltb, ℤ, pos, negsuc, Broken, QuestionOpen, nowMs, delayMs, Arena, Commitment, bytesOf, Settings, Sweep, Question, Kind, Answer, Owns, Area}
-use Rattle.layer.specs.World.{World, Outcome, sizeOf, stateOf, worldOf, reply, after, refuse, firstOf}
+use Rattle.layer.specs.World.{World, Outcome, sizeOf, stateWith, worldOf, reply, after, refuse, firstOf}
 use Rattle.layer.specs.Table.{at, isAt, findArena, sound}
 use Rattle.layer.specs.Registering.{reserveOf, manageOf, adoptOf}
 use Rattle.layer.specs.Claiming.{claimOf}
@@ -56,8 +56,8 @@ module _ (S : ℕ) (l : List Arena) (stamps : List ℕ) (k : ℕ) (mark : Bool) 
 
   -- "then 2, or 3 for answers; then the call's own"
   abbrev pub stepOn : Call → Outcome
-  stepOn (act a) = firstOf (refuse (worldOf l stamps (stateOf k mark q)) QuestionOpen (not (isIdle q)) ∷ []) (actOn a)
-  stepOn (query c) = after (reply (queryOn c) (stateOf k mark q)) l stamps
+  stepOn (act a) = firstOf (refuse (worldOf l stamps (stateWith k mark q)) QuestionOpen (not (isIdle q)) ∷ []) (actOn a)
+  stepOn (query c) = after (reply (queryOn c) (stateWith k mark q)) l stamps
   stepOn (answer kind granted base) = answerOf S l stamps k mark q kind granted base
 
 -- THE RULES, of chunks of S bytes: any call on any lent table. "Order: 1; then 2, or 3 for answers; then the call's own."

@@ -1,12 +1,12 @@
 -- `purge_due`: a sweep over the arenas, until it has a question or ends. Document 01, "Sweeping": "Arenas by id, chunks ascending." k arenas stand; S is
 -- the size of a chunk. Assumes nothing.
 use Rattle.layer.specs.Prelude.{Bool, cond, List, ℕ, zero, suc, _+_, _*_, set, Found, At, Nothing, Arena, sweepDue, disarm, nextAsked, borrowChunk, rearm, stampsOf, Sweep, Purging, AskPurge, Asks, Swept, Reply}
-use Rattle.layer.specs.World.{Outcome, stateOf, calm, reply, after}
+use Rattle.layer.specs.World.{Outcome, stateWith, calm, reply, after}
 use Rattle.layer.specs.Table.{at}
 
 -- the question about chunk j of arena i, whose record is a
 unfoldable pub purgeReply : ℕ → ℕ → Bool → Sweep → ℕ → Arena → ℕ → Reply
-purgeReply S k mark w i a j = reply (Asks (AskPurge (a .base + j * S) S (w .decommit))) (stateOf k mark (Purging i j w))
+purgeReply S k mark w i a j = reply (Asks (AskPurge (a .base + j * S) S (w .decommit))) (stateWith k mark (Purging i j w))
 
 -- "The count is the number of yes answers."
 unfoldable pub sweptReply : ℕ → Bool → Sweep → Reply

@@ -6,7 +6,7 @@ use mathlib.Core.List.{List}
 use mathlib.Core.Logic.{_↔_}
 use Prim.Native.Nat.{ℕ, suc, _+_, _≤_, _<_}
 use lib.IntN.{ℤ, pos, negsuc}
-use Rattle.words.specs.Bits.{bitAt}
+use Rattle.bitmap.specs.Bits.{bitAt}
 use Rattle.options.specs.Options.{arenaAllowed}
 use Rattle.refusals.specs.declared.Refusal.the-variants.{NoRun}
 use Rattle.arena.specs.declared.Arena.{Arena}

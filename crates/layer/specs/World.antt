@@ -15,12 +15,12 @@ pub record Outcome : Type 0 where
 abbrev pub sizeOf : State → ℕ
 sizeOf state = 33554432
 
-abbrev pub stateOf : ℕ → Bool → Question → State
-stateOf count mark question = record { count = count; mark = mark; question = question }
+abbrev pub stateWith : ℕ → Bool → Question → State
+stateWith count mark question = record { count = count; mark = mark; question = question }
 
 -- no question open
 abbrev pub calm : ℕ → Bool → State
-calm count mark = stateOf count mark Idle
+calm count mark = stateWith count mark Idle
 
 abbrev pub worldOf : List Arena → List ℕ → State → World
 worldOf records stamps state = record { records = records; stamps = stamps; state = state }
@@ -36,11 +36,11 @@ abbrev pub after : Reply → List Arena → List ℕ → Outcome
 after r records stamps = outcome (r .answer) (worldOf records stamps (r .state))
 
 -- what an entry point over the lent slices leaves: the outcome's answer and state go back by value, its records and stamps stand in the slices
-abbrev pub replyOf : Outcome → Reply
-replyOf o = reply (o .answer) (o .world .state)
+abbrev pub replyIn : Outcome → Reply
+replyIn o = reply (o .answer) (o .world .state)
 
 abbrev pub Leaves : Outcome → Reply → List Arena → List ℕ → Type 0
-Leaves o r records stamps = (r ≡ replyOf o) × (records ≡ o .world .records) × (stamps ≡ o .world .stamps)
+Leaves o r records stamps = (r ≡ replyIn o) × (records ≡ o .world .records) × (stamps ≡ o .world .stamps)
 
 abbrev pub turnDown : Refusal → State → Reply
 turnDown why state = reply (Refused why) state

@@ -17,7 +17,7 @@ use Rattle.calls.proofs.kinds.Call as T-Call
 use Rattle.layer_samples.specs.declared.Session.{Session}
 use Rattle.samples.specs.declared.lines.Line.{Line}
 use Rattle.arena.specs.declared.Arena.{Arena}
-use Rattle.layer.specs.World.{replyOf, Leaves}
+use Rattle.layer.specs.World.{replyIn, Leaves}
 use Rattle.layer_samples.specs.Replaying.{steppedOf, madeOf}
 use Rattle.layer_samples.specs.Session.{calledOf, hashedOf, isCall, isHash, notedOf}
 use Rattle.layer.specs.declared.Reply.{Reply}
@@ -115,12 +115,12 @@ module _ {M : Type 1} {𝓤 : URA M} {H : Heap 𝓤} {A : Atoms 𝓤} {K : Type 
   pub call-line-step : K → Site K W Γ C E #layer-samples·call-line xs G after → (mem : Memory → SProp 𝓤) (run : Routine → Fun 𝓤) → Triple 𝓤 (C #layer-samples·call-line) (CallLineSpec 𝓤 H A mem run)
       → (L-records : Loan) (records : List Arena) → (L-stamps : Loan) (stamps : List ℕ) → (s : Session) (v-s : Val) → Is T-Session.the-row s (v-s ∷ []) → (l : Line) (v-l : Val) → Is T-Line.the-row l (v-l ∷ [])
       → ((hd′ : Item 𝓤) → Opds K W (hd′ ∷ Γ) E xs (sliceOf L-records ∷ sliceOf L-stamps ∷ v-s ∷ v-l ∷ []))
-      → ((val′ : Val) → Is T-Session.the-row (calledOf s l (replyOf (steppedOf records stamps s l))) (val′ ∷ []) → length (steppedOf records stamps s l .world .records) ≡ length records → length (steppedOf records stamps s l .world .stamps) ≡ length stamps → Seq K W ((‵ (lent T-Arena.the-row L-records (steppedOf records stamps s l .world .records)) ⊛ (‵ (lent u32 L-stamps (steppedOf records stamps s l .world .stamps)) ⊛ more)) ∷ Γ) (after val′))
+      → ((val′ : Val) → Is T-Session.the-row (calledOf s l (replyIn (steppedOf records stamps s l))) (val′ ∷ []) → length (steppedOf records stamps s l .world .records) ≡ length records → length (steppedOf records stamps s l .world .stamps) ≡ length stamps → Seq K W ((‵ (lent T-Arena.the-row L-records (steppedOf records stamps s l .world .records)) ⊛ (‵ (lent u32 L-stamps (steppedOf records stamps s l .world .stamps)) ⊛ more)) ∷ Γ) (after val′))
       → Seq K W ((‵ (lent T-Arena.the-row L-records records) ⊛ (‵ (lent u32 L-stamps stamps) ⊛ more)) ∷ Γ) G
   call-line-step bang site mem run known L-records records L-stamps stamps s v-s g-s l v-l g-l ops then′ =
       mut2-call bang site T-Arena.the-row u32 L-records L-stamps T-Session.the-row (plain (λ _. T-Session.the-row) ∷ plain (λ _. T-Line.the-row) ∷ []) (yes, (yes, tt)) (call-line′.clauses 𝓤 H A mem run) known records stamps (λ _. (s, (l, tt))) (λ _. (v-s ∷ [], (v-l ∷ [], tt)))
       (λ _. owns-make 𝓤 H A (T-Session.the-row ∷ T-Line.the-row ∷ []) (Ises (T-Session.the-row ∷ T-Line.the-row ∷ [])) (LL.makes T-Session.the-type L-Session.the-plain 𝓤 H A, (LL.makes T-Line.the-type L-Line.the-plain 𝓤 H A, tt)) (s, (l, tt)) (v-s ∷ [], (v-l ∷ [], tt)) (g-s, (g-l, tt))) (λ _ _ _. tt) (λ _ _ _. id⊢ 𝓤 _)
-      (λ out records-exit stamps-exit. (out ≡ calledOf s l (replyOf (steppedOf records stamps s l))) × (records-exit ≡ steppedOf records stamps s l .world .records) × (stamps-exit ≡ steppedOf records stamps s l .world .stamps)) (λ _ _ _ out ws. id⊢ 𝓤 _) (λ hd′ _. ops hd′) (λ val′ out records-exit stamps-exit rel′ eq′ l-records l-stamps. subst (λ (lst′ : List Arena). Seq K W ((‵ (lent T-Arena.the-row L-records lst′) ⊛ (‵ (lent u32 L-stamps stamps-exit) ⊛ more)) ∷ Γ) (after val′)) (sym (eq′ .1)) (subst (λ (lst′ : List ℕ). Seq K W ((‵ (lent T-Arena.the-row L-records (steppedOf records stamps s l .world .records)) ⊛ (‵ (lent u32 L-stamps lst′) ⊛ more)) ∷ Γ) (after val′)) (sym (eq′ .2)) (then′ val′ (subst (λ (obj′ : Session). Is T-Session.the-row obj′ (val′ ∷ [])) (eq′ .0) rel′) (subst (λ (lst′ : List Arena). length lst′ ≡ length records) (eq′ .1) l-records) (subst (λ (lst′ : List ℕ). length lst′ ≡ length stamps) (eq′ .2) l-stamps))))
+      (λ out records-exit stamps-exit. (out ≡ calledOf s l (replyIn (steppedOf records stamps s l))) × (records-exit ≡ steppedOf records stamps s l .world .records) × (stamps-exit ≡ steppedOf records stamps s l .world .stamps)) (λ _ _ _ out ws. id⊢ 𝓤 _) (λ hd′ _. ops hd′) (λ val′ out records-exit stamps-exit rel′ eq′ l-records l-stamps. subst (λ (lst′ : List Arena). Seq K W ((‵ (lent T-Arena.the-row L-records lst′) ⊛ (‵ (lent u32 L-stamps stamps-exit) ⊛ more)) ∷ Γ) (after val′)) (sym (eq′ .1)) (subst (λ (lst′ : List ℕ). Seq K W ((‵ (lent T-Arena.the-row L-records (steppedOf records stamps s l .world .records)) ⊛ (‵ (lent u32 L-stamps lst′) ⊛ more)) ∷ Γ) (after val′)) (sym (eq′ .2)) (then′ val′ (subst (λ (obj′ : Session). Is T-Session.the-row obj′ (val′ ∷ [])) (eq′ .0) rel′) (subst (λ (lst′ : List Arena). length lst′ ≡ length records) (eq′ .1) l-records) (subst (λ (lst′ : List ℕ). length lst′ ≡ length stamps) (eq′ .2) l-stamps))))
 
   pub called-step : K → Site K W Γ C E #layer-samples·called xs G after → (mem : Memory → SProp 𝓤) (run : Routine → Fun 𝓤) → Triple 𝓤 (C #layer-samples·called) (CalledSpec 𝓤 H A mem run)
       → (s : Session) (v-s : Val) → Is T-Session.the-row s (v-s ∷ []) → (l : Line) (v-l : Val) → Is T-Line.the-row l (v-l ∷ []) → (r : Reply) (v-r : Val) → Is T-Reply.the-row r (v-r ∷ [])

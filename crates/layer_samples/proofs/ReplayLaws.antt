@@ -1,11 +1,5 @@
 -- What is kept after a line, by its kind. Assumes nothing.
-use mathlib.Core.Path.{_≡_, refl, sym, ap, _∙_}
-use mathlib.Core.Bool.{true, false}
-use mathlib.Core.List.{List}
-use Prim.Native.Nat.{ℕ}
-use Rattle.words.proofs.Tests.{when, unless}
-use Rattle.arena.specs.declared.Arena.{Arena}
-use Rattle.layer.specs.World.{replyOf}
+use Rattle.state.proofs.Prelude.{_≡_, sym, ap, _∙_, true, false, List, ℕ, when, unless, Arena, replyIn}
 use Rattle.samples.specs.declared.lines.Line.{Line}
 use Rattle.layer_samples.specs.declared.Session.{Session}
 use Rattle.layer_samples.specs.Session.{isCall, isHash, calledOf, hashedOf, notedOf}
@@ -19,7 +13,7 @@ module _ (records : List Arena) (stamps : List ℕ) (s : Session) (l : Line) whe
   is : (k : Kept) → k ≡ replayedOf records stamps s l → Is k
   is k e = (ap (λ (x : Kept). x .session) e, ap (λ (x : Kept). x .records) e, ap (λ (x : Kept). x .stamps) e)
 
-  pub call-kept : isCall l ≡ true → Is (record { session = calledOf s l (replyOf (steppedOf records stamps s l)); records = steppedOf records stamps s l .world .records; stamps = steppedOf records stamps s l .world .stamps })
+  pub call-kept : isCall l ≡ true → Is (record { session = calledOf s l (replyIn (steppedOf records stamps s l)); records = steppedOf records stamps s l .world .records; stamps = steppedOf records stamps s l .world .stamps })
   unfolding replayedOf
   call-kept e = is _ (sym (when (isCall l) _ _ e))
 

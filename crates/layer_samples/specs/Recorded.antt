@@ -2,8 +2,8 @@
 use mathlib.Core.Bool.{cond}
 use Prim.Native.Nat.{ℕ, _/_, _%_}
 use lib.Dec.{eqb, ltb}
-use Rattle.words.specs.Bits.{bit}
-use Rattle.surface.specs.Told.{toldOf, kindOf}
+use Rattle.bitmap.specs.Bits.{bit}
+use Rattle.surface.specs.Told.{commitmentOf, kindOf}
 use Rattle.samples.specs.declared.lines.Line.{Line}
 use Rattle.samples.specs.Signed.{narrowOf}
 use Rattle.calls.specs.declared.kinds.MemoryCall.{MemoryCall}
@@ -34,7 +34,7 @@ claimOf l =
     cond (eqb (l .kind) 7) (ChunkAlloc (narrowOf (l .a))) (cond (eqb (l .kind) 8) (ChunkClaim (narrowOf (l .a))) (ChunkAllocN (narrowOf (l .a)) (l .b)))
 
 abbrev pub releaseOf : Line → ℕ → ℕ → FreeCall
-releaseOf l x y = ChunkRelease (l .a) (l .b) (toldOf (narrowOf x)) (bit y 0)
+releaseOf l x y = ChunkRelease (l .a) (l .b) (commitmentOf (narrowOf x)) (bit y 0)
 
 -- kinds 10 and 11
 abbrev pub freeOf : Line → ℕ → ℕ → FreeCall

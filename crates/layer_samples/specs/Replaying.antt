@@ -5,7 +5,7 @@ use Prim.Native.Nat.{ℕ}
 use Rattle.arena.specs.declared.Arena.{Arena}
 use Rattle.layer.specs.declared.Settings.{Settings}
 use Rattle.layer.specs.declared.State.{State}
-use Rattle.layer.specs.World.{Outcome, worldOf, replyOf}
+use Rattle.layer.specs.World.{Outcome, worldOf, replyIn}
 use Rattle.layer.specs.Step.{step}
 use Rattle.samples.specs.declared.lines.Line.{Line}
 use Rattle.calls.specs.Calls as K
@@ -27,7 +27,7 @@ pub record Kept : Type 0 where
   pub stamps : List ℕ
 
 abbrev keptAfter : Session → Line → Outcome → Kept
-keptAfter s l o = record { session = calledOf s l (replyOf o); records = o .world .records; stamps = o .world .stamps }
+keptAfter s l o = record { session = calledOf s l (replyIn o); records = o .world .records; stamps = o .world .stamps }
 
 unfoldable pub replayedOf : List Arena → List ℕ → Session → Line → Kept
 replayedOf records stamps s l =

@@ -1,14 +1,14 @@
 -- What a replay keeps between two lines, and what a line makes of it. Assumes nothing.
-use mathlib.Core.Bool.{Bool, true, false, cond, _&&_}
+use mathlib.Core.Bool.{Bool, false, cond, _&&_}
 use Prim.Native.Nat.{ℕ, _*_, _/_, _%_, _^_}
 use lib.Bits.{bitOr}
 use lib.Dec.{eqb, leb}
 use lib.IntN.{ℤ, pos}
-use Rattle.words.specs.Bits.{bit}
+use Rattle.bitmap.specs.Bits.{bit}
 use Rattle.layer.specs.declared.Question.the-variants.{Idle}
 use Rattle.layer.specs.declared.State.{State}
 use Rattle.layer.specs.declared.Reply.{Reply}
-use Rattle.layer.specs.World.{stateOf}
+use Rattle.layer.specs.World.{stateWith}
 use Rattle.surface.specs.declared.reply.ReplyNumbers.{ReplyNumbers}
 use Rattle.arena.specs.Flags.{asFlag}
 use Rattle.surface.specs.Replies.{replyOf}
@@ -40,7 +40,7 @@ isHash l = eqb (l .kind) 15
 abbrev pub none : Session
 none =
     record {
-      state = stateOf 0 false Idle;
+      state = stateWith 0 false Idle;
       carried = record { ns = 0; settings = record { delay = pos 0; decommits = false; off = false; reserve = 0; page = 0 }; x = 0; y = 0 };
       said = record { address = 0; bytes = 0; word = 0 };
       tally = C.none;

@@ -4,7 +4,7 @@ pub mod state_hash;
 
 ghost use mathlib.Core.Path.{_≡_};
 ghost use Prim.Native.Nat.{_<_};
-ghost use Rattle.layer.specs.World.{replyOf, Leaves};
+ghost use Rattle.layer.specs.World.{replyIn, Leaves};
 ghost use Rattle.layer_samples.specs.StateHash.{hashOf};
 ghost use Rattle.layer_samples.specs.Replaying.{madeOf, steppedOf, replayedOf};
 ghost use Rattle.layer_samples.specs.Session.{noLine, lineOf, isCall, isHash, none, counted, skipped, wordOf, saidOf, calledOf, hashedOf, withClock, withSettings, withMore, carriedOf, stateAfter, carrying, saysSo, notedOf};
@@ -433,7 +433,7 @@ fn reply_line(records: &mut [Arena], stamps: &mut [u32], s: Session, l: Line) ->
 }
 
 fn call_line(records: &mut [Arena], stamps: &mut [u32], s: Session, l: Line) -> Session
-    ensures { λ r. ⌜ (r ≡ calledOf s l (replyOf (steppedOf (now (records .entry)) (now (stamps .entry)) s l))) × (now (records .exit) ≡ steppedOf (now (records .entry)) (now (stamps .entry)) s l .world .records) × (now (stamps .exit) ≡ steppedOf (now (records .entry)) (now (stamps .entry)) s l .world .stamps) ⌝ }
+    ensures { λ r. ⌜ (r ≡ calledOf s l (replyIn (steppedOf (now (records .entry)) (now (stamps .entry)) s l))) × (now (records .exit) ≡ steppedOf (now (records .entry)) (now (stamps .entry)) s l .world .records) × (now (stamps .exit) ≡ steppedOf (now (records .entry)) (now (stamps .entry)) s l .world .stamps) ⌝ }
 {
     let r = reply_line(records, stamps, s, l);
     called(s, l, r)

@@ -2,7 +2,7 @@
 // answers, and 13 asks. x and y are the two numbers that the line before carries.
 ghost use mathlib.Core.Path.{_≡_};
 ghost use Prim.Native.Nat.{_<_};
-ghost use Rattle.words.specs.Bits.{bit};
+ghost use Rattle.bitmap.specs.Bits.{bit};
 ghost use Rattle.layer_samples.specs.Recorded.{reserveOf, manageOf, memoryOf, claimOf, releaseOf, freeOf, answerOf, queryOf, recordedOf};
 use calls::kinds::ActCall;
 use calls::kinds::Call;

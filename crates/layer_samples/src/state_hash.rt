@@ -104,7 +104,7 @@ pub fn hash(records: &[Arena], stamps: &[u32], s: State) -> u32
     let mut h = of_state(s);
     let mut i: usize = 0;
     while i < k {
-        let a = records::load_or(records, i);
+        let a = table::records::load_or(records, i);
         let g = with_arena(h, a);
         h = with_stamps(stamps, g, i);
         i += 1;

@@ -1,19 +1,16 @@
 -- The documented purge delay (option 15) against the port's: where they agree, and the difference that is recorded, that -1 stops no
 -- purging but counts as 0. Assumes nothing.
-use mathlib.Core.Path.{_≡_, refl}
-use Prim.Native.Nat.{ℕ, suc, _≤_, _<_}
-use native.Mathlib.Omega.{arith}
-use lib.IntN.{pos, negsuc}
+use Rattle.walks.proofs.Prelude.{_≡_, refl, ℕ, suc, _≤_, _<_, arith, pos, negsuc}
 use Rattle.clock.specs.Clock.{delayMs}
-use Rattle.options.specs.Options.{never, after, unsaid, documentedDelay}
+use Rattle.options.specs.Options.{never, delayed, unsaid, documentedDelay}
 
 -- up to the longest delay of the clock the two agree
-pub delay-agrees : (n : ℕ) → n ≤ 1073741823 → (documentedDelay (pos n) ≡ after n) × (delayMs (pos n) ≡ n)
+pub delay-agrees : (n : ℕ) → n ≤ 1073741823 → (documentedDelay (pos n) ≡ delayed n) × (delayMs (pos n) ≡ n)
 unfolding documentedDelay delayMs
 delay-agrees n h = (refl, omega arith)
 
 -- above it the port's delay is the longest
-pub delay-clamped : (n : ℕ) → 1073741823 < n → (documentedDelay (pos n) ≡ after n) × (delayMs (pos n) ≡ 1073741823)
+pub delay-clamped : (n : ℕ) → 1073741823 < n → (documentedDelay (pos n) ≡ delayed n) × (delayMs (pos n) ≡ 1073741823)
 unfolding documentedDelay delayMs
 delay-clamped n h = (refl, omega arith)
 

@@ -1,13 +1,5 @@
 -- What the definitions of the options and of a sound page size mean. Assumes nothing.
-use mathlib.Core.Path.{_≡_, refl, sym, ap, _∙_}
-use mathlib.Core.Bool.{Bool, true, false, not, _||_}
-use mathlib.Core.Logic.{_⊎_, inl, inr, ⊎-elim}
-use Prim.Native.Nat.{ℕ, zero, suc, _+_, _-_, _^_, _≤_}
-use native.Mathlib.Omega.{arith}
-use borrow.Author.Tests.{eqb-true}
-use lib.Dec.{eqb, leb·zero}
-use lib.IntN.{ℤ, pos, negsuc}
-use lib.Signed.{leZ}
+use Rattle.walks.proofs.Prelude.{_≡_, refl, sym, ap, _∙_, Bool, true, false, not, _||_, _⊎_, inl, inr, ⊎-elim, ℕ, zero, suc, _+_, _-_, _^_, _≤_, arith, eqb-true, eqb, leb·zero, ℤ, pos, negsuc, leZ}
 use Rattle.options.specs.Options.{arenaAllowed, pageSizeSound}
 
 -- true and false differ

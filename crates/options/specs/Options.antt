@@ -1,4 +1,4 @@
--- What mimalloc.h documents of options 15 and 27, with the numbers of version 2.4; crate `documented` has the other options, and holds the layer's
+-- What mimalloc.h documents of options 15 and 27, with the numbers of version 2.4; `layer_laws` has the other options, and holds the layer's
 -- rules against all but the delay. The port's own reading of the delay stands in the crate clock; proofs/Differences.antt holds it against this one.
 -- Assumes nothing.
 use mathlib.Core.Bool.{Bool, true, false, _||_}
@@ -9,13 +9,13 @@ use lib.IntN.{ℤ, pos, negsuc}
 -- when freed memory is purged: never, after so many milliseconds (0: at once), or nothing is said
 pub data Purging : Type 0 where
   never : Purging
-  after : ℕ → Purging
+  delayed : ℕ → Purging
   unsaid : Purging
 
 -- option 15, mi_option_purge_delay: purging is delayed by this many milliseconds, and −1 means that nothing is purged. The document
 -- speaks of −1 alone, and not of what lies below it.
 unfoldable pub documentedDelay : ℤ → Purging
-documentedDelay (pos n) = after n
+documentedDelay (pos n) = delayed n
 documentedDelay (negsuc zero) = never
 documentedDelay (negsuc (suc n)) = unsaid
 

@@ -8,16 +8,16 @@ use Rattle.layer.proofs.State as T-State
 use Rattle.layer.proofs.State.Laws as L-State
 use denote.Struct.Laws as LL
 use Rattle.layer.proofs.Reply as T-Reply
-use Rattle.judge.proofs.Head as T-Head
-use Rattle.judge.proofs.Head.Laws as L-Head
+use Rattle.table.proofs.heads.Head as T-Head
+use Rattle.table.proofs.heads.Head.Laws as L-Head
 use Rattle.arena.proofs.Arena as T-Arena
 use Rattle.layer.proofs.Settings as T-Settings
 use Rattle.layer.proofs.Settings.Laws as L-Settings
 use Rattle.layer.specs.declared.Answer.{Answer}
 use Rattle.layer.specs.declared.State.{State}
 use Rattle.layer.specs.declared.Reply.{Reply}
-use Rattle.layer.specs.World.{reply, sizeOf, worldOf, replyOf}
-use Rattle.judge.specs.declared.Head.{Head}
+use Rattle.layer.specs.World.{reply, sizeOf, worldOf, replyIn}
+use Rattle.table.specs.declared.heads.Head.{Head}
 use Rattle.arena.specs.ChunkSize.{ChunkSize}
 use Rattle.layer.specs.declared.Answer.the-variants.{Area, Owns}
 use Rattle.arena.specs.declared.Arena.{Arena}
@@ -116,22 +116,22 @@ module _ {M : Type 1} {𝓤 : URA M} {H : Heap 𝓤} {A : Atoms 𝓤} {K : Type 
   pub arena-area-step : K → Site K W Γ C E #queries·arena-area xs G after → (mem : Memory → SProp 𝓤) (run : Routine → Fun 𝓤) → Triple 𝓤 (C #queries·arena-area) (ArenaAreaSpec 𝓤 H A mem run)
       → (L-records : Loan) (records : List Arena) → (L-stamps : Loan) (stamps : List ℕ) → (state : State) (v-state : Val) → Is T-State.the-row state (v-state ∷ []) → (ns : ℕ) → ns < 2 ^ 64 → (settings : Settings) (v-settings : Val) → Is T-Settings.the-row settings (v-settings ∷ []) → (id : ℕ) → Fits w32 id
       → ((hd′ : Item 𝓤) → Opds K W (hd′ ∷ Γ) E xs (sliceOf L-records ∷ sliceOf L-stamps ∷ v-state ∷ vint w64 ns ∷ v-settings ∷ vint w32 id ∷ []))
-      → ((val′ : Val) → Is T-Reply.the-row (replyOf (step (worldOf records stamps state) ns settings (query (area (toZ w32 id))))) (val′ ∷ []) → Seq K W ((‵ (lent T-Arena.the-row L-records records) ⊛ (‵ (lent u32 L-stamps stamps) ⊛ more)) ∷ Γ) (after val′))
+      → ((val′ : Val) → Is T-Reply.the-row (replyIn (step (worldOf records stamps state) ns settings (query (area (toZ w32 id))))) (val′ ∷ []) → Seq K W ((‵ (lent T-Arena.the-row L-records records) ⊛ (‵ (lent u32 L-stamps stamps) ⊛ more)) ∷ Γ) (after val′))
       → Seq K W ((‵ (lent T-Arena.the-row L-records records) ⊛ (‵ (lent u32 L-stamps stamps) ⊛ more)) ∷ Γ) G
   arena-area-step bang site mem run known L-records records L-stamps stamps state v-state g-state ns f-ns settings v-settings g-settings id f-id ops then′ =
       shr2-call bang site T-Arena.the-row u32 L-records L-stamps T-Reply.the-row (plain (λ _. T-State.the-row) ∷ plain (λ _. u64) ∷ plain (λ _. T-Settings.the-row) ∷ plain (λ _. i32) ∷ []) (yes, (yes, (yes, (yes, tt)))) (arena-area′.clauses 𝓤 H A mem run) known records stamps (λ _. (state, (ns, (settings, (toZ w32 id, tt))))) (λ _. (v-state ∷ [], (vint w64 ns ∷ [], (v-settings ∷ [], (vint w32 id ∷ [], tt)))))
       (λ _. owns-make 𝓤 H A (T-State.the-row ∷ u64 ∷ T-Settings.the-row ∷ i32 ∷ []) (Ises (T-State.the-row ∷ u64 ∷ T-Settings.the-row ∷ i32 ∷ [])) (LL.makes T-State.the-type L-State.the-plain 𝓤 H A, (uint-makes 𝓤 H A W w64, (LL.makes T-Settings.the-type L-Settings.the-plain 𝓤 H A, (sint-makes 𝓤 H A W w32, tt)))) (state, (ns, (settings, (toZ w32 id, tt)))) (v-state ∷ [], (vint w64 ns ∷ [], (v-settings ∷ [], (vint w32 id ∷ [], tt)))) (g-state, ((refl, f-ns), (g-settings, (signed f-id, tt))))) (λ _ _ _. tt) (λ _ _ _. id⊢ 𝓤 _)
-      (λ out. out ≡ replyOf (step (worldOf records stamps state) ns settings (query (area (toZ w32 id))))) (λ _ _ _ out ws. id⊢ 𝓤 _) (λ hd′ _. ops hd′) (λ val′ out rel′ eq′. then′ val′ (subst (λ (obj′ : Reply). Is T-Reply.the-row obj′ (val′ ∷ [])) eq′ rel′))
+      (λ out. out ≡ replyIn (step (worldOf records stamps state) ns settings (query (area (toZ w32 id))))) (λ _ _ _ out ws. id⊢ 𝓤 _) (λ hd′ _. ops hd′) (λ val′ out rel′ eq′. then′ val′ (subst (λ (obj′ : Reply). Is T-Reply.the-row obj′ (val′ ∷ [])) eq′ rel′))
 
   pub arena-area-pass : K → Site K W Γ C E #queries·arena-area xs G after → (mem : Memory → SProp 𝓤) (run : Routine → Fun 𝓤) → Triple 𝓤 (C #queries·arena-area) (ArenaAreaSpec 𝓤 H A mem run)
       → (L-records : Loan) (records : List Arena) → (L-stamps : Loan) (stamps : List ℕ) → (state : State) (v-state : Val) → Is T-State.the-row state (v-state ∷ []) → (ns : ℕ) → ns < 2 ^ 64 → (settings : Settings) (v-settings : Val) → Is T-Settings.the-row settings (v-settings ∷ []) → (id : ℕ) → Fits w32 id
       → ((hd′ : Item 𝓤) → Opds K W (hd′ ∷ Γ) E xs (sliceOf L-records ∷ sliceOf L-stamps ∷ v-state ∷ vint w64 ns ∷ v-settings ∷ vint w32 id ∷ []))
-      → ((val′ : Val) → Is T-Reply.the-row (replyOf (step (worldOf records stamps state) ns settings (query (area (toZ w32 id))))) (val′ ∷ []) → Seq K W ((‵ (shared T-Arena.the-row L-records records) ⊛ (‵ (shared u32 L-stamps stamps) ⊛ more)) ∷ Γ) (after val′))
+      → ((val′ : Val) → Is T-Reply.the-row (replyIn (step (worldOf records stamps state) ns settings (query (area (toZ w32 id))))) (val′ ∷ []) → Seq K W ((‵ (shared T-Arena.the-row L-records records) ⊛ (‵ (shared u32 L-stamps stamps) ⊛ more)) ∷ Γ) (after val′))
       → Seq K W ((‵ (shared T-Arena.the-row L-records records) ⊛ (‵ (shared u32 L-stamps stamps) ⊛ more)) ∷ Γ) G
   arena-area-pass bang site mem run known L-records records L-stamps stamps state v-state g-state ns f-ns settings v-settings g-settings id f-id ops then′ =
       ss-call bang site T-Arena.the-row u32 L-records L-stamps T-Reply.the-row (plain (λ _. T-State.the-row) ∷ plain (λ _. u64) ∷ plain (λ _. T-Settings.the-row) ∷ plain (λ _. i32) ∷ []) (yes, (yes, (yes, (yes, tt)))) (arena-area′.clauses 𝓤 H A mem run) known records stamps (λ _. (state, (ns, (settings, (toZ w32 id, tt))))) (λ _. (v-state ∷ [], (vint w64 ns ∷ [], (v-settings ∷ [], (vint w32 id ∷ [], tt)))))
       (λ _. owns-make 𝓤 H A (T-State.the-row ∷ u64 ∷ T-Settings.the-row ∷ i32 ∷ []) (Ises (T-State.the-row ∷ u64 ∷ T-Settings.the-row ∷ i32 ∷ [])) (LL.makes T-State.the-type L-State.the-plain 𝓤 H A, (uint-makes 𝓤 H A W w64, (LL.makes T-Settings.the-type L-Settings.the-plain 𝓤 H A, (sint-makes 𝓤 H A W w32, tt)))) (state, (ns, (settings, (toZ w32 id, tt)))) (v-state ∷ [], (vint w64 ns ∷ [], (v-settings ∷ [], (vint w32 id ∷ [], tt)))) (g-state, ((refl, f-ns), (g-settings, (signed f-id, tt))))) (λ _. tt) (λ _. id⊢ 𝓤 _)
-      (λ out. out ≡ replyOf (step (worldOf records stamps state) ns settings (query (area (toZ w32 id))))) (λ _ out ws. id⊢ 𝓤 _) (λ hd′ _. ops hd′) (λ val′ out rel′ eq′. then′ val′ (subst (λ (obj′ : Reply). Is T-Reply.the-row obj′ (val′ ∷ [])) eq′ rel′))
+      (λ out. out ≡ replyIn (step (worldOf records stamps state) ns settings (query (area (toZ w32 id))))) (λ _ out ws. id⊢ 𝓤 _) (λ hd′ _. ops hd′) (λ val′ out rel′ eq′. then′ val′ (subst (λ (obj′ : Reply). Is T-Reply.the-row obj′ (val′ ∷ [])) eq′ rel′))
 
   pub is-registered-step : K → Site K W Γ C E #queries·is-registered xs G after → (mem : Memory → SProp 𝓤) (run : Routine → Fun 𝓤) → Triple 𝓤 (C #queries·is-registered) (IsRegisteredSpec 𝓤 H A mem run)
       → (id : ℕ) → Fits w32 id → (state : State) (v-state : Val) → Is T-State.the-row state (v-state ∷ [])
@@ -165,22 +165,22 @@ module _ {M : Type 1} {𝓤 : URA M} {H : Heap 𝓤} {A : Atoms 𝓤} {K : Type 
   pub owns-step : K → Site K W Γ C E #queries·owns xs G after → (mem : Memory → SProp 𝓤) (run : Routine → Fun 𝓤) → Triple 𝓤 (C #queries·owns) (OwnsSpec 𝓤 H A mem run)
       → (L-records : Loan) (records : List Arena) → (L-stamps : Loan) (stamps : List ℕ) → (state : State) (v-state : Val) → Is T-State.the-row state (v-state ∷ []) → (ns : ℕ) → ns < 2 ^ 64 → (settings : Settings) (v-settings : Val) → Is T-Settings.the-row settings (v-settings ∷ []) → (address : ℕ) → address < 2 ^ 64
       → ((hd′ : Item 𝓤) → Opds K W (hd′ ∷ Γ) E xs (sliceOf L-records ∷ sliceOf L-stamps ∷ v-state ∷ vint w64 ns ∷ v-settings ∷ vint w64 address ∷ []))
-      → ((val′ : Val) → Is T-Reply.the-row (replyOf (step (worldOf records stamps state) ns settings (query (owns address)))) (val′ ∷ []) → Seq K W ((‵ (lent T-Arena.the-row L-records records) ⊛ (‵ (lent u32 L-stamps stamps) ⊛ more)) ∷ Γ) (after val′))
+      → ((val′ : Val) → Is T-Reply.the-row (replyIn (step (worldOf records stamps state) ns settings (query (owns address)))) (val′ ∷ []) → Seq K W ((‵ (lent T-Arena.the-row L-records records) ⊛ (‵ (lent u32 L-stamps stamps) ⊛ more)) ∷ Γ) (after val′))
       → Seq K W ((‵ (lent T-Arena.the-row L-records records) ⊛ (‵ (lent u32 L-stamps stamps) ⊛ more)) ∷ Γ) G
   owns-step bang site mem run known L-records records L-stamps stamps state v-state g-state ns f-ns settings v-settings g-settings address f-address ops then′ =
       shr2-call bang site T-Arena.the-row u32 L-records L-stamps T-Reply.the-row (plain (λ _. T-State.the-row) ∷ plain (λ _. u64) ∷ plain (λ _. T-Settings.the-row) ∷ plain (λ _. u64) ∷ []) (yes, (yes, (yes, (yes, tt)))) (owns′.clauses 𝓤 H A mem run) known records stamps (λ _. (state, (ns, (settings, (address, tt))))) (λ _. (v-state ∷ [], (vint w64 ns ∷ [], (v-settings ∷ [], (vint w64 address ∷ [], tt)))))
       (λ _. owns-make 𝓤 H A (T-State.the-row ∷ u64 ∷ T-Settings.the-row ∷ u64 ∷ []) (Ises (T-State.the-row ∷ u64 ∷ T-Settings.the-row ∷ u64 ∷ [])) (LL.makes T-State.the-type L-State.the-plain 𝓤 H A, (uint-makes 𝓤 H A W w64, (LL.makes T-Settings.the-type L-Settings.the-plain 𝓤 H A, (uint-makes 𝓤 H A W w64, tt)))) (state, (ns, (settings, (address, tt)))) (v-state ∷ [], (vint w64 ns ∷ [], (v-settings ∷ [], (vint w64 address ∷ [], tt)))) (g-state, ((refl, f-ns), (g-settings, ((refl, f-address), tt))))) (λ _ _ _. tt) (λ _ _ _. id⊢ 𝓤 _)
-      (λ out. out ≡ replyOf (step (worldOf records stamps state) ns settings (query (owns address)))) (λ _ _ _ out ws. id⊢ 𝓤 _) (λ hd′ _. ops hd′) (λ val′ out rel′ eq′. then′ val′ (subst (λ (obj′ : Reply). Is T-Reply.the-row obj′ (val′ ∷ [])) eq′ rel′))
+      (λ out. out ≡ replyIn (step (worldOf records stamps state) ns settings (query (owns address)))) (λ _ _ _ out ws. id⊢ 𝓤 _) (λ hd′ _. ops hd′) (λ val′ out rel′ eq′. then′ val′ (subst (λ (obj′ : Reply). Is T-Reply.the-row obj′ (val′ ∷ [])) eq′ rel′))
 
   pub owns-pass : K → Site K W Γ C E #queries·owns xs G after → (mem : Memory → SProp 𝓤) (run : Routine → Fun 𝓤) → Triple 𝓤 (C #queries·owns) (OwnsSpec 𝓤 H A mem run)
       → (L-records : Loan) (records : List Arena) → (L-stamps : Loan) (stamps : List ℕ) → (state : State) (v-state : Val) → Is T-State.the-row state (v-state ∷ []) → (ns : ℕ) → ns < 2 ^ 64 → (settings : Settings) (v-settings : Val) → Is T-Settings.the-row settings (v-settings ∷ []) → (address : ℕ) → address < 2 ^ 64
       → ((hd′ : Item 𝓤) → Opds K W (hd′ ∷ Γ) E xs (sliceOf L-records ∷ sliceOf L-stamps ∷ v-state ∷ vint w64 ns ∷ v-settings ∷ vint w64 address ∷ []))
-      → ((val′ : Val) → Is T-Reply.the-row (replyOf (step (worldOf records stamps state) ns settings (query (owns address)))) (val′ ∷ []) → Seq K W ((‵ (shared T-Arena.the-row L-records records) ⊛ (‵ (shared u32 L-stamps stamps) ⊛ more)) ∷ Γ) (after val′))
+      → ((val′ : Val) → Is T-Reply.the-row (replyIn (step (worldOf records stamps state) ns settings (query (owns address)))) (val′ ∷ []) → Seq K W ((‵ (shared T-Arena.the-row L-records records) ⊛ (‵ (shared u32 L-stamps stamps) ⊛ more)) ∷ Γ) (after val′))
       → Seq K W ((‵ (shared T-Arena.the-row L-records records) ⊛ (‵ (shared u32 L-stamps stamps) ⊛ more)) ∷ Γ) G
   owns-pass bang site mem run known L-records records L-stamps stamps state v-state g-state ns f-ns settings v-settings g-settings address f-address ops then′ =
       ss-call bang site T-Arena.the-row u32 L-records L-stamps T-Reply.the-row (plain (λ _. T-State.the-row) ∷ plain (λ _. u64) ∷ plain (λ _. T-Settings.the-row) ∷ plain (λ _. u64) ∷ []) (yes, (yes, (yes, (yes, tt)))) (owns′.clauses 𝓤 H A mem run) known records stamps (λ _. (state, (ns, (settings, (address, tt))))) (λ _. (v-state ∷ [], (vint w64 ns ∷ [], (v-settings ∷ [], (vint w64 address ∷ [], tt)))))
       (λ _. owns-make 𝓤 H A (T-State.the-row ∷ u64 ∷ T-Settings.the-row ∷ u64 ∷ []) (Ises (T-State.the-row ∷ u64 ∷ T-Settings.the-row ∷ u64 ∷ [])) (LL.makes T-State.the-type L-State.the-plain 𝓤 H A, (uint-makes 𝓤 H A W w64, (LL.makes T-Settings.the-type L-Settings.the-plain 𝓤 H A, (uint-makes 𝓤 H A W w64, tt)))) (state, (ns, (settings, (address, tt)))) (v-state ∷ [], (vint w64 ns ∷ [], (v-settings ∷ [], (vint w64 address ∷ [], tt)))) (g-state, ((refl, f-ns), (g-settings, ((refl, f-address), tt))))) (λ _. tt) (λ _. id⊢ 𝓤 _)
-      (λ out. out ≡ replyOf (step (worldOf records stamps state) ns settings (query (owns address)))) (λ _ out ws. id⊢ 𝓤 _) (λ hd′ _. ops hd′) (λ val′ out rel′ eq′. then′ val′ (subst (λ (obj′ : Reply). Is T-Reply.the-row obj′ (val′ ∷ [])) eq′ rel′))
+      (λ out. out ≡ replyIn (step (worldOf records stamps state) ns settings (query (owns address)))) (λ _ out ws. id⊢ 𝓤 _) (λ hd′ _. ops hd′) (λ val′ out rel′ eq′. then′ val′ (subst (λ (obj′ : Reply). Is T-Reply.the-row obj′ (val′ ∷ [])) eq′ rel′))
 
   pub owns-answer-step : K → Site K W Γ C E #queries·owns-answer xs G after → (mem : Memory → SProp 𝓤) (run : Routine → Fun 𝓤) → Triple 𝓤 (C #queries·owns-answer) (OwnsAnswerSpec 𝓤 H A mem run)
       → (whether : Bool)

@@ -1,38 +1,14 @@
--- The queries: row 1, and behind it the cores' answers are the layer's. Assumes nothing.
-use mathlib.Core.Path.{_≡_, refl, sym, ap, _∙_}
-use mathlib.Core.Bool.{Bool, true, false, cond, true≢false}
-use mathlib.Core.List.{List}
-use Prim.Native.Nat.{ℕ, _*_, _<_, _≤_}
-use native.Mathlib.Omega.{arith}
-use borrow.Author.Tests.{ltb-true}
-use lib.Dec.{ltb}
-use lib.IntN.{ℤ, pos, negsuc, natAbs}
-use lib.ListN.{length}
-use Rattle.refusals.specs.declared.Refusal.the-variants.{Broken}
-use Rattle.words.proofs.Tests.{when, unless}
-use Rattle.arena.specs.declared.Arena.{Arena}
-use Rattle.lookup.specs.Place.{bytesOf}
-use Rattle.layer.specs.declared.Answer.{Answer}
-use Rattle.layer.specs.declared.Answer.the-variants.{Area}
-use Rattle.layer.specs.declared.Reply.{Reply}
-use Rattle.layer.specs.declared.Settings.{Settings}
-use Rattle.layer.specs.declared.State.{State}
-use Rattle.layer.specs.World.{sizeOf, worldOf, replyOf, reply, turnDown}
-use Rattle.layer.specs.Table.{at, soundLent}
-use Rattle.layer.specs.Step.{Query, query, queryOn, areaOf, step}
+-- The queries: behind row 1 the cores' answers are the layer's. Assumes nothing.
+use Rattle.state.proofs.Prelude.{_≡_, refl, sym, ap, true, false, true≢false, List, ℕ, _*_, _<_, _≤_, arith, ltb-true, ℤ, pos, negsuc, natAbs, length, when, unless, Arena, bytesOf, Area, Settings, State, sizeOf, worldOf, replyIn, reply, at, Query, query, queryOn, step}
+use Rattle.layer.specs.Step.{areaOf}
 use Rattle.state.specs.Ready.{Standing}
-use Rattle.state.proofs.Entry.{Passes, broken, goes, stands}
+use Rattle.state.proofs.Entry.{Passes, goes, stands}
 use Rattle.queries.specs.Registered.{isRegistered}
 
--- the rows of both entry points
-module _ (l : List Arena) (stamps : List ℕ) (state : State) (ns : ℕ) (settings : Settings) (c : Query) where
-  pub broken-row : soundLent (sizeOf state) l (length stamps) state (settings .page) ≡ false
-      → turnDown Broken state ≡ replyOf (step (worldOf l stamps state) ns settings (query c))
-  broken-row e = sym (ap replyOf (broken l stamps state ns settings e (query c)))
-
-  pub answered-row : Passes l stamps state ns settings
-      → reply (queryOn (sizeOf state) l stamps (state .count) (state .mark) (state .question) ns settings c) state ≡ replyOf (step (worldOf l stamps state) ns settings (query c))
-  answered-row e = sym (ap replyOf (goes l stamps state ns settings e (query c)))
+-- past row 1
+pub answered-row : (l : List Arena) (stamps : List ℕ) (state : State) (ns : ℕ) (settings : Settings) (c : Query) → Passes l stamps state ns settings
+    → reply (queryOn (sizeOf state) l stamps (state .count) (state .mark) (state .question) ns settings c) state ≡ replyIn (step (worldOf l stamps state) ns settings (query c))
+answered-row l stamps state ns settings c e = sym (ap replyIn (goes l stamps state ns settings e (query c)))
 
 -- areas
 module _ (l : List Arena) (state : State) (standing : Standing l state) where

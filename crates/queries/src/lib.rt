@@ -6,18 +6,18 @@ ghost use Prim.Native.Nat.{_*_, _≤_};
 ghost use lib.IntN.{natAbs};
 ghost use Rattle.arena.specs.ChunkSize.{ChunkSize};
 ghost use Rattle.layer.specs.declared.Answer.the-variants.{Owns, Area};
-ghost use Rattle.layer.specs.World.{sizeOf, worldOf, replyOf, reply};
+ghost use Rattle.layer.specs.World.{sizeOf, worldOf, replyIn, reply};
 ghost use Rattle.layer.specs.Table.{isAt, findArena};
 ghost use Rattle.layer.specs.Step.{owns, area, areaOf, step, query};
 ghost use Rattle.state.specs.Ready.{Standing};
 ghost use Rattle.queries.specs.Registered.{isRegistered};
 use arena::Arena;
-use judge::Head;
 use layer::Answer;
 use layer::Reply;
 use layer::Settings;
 use layer::State;
 use refusals::Refusal;
+use table::heads::Head;
 
 // A query's answer leaves the state.
 fn answered(answer: Answer, state: State) -> Reply
@@ -35,7 +35,7 @@ pub fn lies_in_arena(records: &[Arena], state: State, address: u64) -> bool
 {
     let size = state::chunk_size(state);
     let f = table::find_arena(records, state.count, size, address);
-    judge::row_parts::is_at(f)
+    table::row_parts::is_at(f)
 }
 
 fn owns_answer(whether: bool) -> Answer
@@ -53,7 +53,7 @@ pub fn owns(
     settings: Settings,
     address: u64,
 ) -> Reply
-    ensures { λ r. ⌜ r ≡ replyOf (step (worldOf (now (records .entry)) (now (stamps .entry)) state) ns settings (query (owns address))) ⌝ }
+    ensures { λ r. ⌜ r ≡ replyIn (step (worldOf (now (records .entry)) (now (stamps .entry)) state) ns settings (query (owns address))) ⌝ }
 {
     let size = state::chunk_size(state);
     if !table::row_one(records, stamps.len(), state, settings.page, size) {
@@ -124,7 +124,7 @@ pub fn arena_area(
     settings: Settings,
     id: i32,
 ) -> Reply
-    ensures { λ r. ⌜ r ≡ replyOf (step (worldOf (now (records .entry)) (now (stamps .entry)) state) ns settings (query (area id))) ⌝ }
+    ensures { λ r. ⌜ r ≡ replyIn (step (worldOf (now (records .entry)) (now (stamps .entry)) state) ns settings (query (area id))) ⌝ }
 {
     let size = state::chunk_size(state);
     if !table::row_one(records, stamps.len(), state, settings.page, size) {

@@ -1,31 +1,10 @@
 -- Each return of an adopt's core leaves what the definition of an adopt says. Assumes nothing.
-use mathlib.Core.Path.{_≡_, sym, ap, subst, _∙_}
-use mathlib.Core.Bool.{Bool, true, false, cond, not, _&&_}
-use mathlib.Core.List.{List}
-use Prim.Native.Nat.{ℕ, _+_, _/_, _%_, _≤_, _<_}
-use native.Mathlib.Omega.{arith}
-use borrow.Author.Tests.{leb-true}
-use lib.Dec.{eqb}
-use lib.ListN.{length, set}
-use Rattle.refusals.specs.declared.Refusal.the-variants.{Zero, Range, NotWhole}
-use Rattle.words.proofs.Tests.{when, unless}
-use Rattle.runs.specs.declared.Found.{Found}
-use Rattle.runs.specs.declared.Found.the-variants.{At}
-use Rattle.runs.proofs.LowestLaws.{First, first-says}
-use Rattle.runs.proofs.SearchLaws.{and-both}
-use Rattle.arena.specs.declared.Arena.{Arena}
-use Rattle.arena.specs.Flags.{isOn}
+use Rattle.state.proofs.Prelude.{_≡_, sym, ap, subst, _∙_, Bool, true, false, cond, not, _&&_, List, ℕ, _+_, _/_, _%_, _≤_, _<_, arith, leb-true, eqb, length, set, Zero, Range, NotWhole, when, unless, Found, At, First, first-says, and-both, Arena, isOn, endOf, State, Reply, Registered, Outcome, sizeOf, reply, Leaves, turnDown, calm, at, isAt, idFound, badRange, grows, growing}
 use Rattle.arena.specs.Registering.{adoptedArena, grownArena}
-use Rattle.lookup.specs.Place.{endOf}
-use Rattle.layer.specs.declared.State.{State}
-use Rattle.layer.specs.declared.Reply.{Reply}
-use Rattle.layer.specs.declared.Answer.the-variants.{Registered}
-use Rattle.layer.specs.World.{Outcome, sizeOf, reply, Leaves, turnDown, calm}
-use Rattle.layer.specs.Table.{at, isAt, idFound, badRange}
-use Rattle.layer.specs.Registering.{grows, growing, grown, adoptOf}
+use Rattle.layer.specs.Registering.{grown, adoptOf}
 use Rattle.state.specs.Ready.{Ready}
 use Rattle.state.proofs.Entry.{comes}
-use Rattle.registering.specs.New.{newArena}
+use Rattle.registering.specs.New.{registerNew}
 use Rattle.registering.proofs.RegisterLaws.{down}
 
 grows-fits : (S : ℕ) (a : Arena) (address n : ℕ) → grows S a address n ≡ true → a .chunks + n ≤ 1024
@@ -72,15 +51,15 @@ module _ (l : List Arena) (stamps : List ℕ) (state : State) (address size : �
       module _ (good : badRange (sizeOf state) l (state .count) address size ≡ false) where
         -- growth of the arena that was found, or the new arena
         abbrev by : Found → Outcome
-        by f = cond (isAt f) (grown (sizeOf state) l stamps (state .count) (state .mark) (idFound f) n) (newArena l stamps (state .count) (state .mark) n (adoptedArena address n))
+        by f = cond (isAt f) (grown (sizeOf state) l stamps (state .count) (state .mark) (idFound f) n) (registerNew l stamps (state .count) (state .mark) n (adoptedArena address n))
 
         searched : out ≡ by g
-        unfolding adoptOf newArena
+        unfolding adoptOf registerNew
         searched = unless _ _ _ some ∙ unless _ _ _ (ap not whole) ∙ unless _ _ _ good
 
         pub grown-row : (i : ℕ) → g ≡ At i → Leaves out (reply (Registered i) (calm (state .count) (state .mark))) (set l i (grownArena (at l i) n)) stamps
         grown-row i e = comes out _ _ stamps (searched ∙ ap by e)
 
         pub adopted : isAt g ≡ false → (r : Reply) (m : List Arena) (t : List ℕ)
-            → Leaves (newArena l stamps (state .count) (state .mark) n (adoptedArena address n)) r m t → Leaves out r m t
+            → Leaves (registerNew l stamps (state .count) (state .mark) n (adoptedArena address n)) r m t → Leaves out r m t
         adopted e r m t h = subst (λ (o : Outcome). Leaves o r m t) (sym (searched ∙ unless _ _ _ e)) h

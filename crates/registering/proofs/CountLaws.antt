@@ -1,12 +1,6 @@
 -- Bytes in whole chunks, and a number of chunks that may be registered. S is the size of a chunk. Assumes nothing.
-use mathlib.Core.Path.{_≡_}
-use mathlib.Core.Bool.{true, false}
-use Prim.Native.Nat.{ℕ, _+_, _-_, _*_, _/_, _%_, _≤_, _<_}
-use native.Mathlib.Nat.{mod-lt, div-add-mod', div-eq-of-lt-le, mul-le-mul, div-mul-le-self}
-use native.Mathlib.Omega.{arith}
-use borrow.Author.Tests.{ltb-false, eq-eqb, ne-eqb}
-use lib.Dec.{eqb, ltb}
-use Rattle.layer.specs.Registering.{chunksFor, badCount}
+use Rattle.state.proofs.Prelude.{_≡_, true, false, ℕ, _+_, _*_, _/_, _%_, _≤_, _<_, mul-le-mul, arith, ltb-false, eq-eqb, ne-eqb, eqb, ltb, chunksFor, badCount}
+use native.Mathlib.Nat.{mod-lt, div-add-mod', div-eq-of-lt-le}
 use Rattle.registering.proofs.TestLaws.{or-first, or-second, neither}
 
 module _ (S size : ℕ) (some : 0 < S) where
@@ -29,10 +23,6 @@ module _ (S size : ℕ) (some : 0 < S) where
       let h : size / S * S + size % S ≡ size = div-add-mod' size S in
       let m : size / S * 1 ≤ size / S * S = mul-le-mul (let r : size / S ≤ size / S = omega arith in r) some in
       omega arith
-
-  pub chunks-below : chunksFor S size * S < size + S
-  unfolding chunksFor
-  chunks-below = let h : (size + (S - 1)) / S * S ≤ size + (S - 1) = div-mul-le-self (size + (S - 1)) S in omega arith
 
 module _ (chunks : ℕ) where
   pub count-zero : chunks ≡ 0 → badCount chunks ≡ true

@@ -6,5 +6,4 @@ pub mod WholeLaws
 pub mod RegisterLaws
 pub mod ManageLaws
 pub mod AdoptLaws
-pub mod EntryLaws
 pub mod Callable

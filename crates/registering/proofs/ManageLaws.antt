@@ -1,21 +1,10 @@
 -- Each return of a manage's core leaves what the definition of a manage says. Assumes nothing.
-use mathlib.Core.Path.{_≡_, sym, subst, _∙_}
-use mathlib.Core.Bool.{Bool, true, false, not, _||_}
-use mathlib.Core.List.{List}
-use Prim.Native.Nat.{ℕ, _-_, _/_}
-use lib.IntN.{ℤ}
-use Rattle.refusals.specs.declared.Refusal.the-variants.{Range, NoWholeChunk, HostRefused}
-use Rattle.words.proofs.Tests.{when, unless}
-use Rattle.arena.specs.declared.Arena.{Arena}
+use Rattle.state.proofs.Prelude.{_≡_, sym, subst, _∙_, Bool, true, false, not, _||_, List, ℕ, _-_, _/_, ℤ, Range, NoWholeChunk, HostRefused, when, unless, Arena, State, Reply, Outcome, sizeOf, Leaves, turnDown, badRange, firstWhole, pastWhole, noWholeChunk}
 use Rattle.arena.specs.Registering.{managedArena}
-use Rattle.layer.specs.declared.State.{State}
-use Rattle.layer.specs.declared.Reply.{Reply}
-use Rattle.layer.specs.World.{Outcome, sizeOf, Leaves, turnDown}
-use Rattle.layer.specs.Table.{badRange}
-use Rattle.layer.specs.Registering.{firstWhole, pastWhole, noWholeChunk, manageOf}
+use Rattle.layer.specs.Registering.{manageOf}
 use Rattle.state.specs.Ready.{Ready}
 use Rattle.state.proofs.Entry.{comes}
-use Rattle.registering.specs.New.{newArena}
+use Rattle.registering.specs.New.{registerNew}
 use Rattle.registering.proofs.RegisterLaws.{down}
 
 module _ (l : List Arena) (stamps : List ℕ) (state : State) (start size : ℕ) (exclusive : Bool) (node : ℤ) (mapped reserved : Bool) (ready : Ready l state) where
@@ -43,6 +32,6 @@ module _ (l : List Arena) (stamps : List ℕ) (state : State) (start size : ℕ)
       range-row e = comes out _ l stamps (unless _ _ _ whole ∙ unless _ _ _ willing ∙ when _ _ _ e ∙ down l state ready stamps Range)
 
       pub managed : badRange (sizeOf state) l (state .count) base bytes ≡ false → (r : Reply) (m : List Arena) (t : List ℕ)
-          → Leaves (newArena l stamps (state .count) (state .mark) (bytes / sizeOf state) (managedArena base (bytes / sizeOf state) exclusive node)) r m t → Leaves out r m t
-      unfolding manageOf newArena
+          → Leaves (registerNew l stamps (state .count) (state .mark) (bytes / sizeOf state) (managedArena base (bytes / sizeOf state) exclusive node)) r m t → Leaves out r m t
+      unfolding manageOf registerNew
       managed e r m t h = subst (λ (o : Outcome). Leaves o r m t) (sym (unless _ _ _ whole ∙ unless _ _ _ willing ∙ unless _ _ _ e)) h

@@ -1,14 +1,5 @@
 -- Row 6 by its two parts: the ends of the range, and the arenas. S is the size of a chunk. Assumes nothing.
-use mathlib.Core.Path.{_≡_, refl, sym, _∙_}
-use mathlib.Core.Bool.{Bool, true, false, _||_}
-use mathlib.Core.List.{List}
-use Prim.Native.Nat.{ℕ, _+_, _-_, _^_, _<_, _≤_}
-use native.Mathlib.Omega.{arith}
-use borrow.Author.Tests.{eq-eqb, ne-eqb, ltb-true, lt-ltb, leb-true, le-leb}
-use lib.Dec.{eqb, leb, ltb}
-use Rattle.runs.proofs.SearchLaws.{same}
-use Rattle.arena.specs.declared.Arena.{Arena}
-use Rattle.layer.specs.Table.{overlaps, badRange}
+use Rattle.state.proofs.Prelude.{_≡_, refl, sym, _∙_, Bool, true, false, _||_, List, ℕ, _+_, _-_, _^_, _<_, _≤_, arith, eq-eqb, ne-eqb, ltb-true, lt-ltb, leb-true, le-leb, eqb, leb, ltb, same, Arena, overlaps, badRange}
 use Rattle.registering.proofs.TestLaws.{or-first, or-second, neither}
 
 -- the first of three tests, or the second

@@ -1,24 +1,8 @@
 -- A new arena, case by case: 12, 13, or its record and stamps; and what writing it requires. Assumes nothing.
-use mathlib.Core.Path.{_≡_, sym, ap, _∙_}
-use mathlib.Core.Bool.{true, false}
-use mathlib.Core.List.{List}
-use Prim.Native.Nat.{ℕ, suc, _+_, _*_, _<_}
-use native.Mathlib.Omega.{arith}
-use borrow.Author.Tests.{leb-false}
-use lib.Dec.{leb}
-use lib.ListN.{length}
-use Rattle.refusals.specs.declared.Refusal.{Refusal}
-use Rattle.refusals.specs.declared.Refusal.the-variants.{ChunkCount, TableFull}
-use Rattle.words.proofs.Tests.{when, unless}
-use Rattle.arena.specs.declared.Arena.{Arena}
-use Rattle.arena.specs.Releasing.{stampRun}
-use Rattle.layer.specs.declared.State.{State}
-use Rattle.layer.specs.declared.Answer.the-variants.{Registered}
-use Rattle.layer.specs.World.{Outcome, reply, after, Leaves, turnDown, calm}
-use Rattle.layer.specs.Registering.{badCount, withRecord, withStamps}
+use Rattle.state.proofs.Prelude.{_≡_, sym, ap, _∙_, true, false, List, ℕ, suc, _+_, _*_, _<_, arith, leb-false, leb, length, Refusal, ChunkCount, TableFull, when, unless, Arena, stampRun, State, Registered, Outcome, reply, after, Leaves, turnDown, calm, badCount, withRecord, withStamps}
 use Rattle.state.specs.Ready.{Ready, Stamped}
 use Rattle.state.proofs.Entry.{calm-is, comes}
-use Rattle.registering.specs.New.{newArena}
+use Rattle.registering.specs.New.{registerNew}
 
 pub from-first : (stamps : List ℕ) (k : ℕ) → stampRun stamps (1024 * k + 0) 1024 0 ≡ withStamps stamps k
 from-first stamps k = ap (λ (s : ℕ). stampRun stamps s 1024 0) (let e : 1024 * k + 0 ≡ 1024 * k = omega arith in e)
@@ -37,18 +21,18 @@ module _ (l : List Arena) (state : State) (ready : Ready l state) where
 
   module _ (stamps : List ℕ) (chunks : ℕ) (a : Arena) where
     abbrev out : Outcome
-    out = newArena l stamps (state .count) (state .mark) chunks a
+    out = registerNew l stamps (state .count) (state .mark) chunks a
 
     pub count-row : badCount chunks ≡ true → Leaves out (turnDown ChunkCount state) l stamps
-    unfolding newArena
+    unfolding registerNew
     count-row e = comes out _ l stamps (when _ _ _ e ∙ down stamps ChunkCount)
 
     module _ (good : badCount chunks ≡ false) where
       pub full-row : leb 32 (state .count) ≡ true → Leaves out (turnDown TableFull state) l stamps
-      unfolding newArena
+      unfolding registerNew
       full-row e = comes out _ l stamps (unless _ _ _ good ∙ when _ _ _ e ∙ down stamps TableFull)
 
       pub new-row : leb 32 (state .count) ≡ false
           → Leaves out (reply (Registered (state .count)) (calm (suc (state .count)) (state .mark))) (withRecord l (state .count) a) (withStamps stamps (state .count))
-      unfolding newArena
+      unfolding registerNew
       new-row e = comes out _ _ _ (unless _ _ _ good ∙ unless _ _ _ e)

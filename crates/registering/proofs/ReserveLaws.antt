@@ -1,13 +1,15 @@
--- A reserve whose whole chunks pass the last address, by counts. S is the size of a chunk. Assumes nothing.
-use mathlib.Core.Path.{_≡_}
-use mathlib.Core.Bool.{false}
-use Prim.Native.Nat.{ℕ, _+_, _*_, _/_, _^_, _≤_, _<_}
-use native.Mathlib.Nat.{div-lt-iff-lt-mul, mul-le-mul, lt-div-mul-add}
-use native.Mathlib.Omega.{arith}
-use borrow.Author.Tests.{le-leb, leb-true, leb-false}
-use lib.Dec.{leb}
-use Rattle.runs.proofs.SearchLaws.{same}
-use Rattle.layer.specs.Registering.{chunksFor, tooLarge}
+-- A reserve: what it leaves, and one whose whole chunks pass the last address, by counts. S is the size of a chunk. Assumes nothing.
+use Rattle.state.proofs.Prelude.{_≡_, refl, Bool, false, List, ℕ, _+_, _*_, _/_, _^_, _≤_, _<_, div-lt-iff-lt-mul, mul-le-mul, arith, le-leb, leb-true, leb-false, leb, same, Arena, State, sizeOf, Leaves, chunksFor, tooLarge, reserveReply}
+use native.Mathlib.Nat.{lt-div-mul-add}
+use Rattle.layer.specs.Registering.{reserveOf}
+use Rattle.state.proofs.Entry.{comes}
+
+-- a reserve writes nothing
+pub reserve-leaves : (l : List Arena) (stamps : List ℕ) (state : State) (size : ℕ) (commit large exclusive : Bool) (page : ℕ)
+    → let r = reserveReply (sizeOf state) (state .count) (state .mark) size commit large exclusive page in
+    Leaves (reserveOf (sizeOf state) l stamps (state .count) (state .mark) size commit large exclusive page) r l stamps
+unfolding reserveOf
+reserve-leaves l stamps state size commit large exclusive page = comes _ _ l stamps refl
 
 module _ (S size : ℕ) (some : 0 < S) where
   -- the product and one chunk more, by counts

@@ -1,6 +1,5 @@
 -- Two tests, one after the other. Assumes nothing.
-use mathlib.Core.Path.{_≡_, refl, ap}
-use mathlib.Core.Bool.{Bool, true, false, true≢false, _&&_, _||_}
+use Rattle.state.proofs.Prelude.{_≡_, refl, ap, Bool, true, false, true≢false, _&&_, _||_}
 
 pub or-first : (a b : Bool) → a ≡ true → a || b ≡ true
 or-first a b e = ap (λ (t : Bool). t || b) e

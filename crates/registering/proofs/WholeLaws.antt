@@ -1,15 +1,8 @@
 -- The whole chunks inside a range. S is the size of a chunk. Assumes nothing.
-use mathlib.Core.Path.{_≡_, sym, _∙_}
-use mathlib.Core.Bool.{true, false}
-use Prim.Native.Nat.{ℕ, _+_, _-_, _*_, _/_, _^_, _≤_, _<_}
-use native.Mathlib.Nat.{mul-le-mul, div-mul-le-self, le-of-mul-le-mul-right}
-use native.Mathlib.Omega.{arith}
-use borrow.Author.Tests.{le-leb, lt-leb, leb-true, leb-false, eq-eqb, ne-eqb}
-use lib.Dec.{eqb, leb}
-use Rattle.runs.proofs.SearchLaws.{same}
-use Rattle.layer.specs.Registering.{chunksFor, firstWhole, pastWhole, noWholeChunk}
+use Rattle.state.proofs.Prelude.{_≡_, sym, _∙_, true, false, ℕ, _+_, _-_, _*_, _/_, _^_, _≤_, _<_, mul-le-mul, div-mul-le-self, arith, le-leb, lt-leb, leb-true, leb-false, eq-eqb, ne-eqb, eqb, leb, same, chunksFor, firstWhole, pastWhole, noWholeChunk}
+use native.Mathlib.Nat.{le-of-mul-le-mul-right}
 use Rattle.registering.proofs.TestLaws.{or-first, or-second, neither}
-use Rattle.registering.proofs.CountLaws.{chunks-below}
+use Rattle.layer.proofs.ChunkLaws.{up-tight}
 
 module _ (S start size : ℕ) where
   -- where a whole chunk lies inside
@@ -61,7 +54,7 @@ module _ (S start size : ℕ) where
 
   module _ (whole : noWholeChunk S start size ≡ false) where
     pub base-fits : 0 < S → firstWhole S start < 2 ^ 64
-    base-fits some = let l : chunksFor S start * S < start + S = chunks-below S start some in omega (arith, whole-facts whole .up)
+    base-fits some = let l : chunksFor S start * S < start + S = up-tight S some start in omega (arith, whole-facts whole .up)
 
     pub past-fits : pastWhole S start size < 2 ^ 64
     past-fits = let l : pastWhole S start size ≤ start + size = div-mul-le-self (start + size) S in omega (arith, whole-facts whole .ends)

@@ -8,7 +8,7 @@ use Rattle.arena.specs.declared.Arena.{Arena}
 use Rattle.layer.specs.World.{Outcome, worldOf, calm, refuse, firstOf}
 use Rattle.layer.specs.Registering.{badCount, registered}
 
-unfoldable pub newArena : List Arena → List ℕ → ℕ → Bool → ℕ → Arena → Outcome
-newArena l stamps k mark chunks a =
+unfoldable pub registerNew : List Arena → List ℕ → ℕ → Bool → ℕ → Arena → Outcome
+registerNew l stamps k mark chunks a =
     let w = worldOf l stamps (calm k mark) in
     firstOf (refuse w ChunkCount (badCount chunks) ∷ refuse w TableFull (leb 32 k) ∷ []) (registered l stamps k mark a)

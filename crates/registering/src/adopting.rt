@@ -11,7 +11,7 @@ ghost use Rattle.layer.specs.World.{sizeOf, reply, Leaves, calm};
 ghost use Rattle.layer.specs.Table.{at};
 ghost use Rattle.layer.specs.Registering.{adoptOf};
 ghost use Rattle.state.specs.Ready.{Ready, Stamped};
-ghost use Rattle.registering.specs.New.{newArena};
+ghost use Rattle.registering.specs.New.{registerNew};
 use arena::Arena;
 use layer::Answer;
 use layer::Reply;
@@ -46,9 +46,9 @@ fn grow_at(records: &mut [Arena], state: State, i: usize, n: u64) -> Reply
     ensures { λ r. ⌜ (r ≡ reply (Registered i) (calm (state .count) (state .mark))) × (now (records .exit) ≡ set (now (records .entry)) i (grownArena (at (now (records .entry)) i) n)) ⌝ }
 {
     let more = crate::counts::as_recorded(n);
-    let a = records::load(records, i);
+    let a = table::records::load(records, i);
     let longer = arena::grow(a, more);
-    records::store(records, i, longer);
+    table::records::store(records, i, longer);
     grown(state, i)
 }
 
@@ -63,7 +63,7 @@ fn adopt_new(
     chunks: u64,
 ) -> Reply
     requires { ⌜ Ready (now records) state × Stamped (now stamps) ⌝ }
-    ensures { λ r. ⌜ Leaves (newArena (now (records .entry)) (now (stamps .entry)) (state .count) (state .mark) chunks (adoptedArena address chunks)) r (now (records .exit)) (now (stamps .exit)) ⌝ }
+    ensures { λ r. ⌜ Leaves (registerNew (now (records .entry)) (now (stamps .entry)) (state .count) (state .mark) chunks (adoptedArena address chunks)) r (now (records .exit)) (now (stamps .exit)) ⌝ }
 {
     if crate::counts::has_bad_count(chunks) {
         return state::refuse(Refusal::ChunkCount, state);
@@ -102,8 +102,8 @@ pub fn adopt(
     }
     let n = crate::counts::whole_chunks(size, chunk_size);
     let f = table::find_growing(records, k, chunk_size, address, n);
-    if judge::row_parts::is_at(f) {
-        let i = judge::row_parts::id_of(f);
+    if table::row_parts::is_at(f) {
+        let i = table::row_parts::id_of(f);
         return grow_at(records, state, i, n);
     }
     adopt_new(records, stamps, state, address, n)

@@ -7,7 +7,7 @@ ghost use Rattle.arena.specs.Registering.{managedArena};
 ghost use Rattle.layer.specs.World.{sizeOf, Leaves};
 ghost use Rattle.layer.specs.Registering.{firstWhole, pastWhole, noWholeChunk, manageOf};
 ghost use Rattle.state.specs.Ready.{Ready, Stamped};
-ghost use Rattle.registering.specs.New.{newArena};
+ghost use Rattle.registering.specs.New.{registerNew};
 use arena::Arena;
 use arena::LAST;
 use layer::Reply;
@@ -74,7 +74,7 @@ fn manage_new(
     node: i32,
 ) -> Reply
     requires { ⌜ Ready (now records) state × Stamped (now stamps) ⌝ }
-    ensures { λ r. ⌜ Leaves (newArena (now (records .entry)) (now (stamps .entry)) (state .count) (state .mark) chunks (managedArena base chunks exclusive node)) r (now (records .exit)) (now (stamps .exit)) ⌝ }
+    ensures { λ r. ⌜ Leaves (registerNew (now (records .entry)) (now (stamps .entry)) (state .count) (state .mark) chunks (managedArena base chunks exclusive node)) r (now (records .exit)) (now (stamps .exit)) ⌝ }
 {
     if crate::counts::has_bad_count(chunks) {
         return state::refuse(Refusal::ChunkCount, state);

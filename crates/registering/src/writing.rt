@@ -16,8 +16,8 @@ pub fn write_new(records: &mut [Arena], stamps: &mut [u32], k: usize, a: Arena)
     requires { ⌜ (k < length (now records)) × (k < 32) × Stamped (now stamps) ⌝ }
     ensures { λ _. ⌜ (now (records .exit) ≡ withRecord (now (records .entry)) k a) × (now (stamps .exit) ≡ withStamps (now (stamps .entry)) k) ⌝ }
 {
-    records::store(records, k, a);
-    purge::stamp_run_of(stamps, k, 0, 1024, 0);
+    table::records::store(records, k, a);
+    arena::purge::stamp_run_of(stamps, k, 0, 1024, 0);
 }
 
 // The new arena's id, and one arena more.

@@ -1,4 +1,4 @@
--- Functions of `releasing` that a walk calls, each in one step: chunk-release-step, delay-of-step, fits-step, is-whole-step, offset-of-step, release-step, release-in-step, released-step, start-of-step. Written by tools/walks.
+-- Functions of `releasing` that a walk calls, each in one step: chunk-release-step, delay-of-step, fits-step, is-untold-step, is-whole-step, offset-of-step, release-step, release-in-step, released-step, start-of-step. Written by tools/walks.
 -- Assumes `Given`, the callee's theorem, and that the table of calls is monotone under a frame.
 use Rattle.walks.proofs.Walking.{_≡_, refl, sym, _∙_, ap, subst, Bool, ℕ, _<_, _≤_, _+_, _*_, _^_, List, [], _∷_, eqb, leb, length, set, w32, w64, Operand, Val, vint, vbool, URA, SProp, emp, id⊢, Memory, Routine, Heap, Env, Calls, Atoms, Given, Item, Goal, Seq, ‵, _⊛_, Opds, Fun, factI, bool, u32, u64, usize, yes, Is, Ises, owns-make, uint-makes, bool-tells, bool-makes, plain, only, tripleOf, Contract, Triple, Loan, lent, sliceOf, Site, plain-call, mut2-call}
 use Rattle.layer.proofs.State as T-State
@@ -11,8 +11,8 @@ use Rattle.arena.proofs.Commitment.Laws as L-Commitment
 use denote.Enum.Laws as EL
 use Rattle.arena.proofs.Arena as T-Arena
 use Rattle.layer.proofs.Reply as T-Reply
-use Rattle.judge.proofs.Head as T-Head
-use Rattle.judge.proofs.Head.Laws as L-Head
+use Rattle.table.proofs.heads.Head as T-Head
+use Rattle.table.proofs.heads.Head.Laws as L-Head
 use Rattle.layer.specs.declared.State.{State}
 use Rattle.layer.specs.declared.Settings.{Settings}
 use Rattle.arena.specs.declared.Commitment.{Commitment}
@@ -21,7 +21,8 @@ use Rattle.layer.specs.declared.Reply.{Reply}
 use Rattle.layer.specs.World.{worldOf, Leaves, sizeOf, reply, calm}
 use Rattle.layer.specs.Step.{release, step, act}
 use Rattle.clock.specs.Clock.{delayMs, nowMs}
-use Rattle.judge.specs.declared.Head.{Head}
+use Rattle.table.specs.declared.heads.Head.{Head}
+use Rattle.releasing.specs.Told.{isUntold}
 use Prim.Native.Nat.{_%_, _-_, _/_}
 use Rattle.layer.specs.Releasing.{releaseOf}
 use Rattle.state.specs.Ready.{Ready, Stamped}
@@ -35,6 +36,8 @@ use Rattle.releasing.proofs.delay_of as delay-of′
 use Rattle.releasing.proofs.delay_of.Symbol.{name as #releasing·delay-of}
 use Rattle.releasing.proofs.fits as fits′
 use Rattle.releasing.proofs.fits.Symbol.{name as #releasing·fits}
+use Rattle.releasing.proofs.is_untold as is-untold′
+use Rattle.releasing.proofs.is_untold.Symbol.{name as #releasing·is-untold}
 use Rattle.releasing.proofs.is_whole as is-whole′
 use Rattle.releasing.proofs.is_whole.Symbol.{name as #releasing·is-whole}
 use Rattle.releasing.proofs.offset_of as offset-of′
@@ -58,6 +61,9 @@ module _ {M : Type 1} (𝓤 : URA M) (H : Heap 𝓤) (A : Atoms 𝓤) (mem : Mem
 
   abbrev pub FitsSpec : Contract 𝓤
   FitsSpec = tripleOf 𝓤 H A fits′.signature (fits′.spec 𝓤 H A mem run)
+
+  abbrev pub IsUntoldSpec : Contract 𝓤
+  IsUntoldSpec = tripleOf 𝓤 H A is-untold′.signature (is-untold′.spec 𝓤 H A mem run)
 
   abbrev pub IsWholeSpec : Contract 𝓤
   IsWholeSpec = tripleOf 𝓤 H A is-whole′.signature (is-whole′.spec 𝓤 H A mem run)
@@ -107,6 +113,16 @@ module _ {M : Type 1} {𝓤 : URA M} {H : Heap 𝓤} {A : Atoms 𝓤} {K : Type 
       plain-call bang site bool (plain (λ _. T-Head.the-row) ∷ plain (λ _. usize) ∷ plain (λ _. usize) ∷ []) (yes, (yes, (yes, tt))) (fits′.clauses 𝓤 H A mem run) known (h, (s, (n, tt))) (v-h ∷ [], (vint w64 s ∷ [], (vint w64 n ∷ [], tt)))
       (owns-make 𝓤 H A (T-Head.the-row ∷ usize ∷ usize ∷ []) (Ises (T-Head.the-row ∷ usize ∷ usize ∷ [])) (LL.makes T-Head.the-type L-Head.the-plain 𝓤 H A, (uint-makes 𝓤 H A W w64, (uint-makes 𝓤 H A W w64, tt))) (h, (s, (n, tt))) (v-h ∷ [], (vint w64 s ∷ [], (vint w64 n ∷ [], tt))) (g-h, ((refl, f-s), ((refl, f-n), tt)))) tt (factI 𝓤 _ (emp 𝓤) need)
       (λ out. out ≡ leb (s + n) (h .chunks)) (λ out ws. id⊢ 𝓤 _) ops (λ val′ out rel′ eq′. subst (λ (new′ : Val). Seq K W (more ∷ Γ) (after new′)) (sym (ap only (bool-tells out (val′ ∷ []) rel′) ∙ ap vbool eq′)) (then′))
+
+  pub is-untold-step : K → Site K W Γ C E #releasing·is-untold xs G after → (mem : Memory → SProp 𝓤) (run : Routine → Fun 𝓤) → Triple 𝓤 (C #releasing·is-untold) (IsUntoldSpec 𝓤 H A mem run)
+      → (told : Commitment) (v-told : Val) → Is T-Commitment.the-row told (v-told ∷ [])
+      → ((hd′ : Item 𝓤) → Opds K W (hd′ ∷ Γ) E xs (v-told ∷ []))
+      → (Seq K W (more ∷ Γ) (after (vbool (isUntold told))))
+      → Seq K W (more ∷ Γ) G
+  is-untold-step bang site mem run known told v-told g-told ops then′ =
+      plain-call bang site bool (plain (λ _. T-Commitment.the-row) ∷ []) (yes, tt) (is-untold′.clauses 𝓤 H A mem run) known (told, tt) (v-told ∷ [], tt)
+      (owns-make 𝓤 H A (T-Commitment.the-row ∷ []) (Ises (T-Commitment.the-row ∷ [])) (EL.makes T-Commitment.the-type L-Commitment.the-plain 𝓤 H A, tt) (told, tt) (v-told ∷ [], tt) (g-told, tt)) tt (id⊢ 𝓤 _)
+      (λ out. out ≡ isUntold told) (λ out ws. id⊢ 𝓤 _) ops (λ val′ out rel′ eq′. subst (λ (new′ : Val). Seq K W (more ∷ Γ) (after new′)) (sym (ap only (bool-tells out (val′ ∷ []) rel′) ∙ ap vbool eq′)) (then′))
 
   pub is-whole-step : K → Site K W Γ C E #releasing·is-whole xs G after → (mem : Memory → SProp 𝓤) (run : Routine → Fun 𝓤) → Triple 𝓤 (C #releasing·is-whole) (IsWholeSpec 𝓤 H A mem run)
       → (offset : ℕ) → offset < 2 ^ 64 → (chunk-size : ℕ) → chunk-size < 2 ^ 64 → (0 < chunk-size)

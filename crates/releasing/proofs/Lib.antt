@@ -1,4 +1,3 @@
 pub mod RecordLaws
 pub mod RowLaws
-pub mod EntryLaws
 pub mod Callable

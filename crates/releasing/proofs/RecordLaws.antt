@@ -1,16 +1,15 @@
 -- A release in one record is the definition's, pending or not. Assumes nothing.
-use mathlib.Core.Path.{_≡_, refl, sym, ap}
-use mathlib.Core.Bool.{Bool, true, false, cond}
-use mathlib.Core.List.{List}
-use Prim.Native.Nat.{ℕ, _+_, _*_}
-use lib.ListN.{set}
-use Rattle.words.proofs.Tests.{when, unless}
-use Rattle.arena.specs.declared.Arena.{Arena}
-use Rattle.arena.specs.declared.Commitment.{Commitment}
-use Rattle.arena.specs.Claiming.{giveBackRun}
-use Rattle.arena.specs.Releasing.{tellRun, pendRun, releaseRun, stampRun}
-use Rattle.layer.specs.declared.Reply.{Reply}
-use Rattle.layer.specs.Table.{at}
+use Rattle.state.proofs.Prelude.{_≡_, refl, sym, ap, _∙_, Bool, true, false, true≢false, cond, List, ℕ, _+_, _*_, set, when, unless, Arena, Commitment, giveBackRun, releaseRun, stampRun, Reply, at}
+use Rattle.arena.specs.Releasing.{tellRun, pendRun}
+use Rattle.releasing.specs.Told.{isUntold}
+use Rattle.arena.specs.declared.Commitment.the-variants.{Untold, Committed, Uncommitted}
+
+-- nothing told, nothing changed
+same : (a : Arena) (s n : ℕ) (told : Commitment) → isUntold told ≡ true → a ≡ tellRun a s n told
+unfolding tellRun
+same a s n Untold e = refl
+same a s n Committed e = absurd (true≢false (sym e))
+same a s n Uncommitted e = absurd (true≢false (sym e))
 
 module _ (r : Reply) (l : List Arena) (stamps : List ℕ) (i s n : ℕ) (told : Commitment) (pending : Bool) (ms delay : ℕ) where
   abbrev given : Arena
@@ -26,3 +25,6 @@ module _ (r : Reply) (l : List Arena) (stamps : List ℕ) (i s n : ℕ) (told : 
   pub waits-not : pending ≡ false → Released (set l i given) stamps
   unfolding releaseRun
   waits-not e = (refl, ap (set l i) (sym (unless _ _ _ e)), sym (unless _ _ _ e))
+
+  pub untold : pending ≡ false → isUntold told ≡ true → Released (set l i (giveBackRun (at l i) s n)) stamps
+  untold e u = let h = waits-not e in (refl, ap (set l i) (same (giveBackRun (at l i) s n) s n told u) ∙ h .1, h .2)

@@ -1,31 +1,7 @@
 -- A release row by row: what is known of the arena that the address lies in, and that each return is the definition's. Assumes nothing.
-use mathlib.Core.Path.{_≡_, refl, sym, ap, _∙_, subst}
-use mathlib.Core.Bool.{Bool, true, false, not, cond, true≢false}
-use mathlib.Core.List.{List, [], _∷_}
-use Prim.Native.Nat.{ℕ, _+_, _-_, _*_, _/_, _%_, _<_, _≤_}
-use native.Mathlib.Nat.{div-lt-iff-lt-mul}
-use native.Mathlib.Omega.{arith}
-use borrow.Author.Tests.{leb-true}
-use lib.Dec.{eqb, leb}
-use lib.ListN.{length, set}
-use Rattle.refusals.specs.declared.Refusal.{Refusal}
-use Rattle.refusals.specs.declared.Refusal.the-variants.{Zero, NotInside, NotWhole, PastEnd}
-use Rattle.words.proofs.Tests.{when, unless}
-use Rattle.clock.specs.Clock.{nowMs, delayMs}
-use Rattle.runs.specs.declared.Found.{Found}
-use Rattle.runs.specs.declared.Found.the-variants.{At, Nothing}
-use Rattle.runs.proofs.LowestLaws.{First, first-says}
-use Rattle.arena.specs.declared.Arena.{Arena}
-use Rattle.arena.specs.declared.Commitment.{Commitment}
-use Rattle.arena.specs.Releasing.{releaseRun, stampRun}
-use Rattle.lookup.specs.Place.{isInside}
-use Rattle.lookup.proofs.PlaceLaws.{Within, inside-facts}
-use Rattle.layer.specs.declared.Answer.the-variants.{Released}
-use Rattle.layer.specs.declared.Settings.{Settings}
-use Rattle.layer.specs.declared.State.{State}
-use Rattle.layer.specs.World.{Outcome, sizeOf, worldOf, after, Leaves, reply, turnDown, calm, refuse, firstOf}
-use Rattle.layer.specs.Table.{at, isAt, idFound, findArena}
-use Rattle.layer.specs.Releasing.{releaseOf}
+use Rattle.state.proofs.Prelude.{_≡_, refl, sym, ap, _∙_, subst, Bool, true, false, not, cond, true≢false, List, [], _∷_, ℕ, _+_, _-_, _*_, _/_, _%_, _<_, _≤_, div-lt-iff-lt-mul, arith, leb-true, eqb, leb, length, set, Refusal, Zero, NotInside, NotWhole, PastEnd, when, unless, nowMs, delayMs, Found, At, Nothing, First, first-says, Arena, Commitment, releaseRun, stampRun, isInside, inside-facts, Released, Settings, State, Outcome, sizeOf, worldOf, after, Leaves, reply, turnDown, calm, at, isAt, idFound, findArena, releaseOf}
+use Rattle.arena.proofs.PlaceLaws.{Within}
+use Rattle.layer.specs.World.{refuse, firstOf}
 use Rattle.state.specs.Ready.{Standing, Ready}
 use Rattle.state.proofs.Entry.{size-fits, calm-is, stands, comes}
 

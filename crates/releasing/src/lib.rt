@@ -13,14 +13,15 @@ ghost use Rattle.layer.specs.Table.{at};
 ghost use Rattle.layer.specs.Releasing.{releaseOf};
 ghost use Rattle.layer.specs.Step.{release, step, act};
 ghost use Rattle.state.specs.Ready.{Ready, Stamped};
+ghost use Rattle.releasing.specs.Told.{isUntold};
 use arena::Arena;
 use arena::Commitment;
-use judge::Head;
 use layer::Answer;
 use layer::Reply;
 use layer::Settings;
 use layer::State;
 use refusals::Refusal;
+use table::heads::Head;
 
 // ---- the run
 
@@ -64,6 +65,17 @@ fn delay_of(settings: Settings) -> u32
     clock::delay_ms(settings.delay)
 }
 
+// Where nothing is told, to give the run back is all.
+fn is_untold(told: Commitment) -> bool
+    ensures { λ r. ⌜ r ≡ isUntold told ⌝ }
+{
+    match told {
+        Commitment::Untold => true,
+        Commitment::Committed => false,
+        Commitment::Uncommitted => false,
+    }
+}
+
 fn released(state: State) -> Reply
     ensures { λ r. ⌜ r ≡ reply Released (calm (state .count) (state .mark)) ⌝ }
 {
@@ -86,17 +98,22 @@ fn release_in(
     requires { ⌜ (i < 32) × (length (now records) ≡ 32) × (s + n ≤ 1024) × Stamped (now stamps) ⌝ }
     ensures { λ r. ⌜ (r ≡ reply Released (calm (state .count) (state .mark))) × (now (records .exit) ≡ set (now (records .entry)) i (releaseRun (at (now (records .entry)) i) s n told pending (nowMs ns) (delayMs (settings .delay)))) × (now (stamps .exit) ≡ cond pending (stampRun (now (stamps .entry)) (1024 * i + s) n (nowMs ns)) (now (stamps .entry))) ⌝ }
 {
-    let a = records::load(records, i);
+    let a = table::records::load(records, i);
     if pending {
         let ms = clock::now_ms(ns);
         let delay = delay_of(settings);
         let waiting = arena::arena_runs::release_pending(a, s, n, told, ms, delay);
-        records::store(records, i, waiting);
-        purge::stamp_run_of(stamps, i, s, n, ms);
+        table::records::store(records, i, waiting);
+        arena::purge::stamp_run_of(stamps, i, s, n, ms);
+        return released(state);
+    }
+    if is_untold(told) {
+        let freed = arena::arena_runs::give_back_run(a, s, n);
+        table::records::store(records, i, freed);
         return released(state);
     }
     let left = arena::arena_runs::release_run(a, s, n, told);
-    records::store(records, i, left);
+    table::records::store(records, i, left);
     released(state)
 }
 
@@ -122,10 +139,10 @@ pub fn release(
     }
     let size = state::chunk_size(state);
     let f = table::find_arena(records, state.count, size, address);
-    if !judge::row_parts::is_at(f) {
+    if !table::row_parts::is_at(f) {
         return state::refuse(Refusal::NotInside, state);
     }
-    let i = judge::row_parts::id_of(f);
+    let i = table::row_parts::id_of(f);
     let h = table::head_at(records, i);
     let offset = offset_of(h, address);
     if !is_whole(offset, size) {

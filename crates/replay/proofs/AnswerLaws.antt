@@ -1,9 +1,5 @@
 -- Which of the two a line asks: numbers alone, or the slice pool. Assumes nothing.
-use mathlib.Core.Path.{_≡_, sym}
-use mathlib.Core.Bool.{Bool, true, false, cond}
-use mathlib.Core.List.{List}
-use Prim.Native.Nat.{ℕ}
-use lib.Dec.{eqb, leb}
+use Rattle.walks.proofs.Prelude.{_≡_, true, false, List, ℕ, eqb, leb}
 use Rattle.samples.specs.declared.lines.Line.{Line}
 use Rattle.replay.specs.Answers.{ofNumbers, ofPool, leftPool, agreesOn, leaves}
 

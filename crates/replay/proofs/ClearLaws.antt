@@ -1,12 +1,6 @@
 -- Words that are set to 0 one after the other. Assumes nothing.
-use mathlib.Core.Path.{_≡_, sym, _∙_}
-use mathlib.Core.List.{List}
-use mathlib.Core.Logic.{⊎-elim}
-use Prim.Native.Nat.{ℕ, _+_, _≤_, _<_}
-use native.Mathlib.Omega.{arith}
-use borrow.Author.Count.{below-more}
-use lib.ListN.{length, getD, set, replicate, length-replicate, getD-replicate}
-use lib.Seq.{getD-set-same, getD-set-other, ext-getD}
+use Rattle.walks.proofs.Prelude.{_≡_, sym, _∙_, List, ℕ, _+_, _<_, arith, below-more, length, getD, set, getD-set-same, getD-set-other, ext-getD}
+use lib.ListN.{replicate, length-replicate, getD-replicate}
 
 -- one word more
 pub clear-one : (ws : List ℕ) (i : ℕ) → i < length ws → ((k : ℕ) → k < i → getD ws k 0 ≡ 0) → (k : ℕ) → k < i + 1 → getD (set ws i 0) k 0 ≡ 0

@@ -1,8 +1,5 @@
 -- The kinds that are known. Assumes nothing.
-use mathlib.Core.Path.{_≡_}
-use mathlib.Core.Bool.{false}
-use Prim.Native.Nat.{ℕ}
-use lib.Dec.{eqb, leb}
+use Rattle.walks.proofs.Prelude.{_≡_, false, ℕ, eqb, leb}
 use Rattle.replay.specs.Known.{known}
 
 pub known-from-1 : (kind a b : ℕ) → eqb kind 3 ≡ false → eqb kind 4 ≡ false → eqb kind 0 ≡ false → leb kind 10 ≡ known kind a b

@@ -22,7 +22,7 @@ fn read_line() -> Line {
 
 // Nothing says that the input ends, so the lines are counted down from a number that no run uses up.
 fn replay_all(most: u64) -> Session {
-    let mut records = [records::blank_arena(); 32];
+    let mut records = [table::records::blank_arena(); 32];
     let mut stamps = [0u32; 32768];
     let mut s = layer_samples::start();
     let mut left = most;

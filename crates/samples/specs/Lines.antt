@@ -6,7 +6,6 @@ use lib.Dec.{eqb}
 use lib.ListN.{getD}
 use Rattle.samples.specs.declared.hex.Number.{Number}
 use Rattle.samples.specs.declared.hex.Number.the-variants.{Is, NotHex}
-use Rattle.samples.specs.declared.lines.Line.{Line}
 use Rattle.samples.specs.declared.lines.Parsed.{Parsed}
 use Rattle.samples.specs.declared.lines.Parsed.the-variants.{Whole, Malformed}
 use Rattle.samples.specs.Hex.{digitOf, digitsAt}

@@ -1,15 +1,9 @@
 -- The laws of the size arithmetic: what the definitions mean, and what the machine's masks say of them. Assumes nothing.
-use mathlib.Core.Path.{_≡_, refl, sym, ap, ap₂, _∙_, subst}
-use mathlib.Core.Bool.{Bool, true, false, cond, _&&_, _||_}
-use mathlib.Core.Logic.{_⊎_, inl, inr, ⊎-elim}
-use Prim.Native.Nat.{ℕ, zero, suc, _+_, _-_, _*_, _/_, _%_, _^_, _≤_, _<_, min}
-use native.Mathlib.Nat.{not-suc-le-zero, le-of-suc-le-suc, zero-lt-suc, mod-lt, mod-self, mod-eq-of-lt, mul-mod-left, div-add-mod', one-mul, mul-one, mul-assoc, mul-left-comm, add-mul, mul-add-mod-self-right, eq-or-lt-of-le}
-use native.Mathlib.Omega.{arith}
-use borrow.Author.Tests.{eqb-true, eq-eqb, ne-eqb, lt-ltb, le-ltb}
-use lib.Bits.{bitAnd, and-step, and-self, and-mask, and-high}
-use lib.Count.{trailingZeros, under, trailing-of-zero}
-use lib.Dec.{eqb}
-use lib.Pow.{pow-pos, pow-lt, pow-mono, shr-mod}
+use Rattle.walks.proofs.Prelude.{_≡_, refl, sym, ap, ap₂, _∙_, subst, Bool, true, false, cond, _&&_, _||_, _⊎_, inl, inr, ⊎-elim, ℕ, zero, suc, _+_, _-_, _*_, _/_, _%_, _^_, _≤_, _<_, min, not-suc-le-zero, le-of-suc-le-suc, zero-lt-suc, mod-lt, mul-one, eq-or-lt-of-le, arith, eqb-true, eq-eqb, ne-eqb, lt-ltb, le-ltb, bitAnd, and-step, trailingZeros, under, eqb, pow-pos, pow-mono}
+use native.Mathlib.Nat.{mod-self, mod-eq-of-lt, mul-mod-left, div-add-mod', one-mul, mul-assoc, mul-left-comm, add-mul, mul-add-mod-self-right}
+use lib.Bits.{and-self, and-mask, and-high}
+use lib.Count.{trailing-of-zero}
+use lib.Pow.{pow-lt, shr-mod}
 use Rattle.sizes.specs.Sizes.{powerBelow, isPowerOfTwo, isAlignedTo, zeroAsOne, lowestBit, lowestSetBit, roundUp, pageAlignUp}
 
 -- true and false differ
@@ -214,23 +208,6 @@ twice-does-not (suc p) z h e =
     let split : suc p ≡ r .0 / 2 * (2 * b) + b = r .2 ∙ ap (λ (x : ℕ). x * b) q ∙ add-mul (r .0 / 2 * 2) 1 b ∙ ap₂ _+_ (mul-assoc (r .0 / 2) 2 b) (one-mul b) in
     let left : suc p % (2 * b) ≡ b = ap (λ (x : ℕ). x % (2 * b)) split ∙ mul-add-mod-self-right (r .0 / 2) (2 * b) b ∙ mod-eq-of-lt (omega arith) in
     omega arith
-
--- a page size that is a power of two is its own lowest set bit
-lowest-of-pow : (n k : ℕ) → k < n → lowestBit n (2 ^ k) ≡ 2 ^ k
-lowest-of-pow zero k h = absurd (not-suc-le-zero h)
-lowest-of-pow (suc n) zero h = lowest-odd n 1 refl
-lowest-of-pow (suc n) (suc k) h =
-    let even : 2 ^ suc k % 2 ≡ 0 = omega arith in
-    let half : 2 ^ suc k / 2 ≡ 2 ^ k = omega arith in
-    let rest : lowestBit n (2 ^ suc k / 2) ≡ 2 ^ k = ap (lowestBit n) half ∙ lowest-of-pow n k (le-of-suc-le-suc h) in
-    lowest-even n (2 ^ suc k) even ∙ (let e : 2 * lowestBit n (2 ^ suc k / 2) ≡ 2 ^ suc k = omega arith in e)
-
-pub lowest-of-power : (page : ℕ) → isPowerOfTwo page ≡ true → lowestSetBit page ≡ page
-unfolding lowestSetBit
-lowest-of-power page e =
-    let p = power-is page e in
-    let pos : 0 < page = subst (λ (x : ℕ). 0 < x) (sym (p .2)) (pow-pos (p .0)) in
-    ap (lowestBit 64) (sym (zeroAsOne-keeps page (λ (z : page ≡ 0). omega arith)) ∙ p .2) ∙ lowest-of-pow 64 (p .0) (p .1) ∙ sym (p .2)
 
 -- ---- rounding up
 

@@ -1,21 +1,14 @@
 -- The slice pool's definitions, case by case: which test decides. Assumes nothing.
-use mathlib.Core.Path.{_≡_, refl, sym, ap, _∙_, subst}
-use mathlib.Core.Bool.{Bool, true, false, _&&_}
-use mathlib.Core.List.{List}
-use Prim.Native.Nat.{ℕ, _+_, _*_, _/_, _%_, _≤_, _<_}
-use native.Mathlib.Omega.{arith}
-use borrow.Author.Tests.{eq-eqb, ne-eqb, lt-ltb, le-ltb}
-use lib.Dec.{eqb, ltb}
-use lib.ListN.{length}
-use Rattle.refusals.specs.declared.Refusal.the-variants.{Broken, Zero, NotWhole, NotInside, PastEnd, NoRun}
-use Rattle.words.specs.Bits.{bitAt}
-use Rattle.words.specs.Rows.{setRun}
-use Rattle.words.proofs.Tests.{when, unless}
-use Rattle.runs.specs.declared.Found.{Found}
-use Rattle.runs.specs.declared.Found.the-variants.{At, Nothing}
-use Rattle.runs.specs.Lowest.{Lowest, lowestRun}
-use Rattle.runs.proofs.LowestLaws.{lowest-says}
-use Rattle.slice_pool.specs.Pool.{Alloc, notRun, takeRun, allocRun, Free, notDone, freeRange}
+use Rattle.walks.proofs.Prelude.{_≡_, sym, ap, _∙_, subst, Bool, true, _&&_, List, ℕ, _+_, _/_, _%_, _≤_, _<_, eq-eqb, ne-eqb, lt-ltb, le-ltb, eqb, length}
+use Rattle.refusals.specs.declared.Refusal.the-variants.{Broken, Zero, NotWhole, NotInside, PastEnd}
+use Rattle.bitmap.specs.Bits.{bitAt}
+use Rattle.bitmap.specs.Rows.{setRun}
+use Rattle.bitmap.proofs.words.Tests.{when, unless}
+use Rattle.bitmap.specs.declared.runs.Found.{Found}
+use Rattle.bitmap.specs.declared.runs.Found.the-variants.{At}
+use Rattle.bitmap.specs.Lowest.{Lowest, lowestRun}
+use Rattle.bitmap.proofs.runs.LowestLaws.{lowest-says}
+use Rattle.slice_pool.specs.Pool.{notRun, allocFound, allocRun, notDone, freeRange}
 use Rattle.slice_pool.specs.declared.Freed.the-variants.{Done}
 
 module _ (ws : List ℕ) (n : ℕ) where
@@ -27,7 +20,7 @@ module _ (ws : List ℕ) (n : ℕ) where
   unfolding allocRun
   alloc-zero l h = when _ _ _ (eq-eqb (length ws) 2048 l) ∙ when _ _ _ (eq-eqb n 0 h)
 
-  pub alloc-found : length ws ≡ 2048 → (n ≡ 0 → ⊥) → allocRun ws n ≡ takeRun ws n (lowestRun (bitAt ws) 65536 n)
+  pub alloc-found : length ws ≡ 2048 → (n ≡ 0 → ⊥) → allocRun ws n ≡ allocFound ws n (lowestRun (bitAt ws) 65536 n)
   unfolding allocRun
   alloc-found l h = when _ _ _ (eq-eqb (length ws) 2048 l) ∙ unless _ _ _ (ne-eqb n 0 h)
 

@@ -1,6 +1,6 @@
 -- The slice pool: what its two calls answer, and what they leave of the lent words. Document 01, "slice_pool.rs": "65,536 slices of 65,536 bytes over
 -- 2,048 lent words, bit set = free." Of refusal 1 the calls know only the length of the words. Assumes nothing.
-use mathlib.Core.Bool.{Bool, true, false, cond, not, _&&_}
+use mathlib.Core.Bool.{cond, _&&_}
 use mathlib.Core.List.{List}
 use Prim.Native.Nat.{ℕ, _+_, _*_, _/_, _%_}
 use lib.Dec.{eqb, ltb}
@@ -8,11 +8,11 @@ use lib.ListN.{length}
 use Rattle.refusals.specs.declared.Refusal.{Refusal}
 use Rattle.refusals.specs.declared.Refusal.the-variants.{Broken, Zero, NotWhole, NotInside, PastEnd, NoRun}
 use Rattle.refusals.specs.Number.{number}
-use Rattle.words.specs.Bits.{bitAt}
-use Rattle.words.specs.Rows.{setRun, clearRun}
-use Rattle.runs.specs.declared.Found.{Found}
-use Rattle.runs.specs.declared.Found.the-variants.{At, Nothing}
-use Rattle.runs.specs.Lowest.{lowestRun}
+use Rattle.bitmap.specs.Bits.{bitAt}
+use Rattle.bitmap.specs.Rows.{setRun, clearRun}
+use Rattle.bitmap.specs.declared.runs.Found.{Found}
+use Rattle.bitmap.specs.declared.runs.Found.the-variants.{At, Nothing}
+use Rattle.bitmap.specs.Lowest.{lowestRun}
 use Rattle.slice_pool.specs.declared.Allocated.{Allocated}
 use Rattle.slice_pool.specs.declared.Allocated.the-variants.{Run, NotRun}
 use Rattle.slice_pool.specs.declared.Freed.{Freed}
@@ -29,14 +29,14 @@ abbrev pub notRun : List ℕ → Refusal → Alloc
 notRun ws why = record { answer = NotRun why; words = ws }
 
 -- "`alloc_run` takes the lowest free run"; "10 answers too long a run as well"
-abbrev pub takeRun : List ℕ → ℕ → Found → Alloc
-takeRun ws n (At s) = record { answer = Run (s * 65536); words = clearRun ws s n }
-takeRun ws n Nothing = notRun ws NoRun
+abbrev pub allocFound : List ℕ → ℕ → Found → Alloc
+allocFound ws n (At s) = record { answer = Run (s * 65536); words = clearRun ws s n }
+allocFound ws n Nothing = notRun ws NoRun
 
 -- in the order 1, 4, 10
 unfoldable pub allocRun : List ℕ → ℕ → Alloc
 allocRun ws n =
-    cond (eqb (length ws) 2048) (cond (eqb n 0) (notRun ws Zero) (takeRun ws n (lowestRun (bitAt ws) 65536 n))) (notRun ws Broken)
+    cond (eqb (length ws) 2048) (cond (eqb n 0) (notRun ws Zero) (allocFound ws n (lowestRun (bitAt ws) 65536 n))) (notRun ws Broken)
 
 -- ---- free_range
 

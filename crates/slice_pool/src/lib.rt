@@ -1,9 +1,9 @@
 // The pool of free slices: 65,536 slices of 65,536 bytes over 2,048 lent words, a set bit being a free
 // slice. It knows no arena and no question; nothing here touches the memory that it tracks.
 ghost use mathlib.Core.Path.{_≡_};
-ghost use Rattle.slice_pool.specs.Pool.{allocRun, freeRange, allocNumber, allocAddress, freeNumber};
+ghost use Rattle.slice_pool.specs.Pool.{allocRun, freeRange};
+use bitmap::runs::Found;
 use refusals::Refusal;
-use runs::Found;
 
 // The bytes of a slice; there are as many slices as a slice has bytes.
 const SLICE_SIZE: u64 = 65536;
@@ -35,10 +35,10 @@ pub fn alloc_run(lent: &mut [u32], slices: u64) -> Allocated
         return Allocated::NotRun(Refusal::Zero);
     }
     let n = slices as usize;
-    let found = runs::lowest_set_run(lent, SLOTS, n);
+    let found = bitmap::runs::lowest_set_run(lent, SLOTS, n);
     match found {
         Found::At(s) => {
-            rows::clear_run(lent, s, n);
+            bitmap::rows::clear_run(lent, s, n);
             Allocated::Run((s as u64) * SLICE_SIZE)
         }
         Found::Nothing => Allocated::NotRun(Refusal::NoRun),
@@ -69,6 +69,6 @@ pub fn free_range(lent: &mut [u32], base: u64, size: u64) -> Freed
     if 65536 < start + n {
         return Freed::NotDone(Refusal::PastEnd);
     }
-    rows::set_run(lent, start as usize, n as usize);
+    bitmap::rows::set_run(lent, start as usize, n as usize);
     Freed::Done
 }

@@ -1,6 +1,6 @@
--- Functions of `state` that a walk calls, each in one step: chunk-size-step, count-of-step, is-idle-step, mark-of-step, question-of-step, refuse-step. Written by tools/walks.
+-- Functions of `state` that a walk calls, each in one step: chunk-size-step, is-idle-step, question-of-step, refuse-step. Written by tools/walks.
 -- Assumes `Given`, the callee's theorem, and that the table of calls is monotone under a frame.
-use Rattle.walks.proofs.Walking.{_≡_, sym, _∙_, ap, subst, ℕ, _<_, _^_, List, [], _∷_, w64, Operand, Val, vint, vbool, URA, SProp, id⊢, Memory, Routine, Heap, Env, Calls, Atoms, Given, Item, Goal, Seq, Opds, Fun, bool, u64, usize, yes, Is, Ises, owns-make, bool-tells, plain, only, tripleOf, Contract, Triple, Site, plain-call}
+use Rattle.walks.proofs.Walking.{_≡_, sym, _∙_, ap, subst, ℕ, _<_, _^_, List, [], _∷_, w64, Operand, Val, vint, vbool, URA, SProp, id⊢, Memory, Routine, Heap, Env, Calls, Atoms, Given, Item, Goal, Seq, Opds, Fun, bool, u64, yes, Is, Ises, owns-make, bool-tells, plain, only, tripleOf, Contract, Triple, Site, plain-call}
 use Rattle.layer.proofs.State as T-State
 use Rattle.layer.proofs.State.Laws as L-State
 use denote.Struct.Laws as LL
@@ -17,12 +17,8 @@ use Rattle.refusals.specs.declared.Refusal.{Refusal}
 use Rattle.layer.specs.declared.Reply.{Reply}
 use Rattle.state.proofs.chunk_size as chunk-size′
 use Rattle.state.proofs.chunk_size.Symbol.{name as #state·chunk-size}
-use Rattle.state.proofs.count_of as count-of′
-use Rattle.state.proofs.count_of.Symbol.{name as #state·count-of}
 use Rattle.state.proofs.is_idle as is-idle′
 use Rattle.state.proofs.is_idle.Symbol.{name as #state·is-idle}
-use Rattle.state.proofs.mark_of as mark-of′
-use Rattle.state.proofs.mark_of.Symbol.{name as #state·mark-of}
 use Rattle.state.proofs.question_of as question-of′
 use Rattle.state.proofs.question_of.Symbol.{name as #state·question-of}
 use Rattle.state.proofs.refuse as refuse′
@@ -33,14 +29,8 @@ module _ {M : Type 1} (𝓤 : URA M) (H : Heap 𝓤) (A : Atoms 𝓤) (mem : Mem
   abbrev pub ChunkSizeSpec : Contract 𝓤
   ChunkSizeSpec = tripleOf 𝓤 H A chunk-size′.signature (chunk-size′.spec 𝓤 H A mem run)
 
-  abbrev pub CountOfSpec : Contract 𝓤
-  CountOfSpec = tripleOf 𝓤 H A count-of′.signature (count-of′.spec 𝓤 H A mem run)
-
   abbrev pub IsIdleSpec : Contract 𝓤
   IsIdleSpec = tripleOf 𝓤 H A is-idle′.signature (is-idle′.spec 𝓤 H A mem run)
-
-  abbrev pub MarkOfSpec : Contract 𝓤
-  MarkOfSpec = tripleOf 𝓤 H A mark-of′.signature (mark-of′.spec 𝓤 H A mem run)
 
   abbrev pub QuestionOfSpec : Contract 𝓤
   QuestionOfSpec = tripleOf 𝓤 H A question-of′.signature (question-of′.spec 𝓤 H A mem run)
@@ -59,16 +49,6 @@ module _ {M : Type 1} {𝓤 : URA M} {H : Heap 𝓤} {A : Atoms 𝓤} {K : Type 
       (owns-make 𝓤 H A (T-State.the-row ∷ []) (Ises (T-State.the-row ∷ [])) (LL.makes T-State.the-type L-State.the-plain 𝓤 H A, tt) (state, tt) (v-state ∷ [], tt) (g-state, tt)) tt (id⊢ 𝓤 _)
       (λ out. out ≡ sizeOf state) (λ out ws. id⊢ 𝓤 _) ops (λ val′ out rel′ eq′. subst (λ (new′ : Val). Seq K W (more ∷ Γ) (after new′)) (sym (ap only (rel′ .0) ∙ ap (vint w64) eq′)) (then′ (subst (λ (num′ : ℕ). num′ < 2 ^ 64) eq′ (rel′ .1))))
 
-  pub count-of-step : K → Site K W Γ C E #state·count-of xs G after → (mem : Memory → SProp 𝓤) (run : Routine → Fun 𝓤) → Triple 𝓤 (C #state·count-of) (CountOfSpec 𝓤 H A mem run)
-      → (state : State) (v-state : Val) → Is T-State.the-row state (v-state ∷ [])
-      → ((hd′ : Item 𝓤) → Opds K W (hd′ ∷ Γ) E xs (v-state ∷ []))
-      → ((state .count) < 2 ^ 64 → Seq K W (more ∷ Γ) (after (vint w64 (state .count))))
-      → Seq K W (more ∷ Γ) G
-  count-of-step bang site mem run known state v-state g-state ops then′ =
-      plain-call bang site usize (plain (λ _. T-State.the-row) ∷ []) (yes, tt) (count-of′.clauses 𝓤 H A mem run) known (state, tt) (v-state ∷ [], tt)
-      (owns-make 𝓤 H A (T-State.the-row ∷ []) (Ises (T-State.the-row ∷ [])) (LL.makes T-State.the-type L-State.the-plain 𝓤 H A, tt) (state, tt) (v-state ∷ [], tt) (g-state, tt)) tt (id⊢ 𝓤 _)
-      (λ out. out ≡ state .count) (λ out ws. id⊢ 𝓤 _) ops (λ val′ out rel′ eq′. subst (λ (new′ : Val). Seq K W (more ∷ Γ) (after new′)) (sym (ap only (rel′ .0) ∙ ap (vint w64) eq′)) (then′ (subst (λ (num′ : ℕ). num′ < 2 ^ 64) eq′ (rel′ .1))))
-
   pub is-idle-step : K → Site K W Γ C E #state·is-idle xs G after → (mem : Memory → SProp 𝓤) (run : Routine → Fun 𝓤) → Triple 𝓤 (C #state·is-idle) (IsIdleSpec 𝓤 H A mem run)
       → (state : State) (v-state : Val) → Is T-State.the-row state (v-state ∷ [])
       → ((hd′ : Item 𝓤) → Opds K W (hd′ ∷ Γ) E xs (v-state ∷ []))
@@ -78,16 +58,6 @@ module _ {M : Type 1} {𝓤 : URA M} {H : Heap 𝓤} {A : Atoms 𝓤} {K : Type 
       plain-call bang site bool (plain (λ _. T-State.the-row) ∷ []) (yes, tt) (is-idle′.clauses 𝓤 H A mem run) known (state, tt) (v-state ∷ [], tt)
       (owns-make 𝓤 H A (T-State.the-row ∷ []) (Ises (T-State.the-row ∷ [])) (LL.makes T-State.the-type L-State.the-plain 𝓤 H A, tt) (state, tt) (v-state ∷ [], tt) (g-state, tt)) tt (id⊢ 𝓤 _)
       (λ out. out ≡ isIdle (state .question)) (λ out ws. id⊢ 𝓤 _) ops (λ val′ out rel′ eq′. subst (λ (new′ : Val). Seq K W (more ∷ Γ) (after new′)) (sym (ap only (bool-tells out (val′ ∷ []) rel′) ∙ ap vbool eq′)) (then′))
-
-  pub mark-of-step : K → Site K W Γ C E #state·mark-of xs G after → (mem : Memory → SProp 𝓤) (run : Routine → Fun 𝓤) → Triple 𝓤 (C #state·mark-of) (MarkOfSpec 𝓤 H A mem run)
-      → (state : State) (v-state : Val) → Is T-State.the-row state (v-state ∷ [])
-      → ((hd′ : Item 𝓤) → Opds K W (hd′ ∷ Γ) E xs (v-state ∷ []))
-      → (Seq K W (more ∷ Γ) (after (vbool (state .mark))))
-      → Seq K W (more ∷ Γ) G
-  mark-of-step bang site mem run known state v-state g-state ops then′ =
-      plain-call bang site bool (plain (λ _. T-State.the-row) ∷ []) (yes, tt) (mark-of′.clauses 𝓤 H A mem run) known (state, tt) (v-state ∷ [], tt)
-      (owns-make 𝓤 H A (T-State.the-row ∷ []) (Ises (T-State.the-row ∷ [])) (LL.makes T-State.the-type L-State.the-plain 𝓤 H A, tt) (state, tt) (v-state ∷ [], tt) (g-state, tt)) tt (id⊢ 𝓤 _)
-      (λ out. out ≡ state .mark) (λ out ws. id⊢ 𝓤 _) ops (λ val′ out rel′ eq′. subst (λ (new′ : Val). Seq K W (more ∷ Γ) (after new′)) (sym (ap only (bool-tells out (val′ ∷ []) rel′) ∙ ap vbool eq′)) (then′))
 
   pub question-of-step : K → Site K W Γ C E #state·question-of xs G after → (mem : Memory → SProp 𝓤) (run : Routine → Fun 𝓤) → Triple 𝓤 (C #state·question-of) (QuestionOfSpec 𝓤 H A mem run)
       → (state : State) (v-state : Val) → Is T-State.the-row state (v-state ∷ [])

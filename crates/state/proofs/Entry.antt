@@ -1,45 +1,23 @@
 -- Rows 1 and 2 of every call, and what they say of the table that they let pass. Assumes nothing.
-use mathlib.Core.Path.{_≡_, sym, ap, _∙_}
-use mathlib.Core.Bool.{true, false, not}
-use mathlib.Core.List.{List}
-use Prim.Native.Nat.{ℕ, _<_, _≤_}
-use native.Mathlib.Omega.{arith}
-use borrow.Author.Tests.{eqb-true, leb-true}
-use lib.Dec.{eqb, leb, lit<, lit≤}
-use lib.ListN.{length}
-use Rattle.refusals.specs.declared.Refusal.the-variants.{Broken, QuestionOpen}
-use Rattle.words.proofs.Tests.{when, unless}
-use Rattle.runs.specs.Lowest.{all}
-use Rattle.runs.proofs.LowestLaws.{all-free-of}
-use Rattle.runs.proofs.SearchLaws.{and-both}
-use Rattle.options.specs.Options.{pageSizeSound}
-use Rattle.arena.specs.declared.Arena.{Arena}
-use Rattle.arena.specs.ChunkSize.{ChunkSize}
-use Rattle.lookup.specs.Soundness.{soundArena}
-use Rattle.lookup.proofs.SoundLaws.{SoundArena, arena-facts}
+use Rattle.layer.proofs.Prelude.{_≡_, sym, ap, subst, _∙_, true, false, not, List, ℕ, _<_, _≤_, arith, eqb-true, leb-true, eqb, leb, length, Broken, QuestionOpen, when, unless, all, all-free-of, and-both, pageSizeSound, Arena, soundArena, SoundArena, arena-facts, Outcome, stateWith, worldOf, after, turnDown, calm, at, apart, soundTable, soundLent, Act, Call, act, actOn, stepOn, rules, step}
 use Rattle.layer.specs.declared.Settings.{Settings}
 use Rattle.layer.specs.declared.State.{State}
 use Rattle.layer.specs.declared.Reply.{Reply}
-use Rattle.layer.specs.World.{Outcome, sizeOf, stateOf, worldOf, after, replyOf, Leaves, turnDown, calm}
-use Rattle.layer.specs.Table.{at, apart, soundTable, soundLent}
-use Rattle.layer.specs.Step.{Act, Call, act, actOn, stepOn, rules, step}
+use Rattle.layer.specs.World.{sizeOf, replyIn, Leaves}
 use Rattle.layer.specs.Answering.{isIdle}
+pub use Rattle.layer.proofs.ChunkLaws.{size-fits}
 use Rattle.layer.proofs.Calls.{idle-is, past-1}
 use Rattle.state.specs.Ready.{Standing, Ready, Stamped, Asked, SoundArenas}
 
--- S fits the arithmetic of the code
-pub size-fits : (state : State) → ChunkSize (sizeOf state)
-size-fits state = (lit< tt, lit≤ tt)
-
 -- what an outcome leaves, by what it is
 pub comes : (o : Outcome) (r : Reply) (l : List Arena) (stamps : List ℕ) → o ≡ after r l stamps → Leaves o r l stamps
-comes o r l stamps e = (sym (ap replyOf e), sym (ap (λ (p : Outcome). p .world .records) e), sym (ap (λ (p : Outcome). p .world .stamps) e))
+comes o r l stamps e = (sym (ap replyIn e), sym (ap (λ (p : Outcome). p .world .records) e), sym (ap (λ (p : Outcome). p .world .stamps) e))
 
 -- what a core is handed
 module _ (l : List Arena) (state : State) where
   -- a state with no question open
   pub calm-is : Ready l state → state ≡ calm (state .count) (state .mark)
-  calm-is ready = ap (stateOf (state .count) (state .mark)) (ready .1)
+  calm-is ready = ap (stateWith (state .count) (state .mark)) (ready .1)
 
   -- each arena that stands
   pub stands : Standing l state → (i : ℕ) → i < state .count → SoundArena (sizeOf state) (at l i)
@@ -55,26 +33,27 @@ module _ (l : List Arena) (stamps : List ℕ) (state : State) (ns : ℕ) (settin
   abbrev pub Passes : Type 0
   Passes = soundLent (sizeOf state) l (length stamps) state (settings .page) ≡ true
 
-  -- row 1
-  pub broken : soundLent (sizeOf state) l (length stamps) state (settings .page) ≡ false → (c : Call)
-      → step (worldOf l stamps state) ns settings c ≡ after (turnDown Broken state) l stamps
-  unfolding rules
-  broken e c = when _ _ _ (ap not e)
-
   -- past row 1
   pub goes : Passes → (c : Call)
       → step (worldOf l stamps state) ns settings c ≡ stepOn (sizeOf state) l stamps (state .count) (state .mark) (state .question) ns settings c
   goes e c = past-1 (sizeOf state) (worldOf l stamps state) ns settings e c
 
-  -- row 2
-  pub open-asked : Passes → isIdle (state .question) ≡ false → (a : Act)
-      → step (worldOf l stamps state) ns settings (act a) ≡ after (turnDown QuestionOpen state) l stamps
-  open-asked e i a = goes e (act a) ∙ when _ _ _ (ap not i)
+  -- row 1
+  pub broken-row : soundLent (sizeOf state) l (length stamps) state (settings .page) ≡ false → (c : Call)
+      → Leaves (step (worldOf l stamps state) ns settings c) (turnDown Broken state) l stamps
+  unfolding rules
+  broken-row e c = comes _ _ l stamps (when _ _ _ (ap not e))
 
-  -- past rows 1 and 2
-  pub acts : Passes → isIdle (state .question) ≡ true → (a : Act)
-      → step (worldOf l stamps state) ns settings (act a) ≡ actOn (sizeOf state) l stamps (state .count) (state .mark) (state .question) ns settings a
-  acts e i a = goes e (act a) ∙ unless _ _ _ (ap not i)
+  -- row 2
+  pub open-row : Passes → isIdle (state .question) ≡ false → (a : Act)
+      → Leaves (step (worldOf l stamps state) ns settings (act a)) (turnDown QuestionOpen state) l stamps
+  open-row e i a = comes _ _ l stamps (goes e (act a) ∙ when _ _ _ (ap not i))
+
+  -- past rows 1 and 2 the core
+  pub acted : Passes → isIdle (state .question) ≡ true → (a : Act) (r : Reply) (m : List Arena) (t : List ℕ)
+      → Leaves (actOn (sizeOf state) l stamps (state .count) (state .mark) (state .question) ns settings a) r m t
+      → Leaves (step (worldOf l stamps state) ns settings (act a)) r m t
+  acted e i a r m t = subst (λ (o : Outcome). Leaves o r m t) (sym (goes e (act a) ∙ unless _ _ _ (ap not i)))
 
   -- what row 1 says
   pub standing : Passes → Standing l state

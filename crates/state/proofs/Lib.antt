@@ -1,2 +1,3 @@
+pub mod Prelude
 pub mod Entry
 pub mod Callable

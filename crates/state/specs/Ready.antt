@@ -2,11 +2,11 @@
 use mathlib.Core.Path.{_≡_}
 use mathlib.Core.Bool.{true}
 use mathlib.Core.List.{List}
-use Prim.Native.Nat.{ℕ, _<_, _≤_}
+use Prim.Native.Nat.{ℕ, _≤_}
 use lib.ListN.{length}
-use Rattle.runs.specs.Lowest.{all}
+use Rattle.bitmap.specs.Lowest.{all}
 use Rattle.arena.specs.declared.Arena.{Arena}
-use Rattle.lookup.specs.Soundness.{soundArena}
+use Rattle.arena.specs.Soundness.{soundArena}
 use Rattle.layer.specs.declared.State.{State}
 use Rattle.layer.specs.declared.Question.the-variants.{Idle}
 use Rattle.layer.specs.World.{sizeOf}

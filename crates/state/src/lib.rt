@@ -1,14 +1,12 @@
-// The state and the settings that a call is lent, and its replies, by value: what the calls read of the one and
-// how they make the other.
+// The state that a call is lent, and its replies, by value: what the calls read of the one and how they make the
+// other.
 ghost use mathlib.Core.Path.{_≡_};
-ghost use Rattle.refusals.specs.declared.Refusal.the-variants.{Broken, QuestionOpen};
-ghost use Rattle.layer.specs.World.{sizeOf, stateOf, reply, turnDown, calm};
+ghost use Rattle.layer.specs.World.{sizeOf, stateWith, reply, turnDown, calm};
 ghost use Rattle.layer.specs.Answering.{isIdle};
 use layer::Answer;
 use layer::CHUNK;
 use layer::Question;
 use layer::Reply;
-use layer::Settings;
 use layer::State;
 use refusals::Refusal;
 
@@ -19,20 +17,6 @@ pub fn chunk_size(state: State) -> u64
     ensures { λ r. ⌜ r ≡ sizeOf state ⌝ }
 {
     CHUNK
-}
-
-// How many arenas the table has.
-pub fn count_of(state: State) -> usize
-    ensures { λ r. ⌜ r ≡ state .count ⌝ }
-{
-    state.count
-}
-
-// The give-up mark.
-pub fn mark_of(state: State) -> bool
-    ensures { λ r. ⌜ r ≡ state .mark ⌝ }
-{
-    state.mark
 }
 
 // The question that is open.
@@ -56,13 +40,6 @@ pub fn is_idle(state: State) -> bool
     }
 }
 
-// The page size.
-pub fn page_of(settings: Settings) -> u64
-    ensures { λ r. ⌜ r ≡ settings .page ⌝ }
-{
-    settings.page
-}
-
 // ---- replies
 
 // A refusal leaves the state.
@@ -73,20 +50,6 @@ pub fn refuse(why: Refusal, state: State) -> Reply
         answer: Answer::Refused(why),
         state,
     }
-}
-
-// Row 1.
-pub fn broken(state: State) -> Reply
-    ensures { λ r. ⌜ r ≡ turnDown Broken state ⌝ }
-{
-    refuse(Refusal::Broken, state)
-}
-
-// Row 2.
-pub fn question_open(state: State) -> Reply
-    ensures { λ r. ⌜ r ≡ turnDown QuestionOpen state ⌝ }
-{
-    refuse(Refusal::QuestionOpen, state)
 }
 
 // An answer, with so many arenas and no question open.
@@ -103,7 +66,7 @@ pub fn settled(answer: Answer, count: usize, mark: bool) -> Reply
 
 // An answer, with the question that it leaves open.
 pub fn asked(answer: Answer, count: usize, mark: bool, question: Question) -> Reply
-    ensures { λ r. ⌜ r ≡ reply answer (stateOf count mark question) ⌝ }
+    ensures { λ r. ⌜ r ≡ reply answer (stateWith count mark question) ⌝ }
 {
     let state = State {
         count,

@@ -1,16 +1,6 @@
 -- An exported call is the layer's step in numbers. Assumes nothing.
-use mathlib.Core.Path.{_≡_, refl, sym, ap, _∙_}
-use mathlib.Core.Bool.{true, false}
-use mathlib.Core.List.{List}
-use Prim.Native.Nat.{ℕ}
-use Rattle.words.proofs.Tests.{when, unless}
-use Rattle.arena.specs.declared.Arena.{Arena}
-use Rattle.layer.specs.declared.Reply.{Reply}
-use Rattle.layer.specs.declared.Settings.{Settings}
-use Rattle.layer.specs.World.{World, Outcome, sizeOf, worldOf, Leaves}
-use Rattle.layer.specs.World as W
-use Rattle.layer.specs.Table.{sound}
-use Rattle.layer.specs.Step.{Query, Call, query, rules, step}
+use Rattle.state.proofs.Prelude.{_≡_, refl, sym, ap, _∙_, true, false, List, ℕ, when, unless, Arena, Reply, Settings, World, Outcome, sizeOf, worldOf, Leaves, sound, Query, Call, query, rules, step}
+use Rattle.layer.specs.World.{replyIn}
 use Rattle.layer.proofs.Tools.{by-not}
 use Rattle.surface.specs.declared.StateNumbers.{StateNumbers}
 use Rattle.surface.specs.declared.told.SettingsNumbers.{SettingsNumbers}
@@ -59,7 +49,7 @@ module _ (l : List Arena) (stamps : List ℕ) (f : StateNumbers) (ns : ℕ) (s :
   asked = stepped l stamps f ns s (query c)
 
   -- so a query's reply has the numbers that came
-  pub answers : isState f ≡ true → (r : Reply) → r ≡ W.replyOf asked → answerNumbers (r .answer) f ≡ stepNumbers l stamps f ns s (query c) .reply
+  pub answers : isState f ≡ true → (r : Reply) → r ≡ replyIn asked → answerNumbers (r .answer) f ≡ stepNumbers l stamps f ns s (query c) .reply
   answers e r h =
       ap (λ (x : Reply). answerNumbers (x .answer) f) h
       ∙ ap (answerNumbers (asked .answer)) (sym (ap numbersOf (query-leaves (worldOf l stamps (stateOf f)) ns (settingsOf s) c) ∙ state-written f e))

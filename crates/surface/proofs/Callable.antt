@@ -20,7 +20,7 @@ use Rattle.surface.specs.declared.reply.ReplyNumbers.{ReplyNumbers}
 use Rattle.surface.specs.Replies.{answerNumbers, brokenNumbers, replyOf}
 use Rattle.layer.specs.declared.State.{State}
 use Rattle.layer.specs.declared.Kind.{Kind}
-use Rattle.surface.specs.Told.{kindOf, settingsOf, toldOf}
+use Rattle.surface.specs.Told.{kindOf, settingsOf, commitmentOf}
 use Rattle.surface.specs.declared.told.SettingsNumbers.{SettingsNumbers}
 use Rattle.layer.specs.declared.Settings.{Settings}
 use Rattle.arena.specs.declared.Commitment.{Commitment}
@@ -141,9 +141,9 @@ module _ {M : Type 1} {𝓤 : URA M} {H : Heap 𝓤} {A : Atoms 𝓤} {K : Type 
   pub told-of-step : K → Site K W Γ C E #surface·told·told-of xs G after → (mem : Memory → SProp 𝓤) (run : Routine → Fun 𝓤) → Triple 𝓤 (C #surface·told·told-of) (ToldOfSpec 𝓤 H A mem run)
       → (told : ℕ) → Fits w32 told
       → ((hd′ : Item 𝓤) → Opds K W (hd′ ∷ Γ) E xs (vint w32 told ∷ []))
-      → ((val′ : Val) → Is T-Commitment.the-row (toldOf (toZ w32 told)) (val′ ∷ []) → Seq K W (more ∷ Γ) (after val′))
+      → ((val′ : Val) → Is T-Commitment.the-row (commitmentOf (toZ w32 told)) (val′ ∷ []) → Seq K W (more ∷ Γ) (after val′))
       → Seq K W (more ∷ Γ) G
   told-of-step bang site mem run known told f-told ops then′ =
       plain-call bang site T-Commitment.the-row (plain (λ _. i32) ∷ []) (yes, tt) (told-of′.clauses 𝓤 H A mem run) known (toZ w32 told, tt) (vint w32 told ∷ [], tt)
       (owns-make 𝓤 H A (i32 ∷ []) (Ises (i32 ∷ [])) (sint-makes 𝓤 H A W w32, tt) (toZ w32 told, tt) (vint w32 told ∷ [], tt) (signed f-told, tt)) tt (id⊢ 𝓤 _)
-      (λ out. out ≡ toldOf (toZ w32 told)) (λ out ws. id⊢ 𝓤 _) ops (λ val′ out rel′ eq′. then′ val′ (subst (λ (obj′ : Commitment). Is T-Commitment.the-row obj′ (val′ ∷ [])) eq′ rel′))
+      (λ out. out ≡ commitmentOf (toZ w32 told)) (λ out ws. id⊢ 𝓤 _) ops (λ val′ out rel′ eq′. then′ val′ (subst (λ (obj′ : Commitment). Is T-Commitment.the-row obj′ (val′ ∷ [])) eq′ rel′))

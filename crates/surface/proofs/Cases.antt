@@ -1,22 +1,13 @@
 -- Each case of a question, read from numbers. Assumes nothing.
-use mathlib.Core.Path.{_≡_, sym, ap, _∙_}
-use mathlib.Core.Bool.{Bool}
-use Prim.Native.Nat.{ℕ}
-use borrow.Author.Tests.{eq-eqb, ne-eqb}
-use lib.Dec.{eqb}
-use Rattle.words.proofs.Tests.{when, unless}
-use Rattle.layer.specs.declared.Sweep.{Sweep}
-use Rattle.layer.specs.declared.Waiting.{Waiting}
-use Rattle.layer.specs.declared.Unusable.{Unusable}
-use Rattle.layer.specs.declared.Question.the-variants.{Purging, Reserving, GivingBack}
+use Rattle.state.proofs.Prelude.{_≡_, sym, ap, _∙_, Bool, ℕ, eq-eqb, ne-eqb, eqb, when, unless, Sweep, Waiting, Unusable, Purging, Reserving, GivingBack}
 use Rattle.surface.specs.declared.StateNumbers.{StateNumbers}
-use Rattle.surface.specs.Numbers.{sweepOf, waitingOf, causeOf, questionOf}
+use Rattle.surface.specs.Numbers.{sweepIn, waitingOf, causeOf, questionOf}
 
 module _ (f : StateNumbers) where
   abbrev is : ℕ → Bool
   is k = eqb (f .question) k
 
-  pub purging : (w : Sweep) → w ≡ sweepOf f → (f .question ≡ 1 → ⊥) → f .question ≡ 2 → Purging (f .id) (f .start) w ≡ questionOf f
+  pub purging : (w : Sweep) → w ≡ sweepIn f → (f .question ≡ 1 → ⊥) → f .question ≡ 2 → Purging (f .id) (f .start) w ≡ questionOf f
   purging w e n1 y = ap (Purging (f .id) (f .start)) e ∙ sym (unless (is 1) _ _ (ne-eqb (f .question) 1 n1) ∙ when (is 2) _ _ (eq-eqb (f .question) 2 y))
 
   pub reserving : (w : Waiting) → w ≡ waitingOf f → (f .question ≡ 1 → ⊥) → (f .question ≡ 2 → ⊥) → f .question ≡ 3

@@ -1,31 +1,10 @@
 -- Demand 3 of the exported calls: read back, they answer and leave what the rules say. Assumes nothing.
-use mathlib.Core.Path.{_≡_, refl, sym, ap, ap₂, _∙_, subst}
-use mathlib.Core.Bool.{Bool, true, false}
-use mathlib.Core.List.{List}
-use Prim.Native.Nat.{ℕ, suc, _+_, _-_}
-use native.Mathlib.Omega.{arith}
-use lib.Dec.{ltb}
-use lib.IntN.{pos, negsuc}
-use Rattle.words.proofs.Tests.{by-cond, when}
-use Rattle.refusals.specs.declared.Refusal.{Refusal}
-use Rattle.refusals.specs.declared.Refusal.the-variants.{Broken, QuestionOpen, NoSuchQuestion, Zero, ArenasOff, Range, NotWhole, NotInside, PastEnd, NoRun, CommitRefused, ChunkCount, TableFull, MemoryRefused, NoWholeChunk, HostRefused}
-use Rattle.arena.specs.declared.Arena.{Arena}
+use Rattle.state.proofs.Prelude.{_≡_, refl, sym, ap, ap₂, _∙_, subst, Bool, true, false, List, ℕ, suc, _+_, _-_, arith, ltb, pos, negsuc, by-cond, when, Refusal, Broken, QuestionOpen, NoSuchQuestion, Zero, ArenasOff, Range, NotWhole, NotInside, PastEnd, NoRun, CommitRefused, ChunkCount, TableFull, MemoryRefused, NoWholeChunk, HostRefused, Arena, Settings, State, Question, Idle, Committing, Purging, Reserving, GivingBack, Waiting, Reserve, Claim, Kind, AskCommit, AskPurge, AskMemory, Answer, Asks, Registered, Claimed, Released, Area, World, Outcome, sizeOf, worldOf, after, sound, askMemory, withRecord, withStamps, isFor, counted, failReply, resume, answerTo, answerOf as answerOn, Act, claim, release, sweep, Query, Call, act, query, answer, sweepOf, actOn, queryOn, rules, step}
 use Rattle.arena.proofs.FlagLaws.{flag-read}
-use Rattle.layer.specs.declared.Settings.{Settings}
-use Rattle.layer.specs.declared.State.{State}
-use Rattle.layer.specs.declared.Question.{Question}
-use Rattle.layer.specs.declared.Question.the-variants.{Idle, Committing, Purging, Reserving, GivingBack}
-use Rattle.layer.specs.declared.Waiting.{Waiting}
-use Rattle.layer.specs.declared.Waiting.the-variants.{Reserve, Claim}
-use Rattle.layer.specs.declared.Kind.{Kind}
-use Rattle.layer.specs.declared.Ask.the-variants.{AskCommit, AskPurge, AskMemory, AskGiveBack}
-use Rattle.layer.specs.declared.Answer.{Answer}
-use Rattle.layer.specs.declared.Answer.the-variants.{Refused, Asks, Registered, Claimed, Released, Swept, Owns, Area}
-use Rattle.layer.specs.World.{World, Outcome, sizeOf, outcome, worldOf, after}
-use Rattle.layer.specs.Table.{sound}
-use Rattle.layer.specs.Registering.{askMemory, withRecord, withStamps}
-use Rattle.layer.specs.Answering.{isFor, counted, failReply, resume, answerTo, answerOf as answerOn}
-use Rattle.layer.specs.Step.{Act, reserve, manage, adopt, claim, release, sweep, Query, owns, area, Call, act, query, answer, sweepOf, actOn, queryOn, stepOn, rules, step}
+use Rattle.layer.specs.declared.Ask.the-variants.{AskGiveBack}
+use Rattle.layer.specs.declared.Answer.the-variants.{Refused, Swept, Owns}
+use Rattle.layer.specs.World.{outcome}
+use Rattle.layer.specs.Step.{reserve, manage, adopt, owns, area, stepOn}
 use Rattle.layer.specs.Demand.{Demand3}
 use Rattle.layer.proofs.Tools.{by-not}
 use Rattle.layer.proofs.Rules.{Again, again}

@@ -1,23 +1,9 @@
 -- The test of numbers field by field says whether they are a state's. Assumes nothing.
-use mathlib.Core.Path.{_≡_, refl, sym, ap, ap₂, _∙_, subst}
-use mathlib.Core.Bool.{Bool, true, false, cond, _&&_, _||_, true≢false}
-use Prim.Native.Nat.{ℕ, _<_, _≤_}
-use native.Mathlib.Omega.{arith}
-use borrow.Author.Tests.{eqb-true, eqb-false, leb-true, leb-false, eq-eqb, ne-eqb, le-leb, lt-leb}
-use lib.Dec.{eqb, leb}
-use Rattle.words.proofs.Tests.{when, unless, by-cond}
-use Rattle.runs.proofs.SearchLaws.{same, and-both}
-use Rattle.arena.specs.Flags.{asFlag}
-use Rattle.layer.specs.declared.State.{State}
-use Rattle.layer.specs.declared.Question.{Question}
-use Rattle.layer.specs.declared.Question.the-variants.{Idle, Committing, Purging, Reserving, GivingBack}
-use Rattle.layer.specs.declared.Waiting.{Waiting}
-use Rattle.layer.specs.declared.Waiting.the-variants.{Reserve, Claim}
-use Rattle.layer.specs.declared.Unusable.{Unusable}
-use Rattle.layer.specs.declared.Unusable.the-variants.{Count, Misaligned, Full}
-use Rattle.layer.specs.World as W
+use Rattle.state.proofs.Prelude.{_≡_, refl, sym, ap, ap₂, _∙_, subst, Bool, true, false, cond, _&&_, _||_, true≢false, ℕ, _<_, _≤_, arith, eqb-true, leb-true, leb-false, eq-eqb, ne-eqb, le-leb, lt-leb, eqb, leb, when, unless, by-cond, same, and-both, asFlag, State, Question, Idle, Committing, Purging, Reserving, GivingBack, Waiting, Reserve, Claim, Unusable, Count, Misaligned, Full}
+use borrow.Author.Tests.{eqb-false}
+use Rattle.layer.specs.World.{stateWith}
 use Rattle.surface.specs.declared.StateNumbers.{StateNumbers}
-use Rattle.surface.specs.Numbers.{sweepOf, stateOf, stateNumbers, waits, waitingChunks, waitingCommits, causeNumber, questionNumbers, numbersOf, isState}
+use Rattle.surface.specs.Numbers.{sweepIn, stateOf, stateNumbers, waitingNumber, waitingChunks, waitingCommits, causeNumber, questionNumbers, numbersOf, isState}
 use Rattle.surface.specs.Fields.{noPlace, noMemory, noWaiting, noSweep, isWaiting, isCause, isCalm, isPlaced, isOfMemory}
 use Rattle.surface.proofs.NumberLaws.{is-state, state-written}
 
@@ -92,7 +78,7 @@ module _ (f : StateNumbers) where
   record Waiter : Type 0 where
     who : Waiting
     chunks : waitingChunks who ≡ f .n
-    waits-is : waits who ≡ f .waiting
+    waits-is : waitingNumber who ≡ f .waiting
     commits : waitingCommits who ≡ f .commits
 
   waiter : isWaiting f ≡ true → Waiter
@@ -120,7 +106,7 @@ module _ (f : StateNumbers) where
   of-state : (q : Question) → leb (f .mark) 1 ≡ true → questionNumbers (f .count) (f .mark) q ≡ f → isState f ≡ true
   unfolding numbersOf
   of-state q m e =
-      let s : State = W.stateOf (f .count) (eqb (f .mark) 1) q in
+      let s : State = stateWith (f .count) (eqb (f .mark) 1) q in
       subst (λ (g : StateNumbers). isState g ≡ true) (ap (λ (x : ℕ). questionNumbers (f .count) x q) (flag-is (f .mark) m) ∙ e) (is-state s)
 
   calm-passes : leb (f .mark) 1 ≡ true → f .question ≡ 0 → isCalm f ≡ true → isState f ≡ true
@@ -157,7 +143,7 @@ module _ (f : StateNumbers) where
       let d = waiting-zero (r .1) in
       let u = flag-is (f .force) (t .0) in
       let v = flag-is (f .decommit) (t .1) in
-      of-state (Purging (f .id) (f .start) (sweepOf f)) m
+      of-state (Purging (f .id) (f .start) (sweepIn f)) m
       (λ i. stateNumbers (f .count) (f .mark) (sym k i) (f .id) (f .start) (b i) (c .0 i) (c .1 i) (c .2 i) (c .3 i) (d .0 i) (d .1 i) (d .2 i) (u i) (f .now) (f .delay) (v i) (f .purged))
 
   placed-passes : leb (f .mark) 1 ≡ true → (f .question ≡ 0 → ⊥) → f .question ≤ 2 → isPlaced f ≡ true → isState f ≡ true

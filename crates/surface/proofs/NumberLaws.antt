@@ -1,21 +1,7 @@
 -- The state and its numbers: they are read as they were written, and written as they were read. Assumes nothing.
-use mathlib.Core.Path.{_≡_, refl, ap, ap₂, _∙_}
-use mathlib.Core.Bool.{Bool, true, false, _&&_}
-use Prim.Native.Nat.{ℕ}
-use borrow.Author.Tests.{eqb-true, eq-eqb}
-use lib.Dec.{eqb}
-use Rattle.runs.proofs.SearchLaws.{and-both}
-use Rattle.layer.specs.declared.State.{State}
-use Rattle.layer.specs.declared.Sweep.{Sweep}
-use Rattle.layer.specs.declared.Question.{Question}
-use Rattle.layer.specs.declared.Question.the-variants.{Idle, Committing, Purging, Reserving, GivingBack}
-use Rattle.layer.specs.declared.Waiting.{Waiting}
-use Rattle.layer.specs.declared.Waiting.the-variants.{Reserve, Claim}
-use Rattle.layer.specs.declared.Unusable.{Unusable}
-use Rattle.layer.specs.declared.Unusable.the-variants.{Count, Misaligned, Full}
-use Rattle.layer.specs.World as W
+use Rattle.state.proofs.Prelude.{_≡_, refl, ap, ap₂, _∙_, Bool, true, false, _&&_, ℕ, eqb-true, eq-eqb, eqb, and-both, State, Question, Idle, Committing, Purging, Reserving, GivingBack, Reserve, Claim, Count, Misaligned, Full, asFlag}
+use Rattle.layer.specs.World.{stateWith}
 use Rattle.surface.specs.declared.StateNumbers.{StateNumbers}
-use Rattle.arena.specs.Flags.{asFlag}
 use Rattle.surface.specs.Numbers.{questionOf, stateOf, stateNumbers, questionNumbers, numbersOf, sameNumbers, isState}
 
 -- ---- read as they were written
@@ -60,7 +46,7 @@ state-read s =
     let k = s .count in
     let m = asFlag (s .mark) in
     let q = s .question in
-    λ i. W.stateOf (count-read k m q i) ((ap (λ (x : ℕ). eqb x 1) (mark-read k m q) ∙ flag-one (s .mark)) i) (question-read k m q i)
+    λ i. stateWith (count-read k m q i) ((ap (λ (x : ℕ). eqb x 1) (mark-read k m q) ∙ flag-one (s .mark)) i) (question-read k m q i)
 
 -- ---- written as they were read
 

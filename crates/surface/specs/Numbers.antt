@@ -1,5 +1,5 @@
 -- The layer's state in numbers, as include/sirqobal.h declares them: document 01's number and values for each case. Assumes nothing.
-use mathlib.Core.Bool.{Bool, true, false, cond, _&&_}
+use mathlib.Core.Bool.{Bool, cond, _&&_}
 use Prim.Native.Nat.{ℕ}
 use lib.Dec.{eqb}
 use Rattle.refusals.specs.Number.{number}
@@ -17,8 +17,8 @@ use Rattle.surface.specs.declared.StateNumbers.{StateNumbers}
 
 -- ---- the state, read from numbers. A flag of it is on if it is 1: a state that has another number there than 0 or 1 is none.
 
-abbrev pub sweepOf : StateNumbers → Sweep
-sweepOf f =
+abbrev pub sweepIn : StateNumbers → Sweep
+sweepIn f =
     record { force = eqb (f .force) 1; now = f .now; delay = f .delay; decommit = eqb (f .decommit) 1; purged = f .purged }
 
 abbrev pub waitingOf : StateNumbers → Waiting
@@ -30,7 +30,7 @@ causeOf cause = cond (eqb cause 12) Count (cond (eqb cause 7) Misaligned Full)
 abbrev pub questionOf : StateNumbers → Question
 questionOf f =
     cond (eqb (f .question) 1) (Committing (f .id) (f .start) (f .n))
-    (cond (eqb (f .question) 2) (Purging (f .id) (f .start) (sweepOf f))
+    (cond (eqb (f .question) 2) (Purging (f .id) (f .start) (sweepIn f))
     (cond (eqb (f .question) 3) (Reserving (f .chunks) (f .bytes) (eqb (f .commit) 1) (eqb (f .exclusive) 1) (waitingOf f))
     (cond (eqb (f .question) 4) (GivingBack (causeOf (f .cause)) (waitingOf f)) Idle)))
 
@@ -62,9 +62,9 @@ stateNumbers count mark question id start n chunks bytes commit exclusive waitin
       purged = purged;
     }
 
-abbrev pub waits : Waiting → ℕ
-waits Reserve = 0
-waits (Claim n commits) = 1
+abbrev pub waitingNumber : Waiting → ℕ
+waitingNumber Reserve = 0
+waitingNumber (Claim n commits) = 1
 
 abbrev pub waitingChunks : Waiting → ℕ
 waitingChunks Reserve = 0
@@ -85,9 +85,9 @@ questionNumbers k m (Committing id start n) = stateNumbers k m 1 id start n 0 0 
 questionNumbers k m (Purging id chunk w) =
     stateNumbers k m 2 id chunk 0 0 0 0 0 0 0 0 (asFlag (w .force)) (w .now) (w .delay) (asFlag (w .decommit)) (w .purged)
 questionNumbers k m (Reserving chunks bytes commit exclusive w) =
-    stateNumbers k m 3 0 0 (waitingChunks w) chunks bytes (asFlag commit) (asFlag exclusive) (waits w) (waitingCommits w) 0 0 0 0 0 0
+    stateNumbers k m 3 0 0 (waitingChunks w) chunks bytes (asFlag commit) (asFlag exclusive) (waitingNumber w) (waitingCommits w) 0 0 0 0 0 0
 questionNumbers k m (GivingBack cause w) =
-    stateNumbers k m 4 0 0 (waitingChunks w) 0 0 0 0 (waits w) (waitingCommits w) (causeNumber cause) 0 0 0 0 0
+    stateNumbers k m 4 0 0 (waitingChunks w) 0 0 0 0 (waitingNumber w) (waitingCommits w) (causeNumber cause) 0 0 0 0 0
 
 unfoldable pub numbersOf : State → StateNumbers
 numbersOf s = questionNumbers (s .count) (asFlag (s .mark)) (s .question)

@@ -1,6 +1,6 @@
 -- The layer's answers in numbers, as include/sirqobal.h declares them, document 01's number and values for each case; and a call in numbers. Assumes nothing.
 use mathlib.Core.Path.{_≡_}
-use mathlib.Core.Bool.{Bool, true, false, cond}
+use mathlib.Core.Bool.{Bool, false, cond}
 use mathlib.Core.List.{List}
 use Prim.Native.Nat.{ℕ}
 use Rattle.refusals.specs.declared.Refusal.the-variants.{Broken}

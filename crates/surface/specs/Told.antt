@@ -14,9 +14,9 @@ use Rattle.surface.specs.declared.told.SettingsNumbers.{SettingsNumbers}
 unfoldable pub settingsOf : SettingsNumbers → Settings
 settingsOf s = record { delay = s .delay; decommits = isOn (s .decommits); off = isOn (s .off); reserve = s .reserve; page = s .page }
 
-abbrev pub toldOf : ℤ → Commitment
-toldOf (pos n) = cond (eqb n 0) Uncommitted Committed
-toldOf (negsuc n) = Untold
+abbrev pub commitmentOf : ℤ → Commitment
+commitmentOf (pos n) = cond (eqb n 0) Uncommitted Committed
+commitmentOf (negsuc n) = Untold
 
 abbrev pub kindOf : ℕ → Kind
 kindOf kind =

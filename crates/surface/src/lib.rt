@@ -6,7 +6,7 @@ pub mod told;
 ghost use mathlib.Core.Path.{_≡_};
 ghost use Rattle.layer.specs.declared.Question.the-variants.{Purging};
 ghost use Rattle.arena.specs.Flags.{asFlag};
-ghost use Rattle.surface.specs.Numbers.{sweepOf, waitingOf, causeOf, questionOf, stateOf, stateNumbers, waits, waitingChunks, waitingCommits, causeNumber, questionNumbers, numbersOf, isState};
+ghost use Rattle.surface.specs.Numbers.{sweepIn, waitingOf, causeOf, questionOf, stateOf, stateNumbers, waitingNumber, waitingChunks, waitingCommits, causeNumber, questionNumbers, numbersOf, isState};
 ghost use Rattle.surface.specs.Fields.{noPlace, noMemory, noWaiting, noSweep, isWaiting, isCause, isCalm, isPlaced, isOfMemory};
 use layer::Question;
 use layer::State;
@@ -42,7 +42,7 @@ pub struct StateNumbers {
 // ---- the state, read from numbers
 
 fn sweep_of(f: StateNumbers) -> Sweep
-    ensures { λ r. ⌜ r ≡ sweepOf f ⌝ }
+    ensures { λ r. ⌜ r ≡ sweepIn f ⌝ }
 {
     Sweep {
         force: f.force == 1,
@@ -130,7 +130,7 @@ pub fn state_of(f: StateNumbers) -> State
 // ---- the state, written in numbers
 
 fn waits(w: Waiting) -> u32
-    ensures { λ r. ⌜ r ≡ waits w ⌝ }
+    ensures { λ r. ⌜ r ≡ waitingNumber w ⌝ }
 {
     match w {
         Waiting::Reserve => 0,
@@ -238,7 +238,7 @@ fn memory_numbers(
     waiting: Waiting,
     cause: u32,
 ) -> StateNumbers
-    ensures { λ r. ⌜ r ≡ stateNumbers count mark question 0 0 (waitingChunks waiting) chunks bytes (asFlag commit) (asFlag exclusive) (waits waiting) (waitingCommits waiting) cause 0 0 0 0 0 ⌝ }
+    ensures { λ r. ⌜ r ≡ stateNumbers count mark question 0 0 (waitingChunks waiting) chunks bytes (asFlag commit) (asFlag exclusive) (waitingNumber waiting) (waitingCommits waiting) cause 0 0 0 0 0 ⌝ }
 {
     let n = waiting_chunks(waiting);
     let w = waits(waiting);

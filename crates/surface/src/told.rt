@@ -1,7 +1,7 @@
 // What a call of the C surface is told in numbers: the settings, the commitment of a run, the kind of an
 // answer. include/sirqobal.h declares the struct.
 ghost use mathlib.Core.Path.{_≡_};
-ghost use Rattle.surface.specs.Told.{settingsOf, toldOf, kindOf};
+ghost use Rattle.surface.specs.Told.{settingsOf, commitmentOf, kindOf};
 use arena::Commitment;
 use layer::Kind;
 use layer::Settings;
@@ -32,7 +32,7 @@ pub fn settings_of(s: SettingsNumbers) -> Settings
 
 // Negative: nothing is said of the run's commitment; 0: it is not committed; positive: it is.
 pub fn told_of(told: i32) -> Commitment
-    ensures { λ r. ⌜ r ≡ toldOf told ⌝ }
+    ensures { λ r. ⌜ r ≡ commitmentOf told ⌝ }
 {
     if told < 0 {
         return Commitment::Untold;

@@ -1,33 +1,8 @@
 -- The answer to a purge question: what it is handed, and its two ways. Assumes nothing.
-use mathlib.Core.Path.{_≡_, sym, ap, _∙_, subst}
-use mathlib.Core.Bool.{Bool, true, false}
-use mathlib.Core.List.{List}
-use Prim.Native.Nat.{ℕ, _+_, _-_, _*_, _^_, _<_, _≤_}
-use native.Mathlib.Omega.{arith}
-use borrow.Author.Tests.{leb-true, ltb-true}
-use lib.Dec.{ltb}
-use lib.ListN.{length, set, length-set}
-use Rattle.words.specs.Bits.{bitAt}
-use Rattle.words.specs.Rows.{clearRun}
-use Rattle.runs.specs.declared.Found.{Found}
-use Rattle.runs.specs.declared.Found.the-variants.{At, Nothing}
-use Rattle.runs.proofs.SearchLaws.{and-both}
-use Rattle.arena.specs.declared.Arena.{Arena}
-use Rattle.arena.specs.Record.{withDeadline}
-use Rattle.arena.specs.Sweeping.{borrowChunk, returnChunk}
-use Rattle.purge.specs.Stamps.{stampsOf}
-use Rattle.purge.specs.Maps.{nextDeadline}
-use Rattle.purge.proofs.MapLaws.{next-returned, rearm-returned}
-use Rattle.lookup.proofs.SoundLaws.{SoundArena}
-use Rattle.layer.specs.declared.State.{State}
-use Rattle.layer.specs.declared.Sweep.{Sweep}
-use Rattle.layer.specs.declared.Reply.{Reply}
-use Rattle.layer.specs.declared.Question.{Question}
-use Rattle.layer.specs.declared.Question.the-variants.{Purging}
-use Rattle.layer.specs.World.{Outcome, sizeOf, after, Leaves}
-use Rattle.layer.specs.Table.{at, isAt, askedId, soundQuestion}
-use Rattle.layer.specs.Sweeping.{purgeReply, visitAt, visit, sweepFrom}
-use Rattle.layer.specs.Answering.{counted, answerPurge}
+use Rattle.state.proofs.Prelude.{_≡_, sym, ap, _∙_, subst, Bool, true, false, List, ℕ, _+_, _-_, _*_, _^_, _<_, _≤_, arith, leb-true, ltb-true, ltb, length, set, length-set, bitAt, Found, At, Nothing, and-both, Arena, withDeadline, borrowChunk, stampsOf, nextDeadline, SoundArena, State, Sweep, Reply, Question, Purging, Outcome, sizeOf, after, Leaves, at, isAt, askedId, soundQuestion, purgeReply, visitAt, visit, sweepFrom, counted, answerPurge}
+use Rattle.bitmap.specs.Rows.{clearRun}
+use Rattle.arena.specs.Sweeping.{returnChunk}
+use Rattle.arena.proofs.purge.MapLaws.{next-returned, rearm-returned}
 use Rattle.layer.proofs.Tools.{at-same}
 use Rattle.layer.proofs.Kept.{borrow-range, return-range}
 use Rattle.state.specs.Ready.{Asked}

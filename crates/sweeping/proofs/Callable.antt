@@ -9,13 +9,13 @@ use Rattle.layer.proofs.Sweep.Laws as L-Sweep
 use Rattle.arena.proofs.Arena as T-Arena
 use Rattle.arena.proofs.Arena.Laws as L-Arena
 use Rattle.layer.proofs.Reply as T-Reply
-use Rattle.runs.proofs.Found as T-Found
-use Rattle.runs.proofs.Found.Laws as L-Found
+use Rattle.bitmap.proofs.runs.Found as T-Found
+use Rattle.bitmap.proofs.runs.Found.Laws as L-Found
 use denote.Enum.Laws as EL
 use Rattle.layer.proofs.Settings as T-Settings
 use Rattle.layer.proofs.Settings.Laws as L-Settings
-use Rattle.judge.proofs.Head as T-Head
-use Rattle.judge.proofs.Head.Laws as L-Head
+use Rattle.table.proofs.heads.Head as T-Head
+use Rattle.table.proofs.heads.Head.Laws as L-Head
 use Rattle.layer.specs.declared.State.{State}
 use Rattle.layer.specs.declared.Sweep.{Sweep}
 use Rattle.arena.specs.declared.Arena.{Arena}
@@ -23,18 +23,18 @@ use Rattle.layer.specs.declared.Reply.{Reply}
 use Rattle.layer.specs.World.{sizeOf, Leaves, worldOf}
 use Rattle.layer.specs.Answering.{answerPurge, counted}
 use Rattle.sweeping.specs.Visit.{Borrowed, chunkOf, Sweepable, askedAt, visited}
-use Rattle.runs.specs.declared.Found.{Found}
+use Rattle.bitmap.specs.declared.runs.Found.{Found}
 use Rattle.layer.specs.Table.{isAt, at}
-use Rattle.purge.specs.Stamps.{stampsOf}
-use Rattle.purge.specs.Maps.{nextDeadline}
+use Rattle.arena.specs.Stamps.{stampsOf}
+use Rattle.arena.specs.Maps.{nextDeadline}
 use Rattle.state.specs.Ready.{Stamped, Ready}
-use Rattle.words.specs.Rows.{clearRun}
+use Rattle.bitmap.specs.Rows.{clearRun}
 use Rattle.arena.specs.Sweeping.{sweepDue, nextAsked}
 use Rattle.layer.specs.declared.Settings.{Settings}
 use Rattle.layer.specs.Step.{sweep, step, act, sweepOf}
-use Rattle.judge.specs.declared.Head.{Head}
+use Rattle.table.specs.declared.heads.Head.{Head}
 use Rattle.layer.specs.Sweeping.{purgeReply, sweepFrom, sweptReply}
-use Rattle.judge.specs.Heads.{headed}
+use Rattle.table.specs.Heads.{headed}
 use Prim.Native.Nat.{_-_}
 use Rattle.sweeping.proofs.answer_purge as answer-purge′
 use Rattle.sweeping.proofs.answer_purge.Symbol.{name as #sweeping·answer-purge}

@@ -1,26 +1,5 @@
 -- A sweep over the arenas, turn by turn, and what its core is handed. S is the size of a chunk. Assumes nothing.
-use mathlib.Core.Path.{_≡_, refl, sym, ap, ap₂, _∙_, subst}
-use mathlib.Core.Bool.{Bool, true, false, cond, true≢false}
-use mathlib.Core.List.{List}
-use Prim.Native.Nat.{ℕ, suc, _+_, _-_, _*_, _^_, _<_, _≤_}
-use native.Mathlib.Omega.{arith}
-use lib.ListN.{length, set, length-set}
-use lib.Seq.{set-getD}
-use Rattle.words.proofs.Tests.{when, unless, by-cond}
-use Rattle.runs.specs.declared.Found.{Found}
-use Rattle.runs.specs.declared.Found.the-variants.{At, Nothing}
-use Rattle.arena.specs.declared.Arena.{Arena}
-use Rattle.arena.specs.Sweeping.{sweepDue, disarm}
-use Rattle.purge.specs.Stamps.{stampsOf}
-use Rattle.layer.specs.declared.State.{State}
-use Rattle.layer.specs.declared.Sweep.{Sweep}
-use Rattle.layer.specs.declared.Ask.the-variants.{AskPurge}
-use Rattle.layer.specs.declared.Answer.the-variants.{Asks}
-use Rattle.layer.specs.declared.Question.the-variants.{Purging}
-use Rattle.layer.specs.declared.Reply.{Reply}
-use Rattle.layer.specs.World.{stateOf, reply, after, Leaves, blank}
-use Rattle.layer.specs.Table.{at, isAt}
-use Rattle.layer.specs.Sweeping.{purgeReply, sweptReply, visitAt, visit, sweepFrom}
+use Rattle.state.proofs.Prelude.{_≡_, refl, sym, ap, ap₂, _∙_, subst, Bool, true, false, cond, true≢false, List, ℕ, suc, _+_, _-_, _*_, _^_, _<_, _≤_, arith, length, set, length-set, set-getD, when, unless, by-cond, Found, At, Nothing, Arena, sweepDue, disarm, stampsOf, State, Sweep, AskPurge, Asks, Purging, Reply, stateWith, reply, after, Leaves, blank, at, isAt, purgeReply, sweptReply, visitAt, visit, sweepFrom}
 use Rattle.layer.proofs.Tools.{by-set, at-same}
 use Rattle.layer.proofs.Kept.{disarm-range}
 use Rattle.state.specs.Ready.{Standing}
@@ -47,7 +26,7 @@ ranged-put S l k i a h u v p q j m =
 
 pub purge-base : (S k : ℕ) (mark : Bool) (w : Sweep) (i : ℕ) (a b : Arena) (j : ℕ) → a .base ≡ b .base → purgeReply S k mark w i a j ≡ purgeReply S k mark w i b j
 unfolding purgeReply
-purge-base S k mark w i a b j e = ap (λ (x : ℕ). reply (Asks (AskPurge (x + j * S) S (w .decommit))) (stateOf k mark (Purging i j w))) e
+purge-base S k mark w i a b j e = ap (λ (x : ℕ). reply (Asks (AskPurge (x + j * S) S (w .decommit))) (stateWith k mark (Purging i j w))) e
 
 module _ (S : ℕ) (stamps : List ℕ) (k : ℕ) (mark : Bool) (w : Sweep) where
   -- no arena is left

@@ -1,28 +1,10 @@
 -- A sweep at one arena, case by case. Assumes nothing.
-use mathlib.Core.Path.{_≡_, refl, sym, ap, _∙_, subst}
-use mathlib.Core.Bool.{Bool, true, false, true≢false}
-use mathlib.Core.List.{List}
-use Prim.Native.Nat.{ℕ, _+_, _-_, _*_, _^_, _<_, _≤_}
+use Rattle.state.proofs.Prelude.{_≡_, refl, sym, ap, _∙_, subst, Bool, true, false, true≢false, List, ℕ, _+_, _-_, _*_, _^_, _<_, _≤_, arith, set, set-getD, when, unless, by-cond, Found, At, Nothing, First, first-says, Arena, withDeadline, sweepDue, disarm, borrowChunk, stampsOf, nextDeadline, Sweep, blank, at, isAt, purgeReply}
 use native.Mathlib.Nat.{mul-le-mul-right}
-use native.Mathlib.Omega.{arith}
-use lib.ListN.{set}
-use lib.Seq.{set-getD}
-use Rattle.words.proofs.Tests.{when, unless, by-cond}
-use Rattle.runs.specs.declared.Found.{Found}
-use Rattle.runs.specs.declared.Found.the-variants.{At, Nothing}
-use Rattle.runs.proofs.LowestLaws.{First, first-says}
-use Rattle.arena.specs.declared.Arena.{Arena}
-use Rattle.arena.specs.Record.{withDeadline}
-use Rattle.arena.specs.Sweeping.{sweepDue, toAsk, nextAsked, disarm, borrowChunk}
-use Rattle.purge.specs.Stamps.{stampsOf}
-use Rattle.purge.specs.Maps.{nextDeadline}
-use Rattle.purge.proofs.MapLaws.{next-disarmed, rearm-disarmed}
-use Rattle.layer.specs.declared.Sweep.{Sweep}
-use Rattle.layer.specs.World.{blank}
-use Rattle.layer.specs.Table.{at, isAt}
-use Rattle.layer.specs.Sweeping.{purgeReply}
+use Rattle.arena.specs.Sweeping.{toAsk, nextAsked}
+use Rattle.arena.proofs.purge.MapLaws.{next-disarmed, rearm-disarmed}
 use Rattle.layer.proofs.Kept.{disarm-range, borrow-range, rearm-range}
-use Rattle.judge.specs.Heads.{headOf, headed}
+use Rattle.table.specs.Heads.{headOf, headed}
 use Rattle.sweeping.specs.Visit.{comesDue, chunkOf, askedAt, leftBy, visited}
 
 pub due-is : (a : Arena) (w : Sweep) → comesDue (a .deadline) w ≡ sweepDue a (w .force) (w .now)

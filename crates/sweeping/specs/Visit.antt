@@ -4,8 +4,8 @@ use mathlib.Core.List.{List}
 use Prim.Native.Nat.{ℕ, _+_, _*_, _^_, _<_, _≤_}
 use lib.Dec.{eqb}
 use lib.ListN.{length}
-use Rattle.runs.specs.declared.Found.{Found}
-use Rattle.runs.specs.declared.Found.the-variants.{At, Nothing}
+use Rattle.bitmap.specs.declared.runs.Found.{Found}
+use Rattle.bitmap.specs.declared.runs.Found.the-variants.{At, Nothing}
 use Rattle.clock.specs.Clock.{isDue}
 use Rattle.arena.specs.declared.Arena.{Arena}
 use Rattle.arena.specs.Sweeping.{sweepDue, disarm, nextAsked, borrowChunk, rearm}

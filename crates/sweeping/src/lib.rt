@@ -4,20 +4,20 @@ ghost use mathlib.Core.Path.{_≡_};
 ghost use mathlib.Core.Bool.{true};
 ghost use Prim.Native.Nat.{_+_, _-_, _*_, _^_, _<_, _≤_};
 ghost use lib.ListN.{length, set};
-ghost use Rattle.words.specs.Rows.{clearRun};
+ghost use Rattle.bitmap.specs.Rows.{clearRun};
 ghost use Rattle.arena.specs.Sweeping.{sweepDue, nextAsked};
-ghost use Rattle.purge.specs.Stamps.{stampsOf};
-ghost use Rattle.purge.specs.Maps.{nextDeadline};
+ghost use Rattle.arena.specs.Stamps.{stampsOf};
+ghost use Rattle.arena.specs.Maps.{nextDeadline};
 ghost use Rattle.layer.specs.World.{sizeOf, worldOf, Leaves};
 ghost use Rattle.layer.specs.Table.{at, isAt};
 ghost use Rattle.layer.specs.Sweeping.{purgeReply, sweptReply, sweepFrom};
 ghost use Rattle.layer.specs.Answering.{counted, answerPurge};
 ghost use Rattle.layer.specs.Step.{sweep, sweepOf, step, act};
-ghost use Rattle.judge.specs.Heads.{headed};
+ghost use Rattle.table.specs.Heads.{headed};
 ghost use Rattle.state.specs.Ready.{Ready, Stamped};
 ghost use Rattle.sweeping.specs.Visit.{comesDue, chunkOf, askedAt, visited, Sweepable, Borrowed};
 use arena::Arena;
-use judge::Head;
+use bitmap::runs::Found;
 use layer::Answer;
 use layer::Ask;
 use layer::Question;
@@ -26,7 +26,7 @@ use layer::Settings;
 use layer::State;
 use layer::Sweep;
 use refusals::Refusal;
-use runs::Found;
+use table::heads::Head;
 
 // ---- replies
 
@@ -97,7 +97,7 @@ fn next_chunk(stamps: &[u32], a: Arena, i: usize, w: Sweep, from: usize) -> Foun
 {
     let pending = a.pending;
     let used = a.used;
-    purge::next_asked_of(
+    arena::purge::next_asked_of(
         &pending,
         &used,
         a.chunks,
@@ -126,7 +126,7 @@ fn deadline_anew(stamps: &[u32], a: Arena, i: usize, w: Sweep) -> u32
     requires { ⌜ (a .chunks ≤ 1024) × (i < 32) × Stamped (now stamps) ⌝ }
     ensures { λ r. ⌜ r ≡ nextDeadline 0 (a .pending) (a .chunks) (stampsOf (now (stamps .entry)) i) (w .force) (w .now) (w .delay) ⌝ }
 {
-    purge::next_deadline_of(0, &a.pending, a.chunks, stamps, i, w.force, w.now, w.delay)
+    arena::purge::next_deadline_of(0, &a.pending, a.chunks, stamps, i, w.force, w.now, w.delay)
 }
 
 // Its deadline once chunk j, which is pending no more, has come back.
@@ -135,8 +135,8 @@ fn deadline_without(stamps: &[u32], a: Arena, i: usize, w: Sweep, j: usize) -> u
     ensures { λ r. ⌜ r ≡ nextDeadline (a .deadline) (clearRun (a .pending) j 1) (a .chunks) (stampsOf (now (stamps .entry)) i) (w .force) (w .now) (w .delay) ⌝ }
 {
     let pending = a.pending;
-    let settled = rows::row_cleared(pending, j, 1);
-    purge::next_deadline_of(
+    let settled = bitmap::rows::row_cleared(pending, j, 1);
+    arena::purge::next_deadline_of(
         a.deadline,
         &settled,
         a.chunks,
@@ -156,20 +156,20 @@ fn visit(records: &mut [Arena], stamps: &mut [u32], i: usize, w: Sweep) -> Found
         × (now (stamps .exit) ≡ now (stamps .entry)) ⌝ }
 {
     if !is_due_at(records, i, w) {
-        return judge::row_parts::nothing();
+        return table::row_parts::nothing();
     }
-    let a = records::load(records, i);
+    let a = table::records::load(records, i);
     let f = next_chunk(stamps, a, i, w, 0);
-    if judge::row_parts::is_at(f) {
+    if table::row_parts::is_at(f) {
         let j = chunk_of(f);
         let b = arena::arena_sweeps::first_borrowed(a, j);
-        records::store(records, i, b);
-        return judge::row_parts::found(j);
+        table::records::store(records, i, b);
+        return table::row_parts::found(j);
     }
     let due = deadline_anew(stamps, a, i, w);
     let c = arena::arena_sweeps::armed_anew(a, due);
-    records::store(records, i, c);
-    judge::row_parts::nothing()
+    table::records::store(records, i, c);
+    table::row_parts::nothing()
 }
 
 // ---- over the arenas
@@ -179,11 +179,11 @@ fn sweep_on(records: &mut [Arena], stamps: &mut [u32], state: State, from: usize
     requires { ⌜ Sweepable (now records) state × Stamped (now stamps) ⌝ }
     ensures { λ r. ⌜ Leaves (sweepFrom (sizeOf state) (now (stamps .entry)) (state .count) (state .mark) w (state .count - from) from (now (records .entry))) r (now (records .exit)) (now (stamps .exit)) ⌝ }
 {
-    let count = state::count_of(state);
+    let count = state.count;
     let mut i = from;
     while i < count {
         let f = visit(records, stamps, i, w);
-        if judge::row_parts::is_at(f) {
+        if table::row_parts::is_at(f) {
             let j = chunk_of(f);
             return question_at(records, state, i, j, w);
         }
@@ -269,17 +269,17 @@ pub fn answer_purge(
     let v = count_answer(w, granted);
     let decommit = decommits(w);
     let start = behind(chunk);
-    let a = records::load(records, id);
+    let a = table::records::load(records, id);
     let f = next_chunk(stamps, a, id, v, start);
-    if judge::row_parts::is_at(f) {
+    if table::row_parts::is_at(f) {
         let j = chunk_of(f);
         let b = arena::arena_sweeps::next_borrowed(a, chunk, granted, decommit, j);
-        records::store(records, id, b);
+        table::records::store(records, id, b);
         return question_at(records, state, id, j, v);
     }
     let due = deadline_without(stamps, a, id, v, chunk);
     let c = arena::arena_sweeps::last_returned(a, chunk, granted, decommit, due);
-    records::store(records, id, c);
+    table::records::store(records, id, c);
     let rest = behind(id);
     sweep_on(records, stamps, state, rest, v)
 }

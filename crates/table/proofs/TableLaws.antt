@@ -1,37 +1,17 @@
 -- The searches over the table and row 1, by what their loops know. S is the size of a chunk. Assumes nothing.
-use mathlib.Core.Path.{_≡_, refl, sym, ap, ap₂, subst, _∙_}
-use mathlib.Core.Bool.{Bool, true, false, not, _&&_, _||_}
-use mathlib.Core.List.{List}
-use Prim.Native.Nat.{ℕ, _+_, _*_, _^_, _<_, _≤_}
-use native.Mathlib.Omega.{arith}
-use native.Mathlib.Nat.{not-suc-le-zero}
-use borrow.Author.Tests.{ltb-true, ltb-false, leb-true, leb-false, eqb-true}
-use lib.Dec.{eqb, leb, ltb}
-use lib.ListN.{length}
-use Rattle.words.specs.Bits.{bitAt}
-use Rattle.runs.specs.declared.Found.{Found}
-use Rattle.runs.specs.declared.Found.the-variants.{At, Nothing}
-use Rattle.runs.specs.Lowest.{all}
-use Rattle.runs.proofs.LowestLaws.{all-free-of, least-none}
-use Rattle.runs.proofs.SearchLaws.{and-both}
-use Rattle.options.specs.Options.{pageSizeSound}
-use Rattle.arena.specs.declared.Arena.{Arena}
-use Rattle.lookup.specs.Place.{bytesOf, endOf, isInside}
-use Rattle.lookup.specs.Soundness.{soundRange, clearPastAll, soundArena}
-use Rattle.lookup.proofs.SoundLaws.{range-facts, full-clear, sound-range}
-use Rattle.layer.specs.declared.State.{State}
-use Rattle.layer.specs.declared.Question.{Question}
-use Rattle.layer.specs.Table.{at, isAt, meets, overlaps, findArena, apart, askedId, soundQuestion, soundTable, soundLent}
-use Rattle.layer.specs.Registering.{grows, growing}
+use Rattle.state.proofs.Prelude.{_≡_, refl, sym, ap, ap₂, subst, _∙_, Bool, true, false, not, _&&_, _||_, List, ℕ, _+_, _*_, _<_, _≤_, arith, not-suc-le-zero, ltb-true, ltb-false, leb-true, leb-false, eqb-true, eqb, leb, ltb, length, bitAt, Found, At, Nothing, all, all-free-of, least-none, and-both, pageSizeSound, Arena, bytesOf, endOf, isInside, clearPastAll, soundArena, range-facts, State, Question, at, isAt, meets, overlaps, findArena, askedId, soundQuestion, soundLent, grows, growing}
+use Rattle.arena.specs.Soundness.{soundRange}
+use Rattle.arena.proofs.SoundLaws.{full-clear, sound-range}
+use Rattle.layer.specs.Table.{apart, soundTable}
 use Rattle.state.specs.Ready.{SoundArenas}
-use Rattle.judge.specs.declared.Head.{Head}
-use Rattle.judge.specs.declared.spans.Span.{Span}
-use Rattle.judge.specs.Heads.{headOf, headed}
-use Rattle.judge.specs.Questions.{aboutNone, firstAsked, lengthAsked, soundCount}
-use Rattle.judge.specs.Spans.{outside, Covers}
-use Rattle.judge.proofs.ranges.RangeLaws.{no-meeting}
-use Rattle.judge.proofs.open_question.QuestionLaws.{asks-sound}
-use Rattle.judge.proofs.row_parts.FourLaws.{and-1, and-2, and-3, and-4}
+use Rattle.table.specs.declared.heads.Head.{Head}
+use Rattle.table.specs.declared.spans.Span.{Span}
+use Rattle.table.specs.Heads.{headOf, headed}
+use Rattle.table.specs.Questions.{aboutNone, firstAsked, lengthAsked, soundCount}
+use Rattle.table.specs.Spans.{outside, CoversAll}
+use Rattle.table.proofs.ranges.RangeLaws.{no-meeting}
+use Rattle.table.proofs.open_question.QuestionLaws.{asks-sound}
+use Rattle.table.proofs.row_parts.FourLaws.{and-1, and-2, and-3, and-4}
 use Rattle.table.proofs.TurnLaws.{Passed, found-at, found-none, all-passed, one-fails}
 
 -- an id below the count is one of the lent records
@@ -138,11 +118,11 @@ module _ (S : ℕ) (l : List Arena) where
   apart-is k = refl
 
   -- any span covers no arena
-  pub covers-none : (s : Span) → Covers S s l 0
+  pub covers-none : (s : Span) → CoversAll S s l 0
   covers-none s i h = absurd (not-suc-le-zero h)
 
   -- one arena more, in a span that covers the others and it
-  pub covers-more : (s r : Span) (j : ℕ) → Covers S s l j → (r .lo ≤ s .lo) × (s .hi ≤ r .hi) × (r .lo ≤ at l j .base) × (at l j .base + at l j .chunks * S ≤ r .hi) → Covers S r l (j + 1)
+  pub covers-more : (s r : Span) (j : ℕ) → CoversAll S s l j → (r .lo ≤ s .lo) × (s .hi ≤ r .hi) × (r .lo ≤ at l j .base) × (at l j .base + at l j .chunks * S ≤ r .hi) → CoversAll S r l (j + 1)
   unfolding endOf bytesOf
   covers-more s r j c e i h = go (ltb i j) refl
     where
@@ -153,7 +133,7 @@ module _ (S : ℕ) (l : List Arena) where
           subst (λ (m : ℕ). (r .lo ≤ at l m .base) × (at l m .base + at l m .chunks * S ≤ r .hi)) (sym same) (e .2, e .3)
 
   -- a range outside the span meets none of them
-  pub outside-alone : (s : Span) (h : Head) (j : ℕ) → Covers S s l j → outside S s h ≡ true → true ≡ not (overlaps S l j (h .base) (h .chunks * S))
+  pub outside-alone : (s : Span) (h : Head) (j : ℕ) → CoversAll S s l j → outside S s h ≡ true → true ≡ not (overlaps S l j (h .base) (h .chunks * S))
   unfolding overlaps outside endOf bytesOf
   outside-alone s h j c e =
       sym (ap (λ (f : Found). not (isAt f)) (least-none (λ i. meets S (at l i) (h .base) (h .chunks * S)) 0 j

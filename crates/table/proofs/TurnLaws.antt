@@ -1,15 +1,7 @@
 -- A loop that looks at place after place: what it knows before each turn, and what that says once it ends. Assumes nothing.
-use mathlib.Core.Path.{_≡_, sym, subst, _∙_}
-use mathlib.Core.Bool.{Bool, true, false, true≢false}
-use mathlib.Core.Logic.{⊎-elim}
-use Prim.Native.Nat.{ℕ, _+_, _<_, _≤_}
-use native.Mathlib.Omega.{arith}
-use native.Mathlib.Nat.{not-suc-le-zero}
-use Rattle.words.proofs.RowLaws.{lt-or-le}
-use Rattle.runs.specs.declared.Found.the-variants.{At, Nothing}
-use Rattle.runs.specs.Lowest.{all, least}
-use Rattle.runs.proofs.LowestLaws.{least-none, least-at, all-free-of, free-all}
-use Rattle.lookup.proofs.SoundLaws.{never}
+use Rattle.state.proofs.Prelude.{_≡_, sym, subst, _∙_, Bool, true, false, true≢false, ⊎-elim, ℕ, _+_, _<_, _≤_, arith, not-suc-le-zero, At, Nothing, all, least, least-none, all-free-of, free-all, never}
+use Rattle.bitmap.proofs.words.RowLaws.{lt-or-le}
+use Rattle.bitmap.proofs.runs.LowestLaws.{least-at}
 
 -- p is b at each place below i
 abbrev pub Passed : Bool → (ℕ → Bool) → ℕ → Type 0

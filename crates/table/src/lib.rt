@@ -1,24 +1,33 @@
 // The lent table of records: the searches over it, and row 1. All decisions on one record are made by value, in the
 // crates below.
+pub mod heads;
+pub mod maps;
+pub mod open_question;
+pub mod ranges;
+pub mod records;
+pub mod row_parts;
+pub mod run_maps;
+pub mod spans;
+
 ghost use mathlib.Core.Path.{_≡_};
 ghost use mathlib.Core.Bool.{true, not, _&&_};
 ghost use Prim.Native.Nat.{ℕ, _*_, _<_, _≤_};
 ghost use lib.ListN.{length, getD};
-ghost use Rattle.runs.specs.Lowest.{all};
+ghost use Rattle.bitmap.specs.Lowest.{all};
 ghost use Rattle.arena.specs.ChunkSize.{ChunkSize};
-ghost use Rattle.lookup.specs.Soundness.{soundRange, soundArena};
+ghost use Rattle.arena.specs.Soundness.{soundRange, soundArena};
 ghost use Rattle.layer.specs.World.{blank};
 ghost use Rattle.layer.specs.Table.{at, overlaps, findArena, apart, askedId, soundQuestion, soundLent};
 ghost use Rattle.layer.specs.Registering.{growing};
 ghost use Rattle.state.specs.Ready.{SoundArenas};
-ghost use Rattle.judge.specs.Heads.{headOf};
-ghost use Rattle.judge.specs.Spans.{Covers};
+ghost use Rattle.table.specs.Heads.{headOf};
+ghost use Rattle.table.specs.Spans.{CoversAll};
+use crate::heads::Head;
+use crate::spans::Span;
 use arena::Arena;
-use judge::Head;
-use judge::spans::Span;
+use bitmap::runs::Found;
 use layer::Question;
 use layer::State;
-use runs::Found;
 
 // The head of the record at an id of the table, read where it lies.
 pub fn head_at(records: &[Arena], i: usize) -> Head
@@ -43,12 +52,12 @@ pub fn find_arena(records: &[Arena], k: usize, chunk_size: u64, address: u64) ->
     let mut i = 0;
     while i < k {
         let h = head_at(records, i);
-        if judge::ranges::holds(h, chunk_size, address) {
-            return judge::row_parts::found(i);
+        if crate::ranges::holds(h, chunk_size, address) {
+            return crate::row_parts::found(i);
         }
         i = i + 1;
     }
-    judge::row_parts::nothing()
+    crate::row_parts::nothing()
 }
 
 // Whether the range of so many bytes from base on overlaps an arena.
@@ -59,7 +68,7 @@ pub fn overlaps_one(records: &[Arena], k: usize, chunk_size: u64, base: u64, byt
     let mut i = 0;
     while i < k {
         let h = head_at(records, i);
-        if judge::ranges::meets_range(h, chunk_size, base, bytes) {
+        if crate::ranges::meets_range(h, chunk_size, base, bytes) {
             return true;
         }
         i = i + 1;
@@ -75,12 +84,12 @@ pub fn find_growing(records: &[Arena], k: usize, chunk_size: u64, address: u64, 
     let mut i = 0;
     while i < k {
         let h = head_at(records, i);
-        if judge::ranges::grows_at(h, chunk_size, address, n) {
-            return judge::row_parts::found(i);
+        if crate::ranges::grows_at(h, chunk_size, address, n) {
+            return crate::row_parts::found(i);
         }
         i = i + 1;
     }
-    judge::row_parts::nothing()
+    crate::row_parts::nothing()
 }
 
 // ---- row 1
@@ -91,27 +100,27 @@ fn sound_at(records: &[Arena], i: usize, h: Head, chunk_size: u64) -> bool
     requires { ⌜ ChunkSize «chunk_size» × (i < length (now records)) × (h ≡ headOf (at (now records) i)) ⌝ }
     ensures { λ r. ⌜ r ≡ soundArena «chunk_size» (at (now (records .entry)) i) ⌝ }
 {
-    if !judge::ranges::is_sound(h, chunk_size) {
+    if !crate::ranges::is_sound(h, chunk_size) {
         return false;
     }
-    if judge::ranges::is_full(h) {
+    if crate::ranges::is_full(h) {
         return true;
     }
-    let chunks = judge::chunks_of(h);
-    records::maps::tails_clear_at(records, i, chunks)
+    let chunks = crate::heads::chunks_of(h);
+    crate::maps::tails_clear_at(records, i, chunks)
 }
 
 // Whether the range of a head meets none of the first j arenas. They lie in the span, so a range outside it
 // meets none, and they are not looked at.
 fn meets_none(records: &[Arena], j: usize, chunk_size: u64, s: Span, h: Head) -> bool
-    requires { ⌜ ChunkSize «chunk_size» × SoundArenas «chunk_size» (now records) j × (soundRange «chunk_size» (h .base) (h .chunks) ≡ true) × Covers «chunk_size» s (now records) j ⌝ }
+    requires { ⌜ ChunkSize «chunk_size» × SoundArenas «chunk_size» (now records) j × (soundRange «chunk_size» (h .base) (h .chunks) ≡ true) × CoversAll «chunk_size» s (now records) j ⌝ }
     ensures { λ r. ⌜ r ≡ not (overlaps «chunk_size» (now (records .entry)) j (h .base) (h .chunks * «chunk_size»)) ⌝ }
 {
-    if judge::spans::is_outside(s, h, chunk_size) {
+    if crate::spans::is_outside(s, h, chunk_size) {
         return true;
     }
-    let base = judge::ranges::base_of(h);
-    let bytes = judge::ranges::bytes_of(h, chunk_size);
+    let base = crate::ranges::base_of(h);
+    let bytes = crate::ranges::bytes_of(h, chunk_size);
     !overlaps_one(records, j, chunk_size, base, bytes)
 }
 
@@ -121,7 +130,7 @@ fn arenas_sound(records: &[Arena], k: usize, chunk_size: u64) -> bool
     requires { ⌜ ChunkSize «chunk_size» × (k ≤ length (now records)) ⌝ }
     ensures { λ r. ⌜ r ≡ (all (λ i. soundArena «chunk_size» (at (now (records .entry)) i)) 0 k && apart «chunk_size» (now (records .entry)) k) ⌝ }
 {
-    let mut s = judge::spans::no_span();
+    let mut s = crate::spans::no_span();
     let mut i = 0;
     while i < k {
         let h = head_at(records, i);
@@ -131,7 +140,7 @@ fn arenas_sound(records: &[Arena], k: usize, chunk_size: u64) -> bool
         if !meets_none(records, i, chunk_size, s, h) {
             return false;
         }
-        s = judge::spans::span_with(s, h, chunk_size);
+        s = crate::spans::span_with(s, h, chunk_size);
         i = i + 1;
     }
     true
@@ -143,23 +152,23 @@ fn question_sound(records: &[Arena], count: usize, question: Question) -> bool
     requires { ⌜ (count ≤ 32) × (count ≤ length (now records)) × ((i : ℕ) → i < count → at (now records) i .chunks ≤ 1024) ⌝ }
     ensures { λ r. ⌜ r ≡ soundQuestion (at (now (records .entry)) (askedId question)) count question ⌝ }
 {
-    if judge::open_question::is_about_none(question) {
+    if crate::open_question::is_about_none(question) {
         return true;
     }
-    let id = judge::open_question::asked_id(question);
-    if !judge::open_question::is_registered(id, count) {
+    let id = crate::open_question::asked_id(question);
+    if !crate::open_question::is_registered(id, count) {
         return false;
     }
     let h = head_at(records, id);
-    let start = judge::open_question::first_asked(question);
-    let n = judge::open_question::length_asked(question);
-    if !judge::open_question::is_within(h, start, n) {
+    let start = crate::open_question::first_asked(question);
+    let n = crate::open_question::length_asked(question);
+    if !crate::open_question::is_within(h, start, n) {
         return false;
     }
-    if !records::run_maps::used_at(records, id, start, n) {
+    if !crate::run_maps::used_at(records, id, start, n) {
         return false;
     }
-    judge::open_question::count_is_sound(question)
+    crate::open_question::count_is_sound(question)
 }
 
 // What row 1 lets pass, of so many stamps.
@@ -167,8 +176,8 @@ pub fn row_one(records: &[Arena], stamps: usize, state: State, page: u64, chunk_
     requires { ⌜ ChunkSize «chunk_size» ⌝ }
     ensures { λ r. ⌜ r ≡ soundLent «chunk_size» (now (records .entry)) stamps state page ⌝ }
 {
-    let count = state::count_of(state);
-    if !judge::row_parts::lent_sound(records.len(), stamps, page, count) {
+    let count = state.count;
+    if !crate::row_parts::lent_sound(records.len(), stamps, page, count) {
         return false;
     }
     if !arenas_sound(records, count, chunk_size) {

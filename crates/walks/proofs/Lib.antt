@@ -1,3 +1,4 @@
+pub mod Prelude
 pub mod Big
 pub mod Walk
 pub mod Locals

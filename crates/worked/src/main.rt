@@ -4,9 +4,22 @@
 // is printed comes from functions that are: the libraries', and those of `worked_parts`. The answer of
 // each is fixed by an `ensures`.
 //
-// The cases are document 01's "Worked by hand", but for its lines on managing and adopting, whose calls
-// are on the lent table of arenas (`cases` and `layer_cases` compute those), and the slice pool's rows of
-// "Turned down". A refusal is shown by its number there.
+// The cases are all of document 01's "Worked by hand" and, of "Turned down", the example of each row, on the
+// lent table of arenas, and the slice pool's rows. A refusal is shown by its number there.
+use arena::Arena;
+use arena::Commitment;
+use calls::kinds::ActCall;
+use calls::kinds::Call;
+use calls::kinds::ClaimCall;
+use calls::kinds::FreeCall;
+use calls::kinds::MemoryCall;
+use calls::kinds::QueryCall;
+use layer::Answer;
+use layer::Kind;
+use layer::Question;
+use layer::Reply;
+use layer::Settings;
+use layer::State;
 use libc::STDOUT_FILENO;
 use worked_parts::numbers;
 use worked_parts::picture;
@@ -103,11 +116,16 @@ fn yes_or_no(t: Tally, name: &[u8], got: bool, want: bool) -> Tally {
 }
 
 fn masks(t: Tally) -> Tally {
-    let t1 = number(t, b"mask of 0 low ones", words::low_ones(0) as u64, 0);
+    let t1 = number(
+        t,
+        b"mask of 0 low ones",
+        bitmap::words::low_ones(0) as u64,
+        0,
+    );
     number(
         t1,
         b"mask of 32 low ones",
-        words::low_ones(32) as u64,
+        bitmap::words::low_ones(32) as u64,
         4294967295,
     )
 }
@@ -115,10 +133,10 @@ fn masks(t: Tally) -> Tally {
 // Bit j of the words is chunk j, set where it is used.
 fn lowest_runs(t: Tally) -> Tally {
     let five: [u32; 1] = [5];
-    let a = numbers::start_of(runs::lowest_run(&five, true, 5, 2));
+    let a = numbers::start_of(bitmap::runs::lowest_run(&five, true, 5, 2));
     let t1 = number(t, b"5 chunks, 0 and 2 used: start of a run of 2", a, 3);
     let forty: [u32; 2] = [2147483647, 2];
-    let b = numbers::start_of(runs::lowest_run(&forty, true, 40, 2));
+    let b = numbers::start_of(bitmap::runs::lowest_run(&forty, true, 40, 2));
     number(
         t1,
         b"40 chunks, 0 to 30 and 33 used: start of a run of 2",
@@ -228,6 +246,277 @@ fn frees_refused(t: Tally) -> Tally {
     number(t4, b"slices: a free at 2^32: refusal", e, 9)
 }
 
+// ---- the lent table of arenas: the example of "Turned down"
+
+// The calls of a case, made one after the other. The last three are named; those before them adopt blocks.
+struct Case {
+    calls: u32,
+    earlier: Call,
+    before: Call,
+    last: Call,
+}
+
+// Arena 0: owned, not exclusive, 4 chunks, all free, uncommitted.
+fn example() -> Arena {
+    arena::reserved_arena(1073741824, 4, false, false)
+}
+
+// One arena stands, and no question is open. No call has answered yet.
+fn idle() -> Reply {
+    let state = State {
+        count: 1,
+        mark: false,
+        question: Question::Idle,
+    };
+    Reply {
+        answer: Answer::Released,
+        state,
+    }
+}
+
+fn state_of(r: Reply) -> State {
+    r.state
+}
+
+fn calls_of(c: Case) -> u32 {
+    c.calls
+}
+
+// The call that so many are left with, itself counted.
+fn call_at(c: Case, left: u32) -> Call {
+    if left == 1 {
+        return c.last;
+    }
+    if left == 2 {
+        return c.before;
+    }
+    if left == 3 {
+        return c.earlier;
+    }
+    block(left)
+}
+
+// What the last call of a case answers. Past the example's one arena the table may hold anything.
+fn answered(e: Settings, c: Case) -> Reply {
+    let mut records = [example(); 32];
+    let mut stamps = [0u32; 32768];
+    let mut r = idle();
+    let mut left = calls_of(c);
+    while left > 0 {
+        let state = state_of(r);
+        let a = call_at(c, left);
+        r = calls::call(&mut records, &mut stamps, state, 0, e, a);
+        left -= 1;
+    }
+    r
+}
+
+// What a call answers that is lent a stamp too few.
+fn answered_short(e: Settings, a: Call) -> Reply {
+    let mut records = [example(); 32];
+    let mut stamps = [0u32; 32767];
+    let state = state_of(idle());
+    calls::call(&mut records, &mut stamps, state, 0, e, a)
+}
+
+// No reserve.
+fn settings(off: bool) -> Settings {
+    Settings {
+        delay: 0,
+        decommits: false,
+        off,
+        reserve: 0,
+        page: 4096,
+    }
+}
+
+fn case_of(calls: u32, earlier: Call, before: Call, last: Call) -> Case {
+    Case {
+        calls,
+        earlier,
+        before,
+        last,
+    }
+}
+
+fn once(a: Call) -> Case {
+    case_of(1, a, a, a)
+}
+
+fn twice(a: Call, b: Call) -> Case {
+    case_of(2, a, a, b)
+}
+
+fn thrice(a: Call, b: Call, c: Call) -> Case {
+    case_of(3, a, b, c)
+}
+
+fn claim(id: i32, n: usize) -> Call {
+    Call::Act(ActCall::Claim(ClaimCall::ChunkAllocN { id, n }))
+}
+
+fn release(address: u64, n: usize, pending: bool) -> Call {
+    let told = Commitment::Untold;
+    Call::Act(ActCall::Free(FreeCall::ChunkRelease {
+        address,
+        n,
+        told,
+        pending,
+    }))
+}
+
+fn forced_sweep() -> Call {
+    Call::Act(ActCall::Free(FreeCall::PurgeDue { force: true }))
+}
+
+fn adopt(address: u64, size: u64) -> Call {
+    Call::Act(ActCall::Memory(MemoryCall::Adopt { address, size }))
+}
+
+// A chunk is adopted. Between two blocks lies another chunk, so that no arena grows.
+fn block(k: u32) -> Call {
+    adopt(68719476736 + k as u64 * 67108864, 33554432)
+}
+
+fn reserve(size: u64) -> Call {
+    Call::Act(ActCall::Memory(MemoryCall::Reserve {
+        size,
+        commit: false,
+        allow_large: false,
+        exclusive: false,
+    }))
+}
+
+// Memory that is not in the segment map.
+fn manage(start: u64, size: u64, reserved: bool) -> Call {
+    Call::Act(ActCall::Memory(MemoryCall::Manage {
+        start,
+        size,
+        is_committed: false,
+        is_large: false,
+        is_zero: false,
+        node: -1,
+        exclusive: false,
+        mapped: false,
+        reserved,
+    }))
+}
+
+fn area(id: i32) -> Call {
+    Call::Query(QueryCall::ArenaArea { id })
+}
+
+fn answer(kind: Kind, yes: bool) -> Call {
+    Call::Answer { kind, yes, base: 0 }
+}
+
+// The number of the refusal; 0 for what is granted, 255 for a question.
+fn refusal(r: Reply) -> u64 {
+    surface::reply::reply_of(r).number as u64
+}
+
+fn area_base(r: Reply) -> u64 {
+    surface::reply::reply_of(r).address
+}
+
+fn area_chunks(r: Reply) -> u64 {
+    surface::reply::reply_of(r).bytes / layer::CHUNK
+}
+
+// A case whose last call is refused.
+fn refused(t: Tally, name: &[u8], c: Case, want: u64) -> Tally {
+    number(t, name, refusal(answered(settings(false), c)), want)
+}
+
+fn arenas_registered(t: Tally) -> Tally {
+    let managed = answered(settings(false), twice(manage(1, 67108864, true), area(1)));
+    let t1 = number(
+        t,
+        b"arenas: manage 1, size 67108864: base",
+        area_base(managed),
+        33554432,
+    );
+    let t2 = number(
+        t1,
+        b"arenas: manage 1, size 67108864: chunks",
+        area_chunks(managed),
+        1,
+    );
+    let adopted = answered(settings(false), twice(adopt(1207959552, 33554432), area(0)));
+    number(
+        t2,
+        b"arenas: adopt S at 1207959552: chunks of arena 0",
+        area_chunks(adopted),
+        5,
+    )
+}
+
+// Rows 1 to 5 of the table of refusals.
+fn lending_refused(t: Tally) -> Tally {
+    let short = refusal(answered_short(settings(false), claim(0, 1)));
+    let t1 = number(t, b"arenas: a claim with 32767 stamps: refusal", short, 1);
+    let purging = thrice(release(1073741824, 1, true), forced_sweep(), claim(0, 1));
+    let t2 = refused(
+        t1,
+        b"arenas: a claim during a purge question: refusal",
+        purging,
+        2,
+    );
+    let unasked = once(answer(Kind::ForCommit, true));
+    let t3 = refused(
+        t2,
+        b"arenas: an answer to an idle layer: refusal",
+        unasked,
+        3,
+    );
+    let t4 = refused(t3, b"arenas: id 0, run of 0: refusal", once(claim(0, 0)), 4);
+    let off = refusal(answered(settings(true), once(claim(-1, 1))));
+    number(t4, b"arenas: id -1, option 27 on: refusal", off, 5)
+}
+
+// Rows 6 to 9.
+fn addresses_refused(t: Tally) -> Tally {
+    let a = once(adopt(1073741824, 33554432));
+    let t1 = refused(t, b"arenas: adopt S at 1073741824: refusal", a, 6);
+    let b = once(release(1073741825, 1, false));
+    let t2 = refused(t1, b"arenas: release 1 at 1073741825: refusal", b, 7);
+    let c = once(release(1207959552, 1, false));
+    let t3 = refused(t2, b"arenas: release 1 at 1207959552: refusal", c, 8);
+    let d = once(release(1073741824, 5, false));
+    refused(t3, b"arenas: release 5 at the base: refusal", d, 9)
+}
+
+// Rows 10 to 13. Beside the example's arena 31 blocks stand before the last.
+fn runs_and_counts_refused(t: Tally) -> Tally {
+    let t1 = refused(t, b"arenas: id 0, run of 5: refusal", once(claim(0, 5)), 10);
+    let no = twice(claim(0, 1), answer(Kind::ForCommit, false));
+    let t2 = refused(t1, b"arenas: a claim at id 0, then no: refusal", no, 11);
+    let large = once(adopt(68719476736, 34393292800));
+    let t3 = refused(
+        t2,
+        b"arenas: adopt 34393292800 at 68719476736: refusal",
+        large,
+        12,
+    );
+    let full = case_of(32, block(3), block(2), block(1));
+    refused(t3, b"arenas: a 33rd separate block: refusal", full, 13)
+}
+
+// Rows 14 to 16.
+fn memory_refused(t: Tally) -> Tally {
+    let no = twice(reserve(33554432), answer(Kind::ForMemory, false));
+    let t1 = refused(t, b"arenas: reserve S, then no: refusal", no, 14);
+    let ragged = once(manage(1, 33554432, true));
+    let t2 = refused(t1, b"arenas: manage 1, size S: refusal", ragged, 15);
+    let unknown = once(manage(33554432, 67108864, false));
+    refused(
+        t2,
+        b"arenas: manage S, size 2S, not reserved: refusal",
+        unknown,
+        16,
+    )
+}
+
 fn table() {
     heading();
     let mut t = tally::none_yet();
@@ -241,6 +530,11 @@ fn table() {
     t = run_taken(t);
     t = runs_refused(t);
     t = frees_refused(t);
+    t = arenas_registered(t);
+    t = lending_refused(t);
+    t = addresses_refused(t);
+    t = runs_and_counts_refused(t);
+    t = memory_refused(t);
     total(t);
 }
 

@@ -1,7 +1,5 @@
 -- A case counted, by whether the two answers are the same. Assumes nothing.
-use mathlib.Core.Path.{_≡_, refl, sym, ap, ap₂, _∙_}
-use mathlib.Core.Bool.{Bool, true, false, true≢false}
-use Prim.Native.Nat.{ℕ}
+use Rattle.walks.proofs.Prelude.{_≡_, sym, ap, ap₂, Bool, true, false, true≢false, ℕ}
 use Rattle.worked_parts.specs.declared.tally.Tally.{Tally}
 use Rattle.worked_parts.specs.Tally.{oneMore, counted}
 

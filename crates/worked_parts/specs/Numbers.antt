@@ -1,7 +1,7 @@
 -- An answer as the number that is shown. Assumes nothing.
 use Prim.Native.Nat.{ℕ}
-use Rattle.runs.specs.declared.Found.{Found}
-use Rattle.runs.specs.declared.Found.the-variants.{At, Nothing}
+use Rattle.bitmap.specs.declared.runs.Found.{Found}
+use Rattle.bitmap.specs.declared.runs.Found.the-variants.{At, Nothing}
 use Rattle.slice_pool.specs.declared.Allocated.{Allocated}
 use Rattle.slice_pool.specs.declared.Allocated.the-variants.{Run, NotRun}
 

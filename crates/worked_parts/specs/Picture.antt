@@ -4,7 +4,7 @@ use mathlib.Core.Bool.{cond}
 use mathlib.Core.List.{List}
 use Prim.Native.Nat.{ℕ, _<_}
 use lib.ListN.{getD}
-use Rattle.words.specs.Bits.{bitAt}
+use Rattle.bitmap.specs.Bits.{bitAt}
 
 -- '.' for a free slice, '#' for one that is taken
 abbrev pub markOf : List ℕ → ℕ → ℕ

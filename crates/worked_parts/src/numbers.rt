@@ -2,7 +2,7 @@
 ghost use mathlib.Core.Path.{_≡_};
 ghost use Rattle.slice_pool.specs.Pool.{allocNumber, freeNumber};
 ghost use Rattle.worked_parts.specs.Numbers.{startOf, addressOf};
-use runs::Found;
+use bitmap::runs::Found;
 use slice_pool::Allocated;
 use slice_pool::Freed;
 

@@ -1,40 +1,9 @@
 -- Wrong claims and releases, each on a short history: a managed arena of one chunk at S, claimed and released by program 7. Assumes nothing.
-use mathlib.Core.Path.{_≡_, refl, ap, _∙_}
-use mathlib.Core.Bool.{true, false}
-use mathlib.Core.List.{[], _∷_}
-use Prim.Native.Nat.{ℕ}
-use native.Mathlib.Omega.{arith}
-use lib.IntN.{negsuc}
-use lib.ListN.{replicate}
-use Rattle.refusals.specs.declared.Refusal.the-variants.{NoRun}
-use Rattle.words.specs.Bits.{bit, bitAt, within}
-use Rattle.words.specs.Rows.{number, pack, writeRun}
-use Rattle.runs.specs.Lowest.{all, least, lowestRun}
-use Rattle.clock.specs.Clock.{orOne, nowMs, delayMs, keeps, armed, isDue}
-use Rattle.options.specs.Options.{arenaAllowed, pageSizeSound}
-use Rattle.arena.specs.declared.Commitment.the-variants.{Untold}
-use Rattle.arena.specs.Registering.{newArena, reservedArena, managedArena, adoptedArena, grownArena}
-use Rattle.arena.specs.Claiming.{findRun, runCommitted, runFresh, takeRun, giveBackRun, commitRun, dirtyRun, finishGrant}
-use Rattle.arena.specs.Releasing.{tellRun, pendRun, releaseRun, stampRun}
-use Rattle.arena.specs.Sweeping.{sweepDue, disarm, young, toAsk, nextAsked, borrowChunk, unpendChunk, returnChunk, rearm}
-use Rattle.lookup.specs.Place.{bytesOf, endOf, isInside}
-use Rattle.lookup.specs.Soundness.{soundRange, clearPast, clearPastAll, soundArena}
+use Rattle.layer.proofs.Prelude.{_≡_, refl, ap, _∙_, true, false, [], _∷_, ℕ, arith, negsuc, replicate, NoRun, bit, bitAt, within, asNumber, pack, writeRun, all, least, lowestRun, orOne, nowMs, delayMs, keeps, armed, isDue, arenaAllowed, pageSizeSound, Untold, newArena, reservedArena, managedArena, adoptedArena, grownArena, findRun, runCommitted, runFresh, takeRun, giveBackRun, commitRun, dirtyRun, finishGrant, tellRun, pendRun, releaseRun, stampRun, sweepDue, disarm, young, toAsk, nextAsked, borrowChunk, unpendChunk, returnChunk, rearm, bytesOf, endOf, isInside, soundRange, clearPast, clearPastAll, soundArena, World, Outcome, blank, stateWith, worldOf, outcome, empty, meets, overlaps, badRange, findArena, apart, soundQuestion, soundTable, soundLent, chunksFor, tooLarge, bytesAsked, askMemory, reserveReply, badCount, noWholeChunk, grows, reserveOf, manageOf, adoptOf, eligible, serves, asksCommit, grantArena, grantReply, missReply, searchOf, claimOf, releaseOf, purgeReply, sweptReply, visit, sweepFrom, isFor, answerOf, release, act, answer, rules, step, lowest, claims, releases as frees, refused, granted, released, enter, sayAll, Marked, isSound, inRange, bookOf, Demand3, TenExactly}
 use Rattle.layer.specs.declared.Question.the-variants.{Idle}
 use Rattle.layer.specs.declared.Answer.the-variants.{Refused, Claimed, Released}
-use Rattle.layer.specs.World.{World, Outcome, blank, stateOf, worldOf, outcome, empty}
-use Rattle.layer.specs.Table.{meets, overlaps, badRange, findArena, apart, soundQuestion, soundTable, soundLent}
-use Rattle.layer.specs.Registering.{chunksFor, tooLarge, bytesAsked, askMemory, reserveReply, badCount, noWholeChunk, grows, reserveOf, manageOf, adoptOf}
-use Rattle.layer.specs.Claiming.{eligible, serves, asksCommit, grantArena, grantReply, missReply, searchOf, claimOf}
-use Rattle.layer.specs.Releasing.{releaseOf}
-use Rattle.layer.specs.Sweeping.{purgeReply, sweptReply, visit, sweepFrom}
-use Rattle.layer.specs.Answering.{isFor, answerOf}
-use Rattle.layer.specs.Step.{release, act, answer, rules, step}
-use Rattle.layer.specs.Book.{lowest, claims, releases as frees, refused, granted, released, enter, sayAll}
-use Rattle.layer.specs.History.{Marked, isSound, inRange}
-use Rattle.layer.specs.Demand.{bookOf, Demand3}
-use Rattle.layer.specs.Ten.{TenExactly}
-use Rattle.share_book_cases.specs.Example.{S, plain, row, by}
-use Rattle.share_book_cases.proofs.Runs.{after-made, by-book, own-call}
+use Rattle.document_cases.specs.Example.{S, plain, row, by}
+use Rattle.document_cases.proofs.Runs.{after-made, by-book, own-call}
 use Rattle.wrong_layers.proofs.Ground.{stand, clash, clear, held, claimsOn, arena, ground, opened, opens}
 use Rattle.wrong_layers.specs.Wrong.{tenAlways, tenBeforeLooking, chunkZero, releasesNothing, ClaimsFail}
 
@@ -43,7 +12,7 @@ releasesOn w = by 7 w 0 (act (release S 1 Untold false))
 
 -- a shared arena of one chunk, for the claim with a negative id
 abbrev shared : World
-shared = worldOf (record { base = S; chunks = 1; exclusive = 0; owned = 0; node = negsuc 0; deadline = 0; used = row 0; dirty = row 1; committed = row 1; pending = row 0 } ∷ replicate 31 blank) (replicate 32768 0) (stateOf 1 false Idle)
+shared = worldOf (record { base = S; chunks = 1; exclusive = 0; owned = 0; node = negsuc 0; deadline = 0; used = row 0; dirty = row 1; committed = row 1; pending = row 0 } ∷ replicate 31 blank) (replicate 32768 0) (stateWith 1 false Idle)
 
 record Facts : Type 0 where
   sound-held : isSound (claimsOn held) ≡ true
@@ -54,7 +23,7 @@ record Facts : Type 0 where
   says-again : sayAll (bookOf arena) (claims lowest 1 ∷ frees S 1 ∷ claims lowest 1 ∷ []) ≡ granted S false ∷ released ∷ granted S false ∷ []
 
 facts : Facts
-unfolding enter inRange bit bitAt within number pack writeRun all least lowestRun orOne nowMs delayMs keeps armed isDue arenaAllowed pageSizeSound newArena reservedArena managedArena adoptedArena grownArena findRun runCommitted runFresh takeRun giveBackRun commitRun dirtyRun finishGrant tellRun pendRun releaseRun stampRun sweepDue disarm young toAsk nextAsked borrowChunk unpendChunk returnChunk rearm bytesOf endOf isInside soundRange clearPast clearPastAll soundArena empty meets overlaps badRange findArena apart soundQuestion soundTable soundLent chunksFor tooLarge bytesAsked askMemory reserveReply badCount noWholeChunk grows reserveOf manageOf adoptOf eligible serves asksCommit grantArena grantReply missReply searchOf claimOf releaseOf purgeReply sweptReply visit sweepFrom isFor answerOf rules
+unfolding enter inRange bit bitAt within asNumber pack writeRun all least lowestRun orOne nowMs delayMs keeps armed isDue arenaAllowed pageSizeSound newArena reservedArena managedArena adoptedArena grownArena findRun runCommitted runFresh takeRun giveBackRun commitRun dirtyRun finishGrant tellRun pendRun releaseRun stampRun sweepDue disarm young toAsk nextAsked borrowChunk unpendChunk returnChunk rearm bytesOf endOf isInside soundRange clearPast clearPastAll soundArena empty meets overlaps badRange findArena apart soundQuestion soundTable soundLent chunksFor tooLarge bytesAsked askMemory reserveReply badCount noWholeChunk grows reserveOf manageOf adoptOf eligible serves asksCommit grantArena grantReply missReply searchOf claimOf releaseOf purgeReply sweptReply visit sweepFrom isFor answerOf rules
 facts = record {
   sound-held = refl;
   sound-shared = refl;

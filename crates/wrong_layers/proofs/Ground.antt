@@ -1,39 +1,9 @@
 -- What the histories of wrong layers share: a managed arena of one chunk at S, whose program is 7; 9 is another. Assumes nothing.
-use mathlib.Core.Path.{_≡_, refl}
-use mathlib.Core.Bool.{Bool, true, false}
-use mathlib.Core.List.{List, [], _∷_}
-use Prim.Native.Nat.{ℕ, _<_}
-use native.Mathlib.Omega.{arith}
-use lib.Dec.{lit<}
-use lib.IntN.{pos, negsuc}
-use lib.ListN.{replicate}
-use Rattle.words.specs.Bits.{bit, bitAt, within}
-use Rattle.words.specs.Rows.{number, pack, writeRun}
-use Rattle.runs.specs.Lowest.{all, least, lowestRun}
-use Rattle.clock.specs.Clock.{orOne, nowMs, delayMs, keeps, armed, isDue}
-use Rattle.options.specs.Options.{arenaAllowed, pageSizeSound}
-use Rattle.arena.specs.declared.Arena.{Arena}
-use Rattle.arena.specs.Registering.{newArena, reservedArena, managedArena, adoptedArena, grownArena}
-use Rattle.arena.specs.Claiming.{findRun, runCommitted, runFresh, takeRun, giveBackRun, commitRun, dirtyRun, finishGrant}
-use Rattle.arena.specs.Releasing.{tellRun, pendRun, releaseRun, stampRun}
-use Rattle.arena.specs.Sweeping.{sweepDue, disarm, young, toAsk, nextAsked, borrowChunk, unpendChunk, returnChunk, rearm}
-use Rattle.lookup.specs.Place.{bytesOf, endOf, isInside}
-use Rattle.lookup.specs.Soundness.{soundRange, clearPast, clearPastAll, soundArena}
+use Rattle.layer.proofs.Prelude.{_≡_, refl, Bool, true, false, List, [], _∷_, ℕ, arith, lit<, pos, negsuc, replicate, bit, bitAt, within, asNumber, pack, writeRun, all, least, lowestRun, orOne, nowMs, delayMs, keeps, armed, isDue, arenaAllowed, pageSizeSound, Arena, newArena, reservedArena, managedArena, adoptedArena, grownArena, findRun, runCommitted, runFresh, takeRun, giveBackRun, commitRun, dirtyRun, finishGrant, tellRun, pendRun, releaseRun, stampRun, sweepDue, disarm, young, toAsk, nextAsked, borrowChunk, unpendChunk, returnChunk, rearm, bytesOf, endOf, isInside, soundRange, clearPast, clearPastAll, soundArena, World, blank, stateWith, worldOf, outcome, empty, meets, overlaps, badRange, findArena, apart, soundQuestion, soundTable, soundLent, chunksFor, tooLarge, bytesAsked, askMemory, reserveReply, badCount, noWholeChunk, grows, reserveOf, manageOf, adoptOf, eligible, serves, asksCommit, grantArena, grantReply, missReply, searchOf, claimOf, releaseOf, purgeReply, sweptReply, visit, sweepFrom, isFor, answerOf, manage, claim, act, rules, step, lowest, claims, Say, refused, granted, enter, sayAll, Marked, begin, next, isSound, Layer, Trail, start, Place, inRange, OpensAt, bookOf}
 use Rattle.layer.specs.declared.Question.the-variants.{Idle}
 use Rattle.layer.specs.declared.Answer.the-variants.{Registered, Claimed}
-use Rattle.layer.specs.World.{World, blank, stateOf, worldOf, outcome, empty}
-use Rattle.layer.specs.Table.{meets, overlaps, badRange, findArena, apart, soundQuestion, soundTable, soundLent}
-use Rattle.layer.specs.Registering.{chunksFor, tooLarge, bytesAsked, askMemory, reserveReply, badCount, noWholeChunk, grows, reserveOf, manageOf, adoptOf}
-use Rattle.layer.specs.Claiming.{eligible, serves, asksCommit, grantArena, grantReply, missReply, searchOf, claimOf}
-use Rattle.layer.specs.Releasing.{releaseOf}
-use Rattle.layer.specs.Sweeping.{purgeReply, sweptReply, visit, sweepFrom}
-use Rattle.layer.specs.Answering.{isFor, answerOf}
-use Rattle.layer.specs.Step.{manage, claim, act, rules, step}
-use Rattle.layer.specs.Book.{lowest, claims, Say, refused, granted, enter, sayAll}
-use Rattle.layer.specs.History.{Marked, begin, next, isSound, Layer, Trail, start, Place, inRange, OpensAt}
-use Rattle.layer.specs.Demand.{bookOf}
-use Rattle.share_book_cases.specs.Example.{S, plain, row, by}
-use Rattle.share_book_cases.proofs.Runs.{at-start, After, open-made}
+use Rattle.document_cases.specs.Example.{S, plain, row, by}
+use Rattle.document_cases.proofs.Runs.{at-start, After, open-made}
 
 -- the rules' own run after a call
 abbrev pub stand : World → ℕ → Marked → Trail
@@ -64,10 +34,10 @@ own used =
 
 -- nobody holds the chunk, and program 7 does
 abbrev pub clear : World
-clear = worldOf (own 0 ∷ replicate 31 blank) (replicate 32768 0) (stateOf 1 false Idle)
+clear = worldOf (own 0 ∷ replicate 31 blank) (replicate 32768 0) (stateWith 1 false Idle)
 
 abbrev pub held : World
-held = worldOf (own 1 ∷ replicate 31 blank) (replicate 32768 0) (stateOf 1 false Idle)
+held = worldOf (own 1 ∷ replicate 31 blank) (replicate 32768 0) (stateWith 1 false Idle)
 
 abbrev pub manages : Marked
 manages = by 9 empty 0 (act (manage S S true (negsuc 0) false true))
@@ -86,7 +56,7 @@ pub record Ground : Type 0 where
   pub says-one : sayAll (bookOf arena) (claims lowest 1 ∷ []) ≡ granted S false ∷ []
 
 pub ground : Ground
-unfolding enter inRange bit bitAt within number pack writeRun all least lowestRun orOne nowMs delayMs keeps armed isDue arenaAllowed pageSizeSound newArena reservedArena managedArena adoptedArena grownArena findRun runCommitted runFresh takeRun giveBackRun commitRun dirtyRun finishGrant tellRun pendRun releaseRun stampRun sweepDue disarm young toAsk nextAsked borrowChunk unpendChunk returnChunk rearm bytesOf endOf isInside soundRange clearPast clearPastAll soundArena empty meets overlaps badRange findArena apart soundQuestion soundTable soundLent chunksFor tooLarge bytesAsked askMemory reserveReply badCount noWholeChunk grows reserveOf manageOf adoptOf eligible serves asksCommit grantArena grantReply missReply searchOf claimOf releaseOf purgeReply sweptReply visit sweepFrom isFor answerOf rules
+unfolding enter inRange bit bitAt within asNumber pack writeRun all least lowestRun orOne nowMs delayMs keeps armed isDue arenaAllowed pageSizeSound newArena reservedArena managedArena adoptedArena grownArena findRun runCommitted runFresh takeRun giveBackRun commitRun dirtyRun finishGrant tellRun pendRun releaseRun stampRun sweepDue disarm young toAsk nextAsked borrowChunk unpendChunk returnChunk rearm bytesOf endOf isInside soundRange clearPast clearPastAll soundArena empty meets overlaps badRange findArena apart soundQuestion soundTable soundLent chunksFor tooLarge bytesAsked askMemory reserveReply badCount noWholeChunk grows reserveOf manageOf adoptOf eligible serves asksCommit grantArena grantReply missReply searchOf claimOf releaseOf purgeReply sweptReply visit sweepFrom isFor answerOf rules
 ground = record { sound-empty = refl; sound-clear = refl; registered = refl; claimed = refl; says-one = refl }
 
 -- ---- the book opens, whatever the layer does with claims

@@ -1,25 +1,5 @@
 -- Wrong layers that keep a question open that the rules close, or put one that they do not, or tell a claim that waited another address. Assumes nothing.
-use mathlib.Core.Path.{_≡_, refl, sym, ap, _∙_}
-use mathlib.Core.Bool.{true, false, true≢false}
-use mathlib.Core.List.{[], _∷_}
-use Prim.Native.Nat.{ℕ, _+_, _*_, _≤_, _<_}
-use native.Mathlib.Omega.{arith}
-use lib.Dec.{lit<}
-use lib.IntN.{pos, negsuc}
-use lib.ListN.{replicate}
-use Rattle.refusals.specs.declared.Refusal.the-variants.{QuestionOpen, NoSuchQuestion, NotWhole}
-use Rattle.words.specs.Bits.{bit, bitAt, within}
-use Rattle.words.specs.Rows.{number, pack, writeRun}
-use Rattle.runs.specs.Lowest.{all, least, lowestRun}
-use Rattle.clock.specs.Clock.{orOne, nowMs, delayMs, keeps, armed, isDue}
-use Rattle.options.specs.Options.{arenaAllowed, pageSizeSound}
-use Rattle.arena.specs.declared.Arena.{Arena}
-use Rattle.arena.specs.Registering.{newArena, reservedArena, managedArena, adoptedArena, grownArena}
-use Rattle.arena.specs.Claiming.{findRun, runCommitted, runFresh, takeRun, giveBackRun, commitRun, dirtyRun, finishGrant}
-use Rattle.arena.specs.Releasing.{tellRun, pendRun, releaseRun, stampRun}
-use Rattle.arena.specs.Sweeping.{sweepDue, disarm, young, toAsk, nextAsked, borrowChunk, unpendChunk, returnChunk, rearm}
-use Rattle.lookup.specs.Place.{bytesOf, endOf, isInside}
-use Rattle.lookup.specs.Soundness.{soundRange, clearPast, clearPastAll, soundArena}
+use Rattle.layer.proofs.Prelude.{_≡_, refl, sym, ap, _∙_, true, false, true≢false, [], _∷_, ℕ, _+_, _*_, _≤_, _<_, arith, lit<, pos, negsuc, replicate, QuestionOpen, NoSuchQuestion, NotWhole, bit, bitAt, within, asNumber, pack, writeRun, all, least, lowestRun, orOne, nowMs, delayMs, keeps, armed, isDue, arenaAllowed, pageSizeSound, Arena, newArena, reservedArena, managedArena, adoptedArena, grownArena, findRun, runCommitted, runFresh, takeRun, giveBackRun, commitRun, dirtyRun, finishGrant, tellRun, pendRun, releaseRun, stampRun, sweepDue, disarm, young, toAsk, nextAsked, borrowChunk, unpendChunk, returnChunk, rearm, bytesOf, endOf, isInside, soundRange, clearPast, clearPastAll, soundArena, World, Outcome, blank, stateWith, worldOf, outcome, empty, at, meets, overlaps, badRange, findArena, apart, soundQuestion, soundTable, soundLent, chunksFor, tooLarge, bytesAsked, askMemory, reserveReply, badCount, noWholeChunk, grows, reserveOf, manageOf, adoptOf, eligible, serves, asksCommit, grantArena, grantReply, missReply, searchOf, claimOf, releaseOf, purgeReply, sweptReply, visit, sweepFrom, isFor, answerOf, reserve, manage, claim, owns, act, query, answer, rules, step, lowest, claims, refused, granted, enter, sayAll, Marked, begin, isSound, start, Place, inRange, OpensAt, bookOf, Demand3}
 use Rattle.layer.specs.declared.Settings.{Settings}
 use Rattle.layer.specs.declared.Question.{Question}
 use Rattle.layer.specs.declared.Question.the-variants.{Idle, Committing, Reserving, GivingBack}
@@ -28,19 +8,8 @@ use Rattle.layer.specs.declared.Unusable.the-variants.{Count, Misaligned}
 use Rattle.layer.specs.declared.Kind.the-variants.{ForCommit, ForMemory, ForGiveBack}
 use Rattle.layer.specs.declared.Ask.the-variants.{AskCommit, AskMemory, AskGiveBack}
 use Rattle.layer.specs.declared.Answer.the-variants.{Refused, Asks, Registered, Claimed, Owns}
-use Rattle.layer.specs.World.{World, Outcome, blank, stateOf, worldOf, outcome, empty}
-use Rattle.layer.specs.Table.{at, meets, overlaps, badRange, findArena, apart, soundQuestion, soundTable, soundLent}
-use Rattle.layer.specs.Registering.{chunksFor, tooLarge, bytesAsked, askMemory, reserveReply, badCount, noWholeChunk, grows, reserveOf, manageOf, adoptOf}
-use Rattle.layer.specs.Claiming.{eligible, serves, asksCommit, grantArena, grantReply, missReply, searchOf, claimOf}
-use Rattle.layer.specs.Releasing.{releaseOf}
-use Rattle.layer.specs.Sweeping.{purgeReply, sweptReply, visit, sweepFrom}
-use Rattle.layer.specs.Answering.{isFor, answerOf}
-use Rattle.layer.specs.Step.{reserve, manage, claim, owns, act, query, answer, rules, step}
-use Rattle.layer.specs.Book.{lowest, claims, refused, granted, enter, sayAll}
-use Rattle.layer.specs.History.{Marked, begin, isSound, start, Place, inRange, OpensAt}
-use Rattle.layer.specs.Demand.{bookOf, Demand3}
-use Rattle.share_book_cases.specs.Example.{S, plain, row, by}
-use Rattle.share_book_cases.proofs.Runs.{at-start, before-made, open-made, after-made, by-book, elsewhere-at, own-call, others-call}
+use Rattle.document_cases.specs.Example.{S, plain, row, by}
+use Rattle.document_cases.proofs.Runs.{at-start, before-made, open-made, after-made, by-book, elsewhere-at, own-call, others-call}
 use Rattle.wrong_layers.proofs.Ground.{stand, other, clash, own, clear, held, claimsOn, arena, ground, opened, opens}
 use Rattle.wrong_layers.specs.Wrong.{threeForYes, givesBackForEver, nagging, raised, lastChunk, QuestionsFail}
 
@@ -48,7 +17,7 @@ use Rattle.wrong_layers.specs.Wrong.{threeForYes, givesBackForEver, nagg
 
 -- the arena with a question open
 abbrev asking : Question → World
-asking q = worldOf (own 0 ∷ replicate 31 blank) (replicate 32768 0) (stateOf 1 false q)
+asking q = worldOf (own 0 ∷ replicate 31 blank) (replicate 32768 0) (stateWith 1 false q)
 
 abbrev looks : Marked
 looks = by 9 clear 0 (query (owns 0))
@@ -88,13 +57,13 @@ lent used dirty committed =
     }
 
 abbrev asked : World
-asked = worldOf (replicate 32 blank) (replicate 32768 0) (stateOf 0 false memory)
+asked = worldOf (replicate 32 blank) (replicate 32768 0) (stateWith 0 false memory)
 
 abbrev alone : World
-alone = worldOf (lent 0 0 0 ∷ replicate 31 blank) (replicate 32768 0) (stateOf 1 false Idle)
+alone = worldOf (lent 0 0 0 ∷ replicate 31 blank) (replicate 32768 0) (stateWith 1 false Idle)
 
 abbrev both : Arena → ℕ → Question → World
-both a used q = worldOf (a ∷ own used ∷ replicate 30 blank) (replicate 32768 0) (stateOf 2 false q)
+both a used q = worldOf (a ∷ own used ∷ replicate 30 blank) (replicate 32768 0) (stateWith 2 false q)
 
 abbrev first : Marked
 first = by 9 empty 0 (act (reserve S false false false))
@@ -129,10 +98,10 @@ abbrev high : Arena
 high = record { base = 3 * S; chunks = 1; exclusive = 1; owned = 0; node = negsuc 0; deadline = 0; used = row 0; dirty = row 1; committed = row 1; pending = row 0 }
 
 abbrev below : Question → World
-below q = worldOf (high ∷ replicate 31 blank) (replicate 32768 0) (stateOf 1 false q)
+below q = worldOf (high ∷ replicate 31 blank) (replicate 32768 0) (stateWith 1 false q)
 
 abbrev taken : World
-taken = worldOf (high ∷ record { base = S; chunks = 2; exclusive = 0; owned = 1; node = negsuc 0; deadline = 0; used = row 3; dirty = row 3; committed = row 0; pending = row 0 } ∷ replicate 30 blank) (replicate 32768 0) (stateOf 2 false Idle)
+taken = worldOf (high ∷ record { base = S; chunks = 2; exclusive = 0; owned = 1; node = negsuc 0; deadline = 0; used = row 3; dirty = row 3; committed = row 0; pending = row 0 } ∷ replicate 30 blank) (replicate 32768 0) (stateWith 2 false Idle)
 
 abbrev managesHigh : Marked
 managesHigh = by 9 empty 0 (act (manage (3 * S) S true (negsuc 0) false true))
@@ -181,7 +150,7 @@ record Facts : Type 0 where
   brought : step (below waits) 0 plain (brings .call) ≡ outcome (Claimed S true false) taken
 
 facts : Facts
-unfolding enter inRange bit bitAt within number pack writeRun all least lowestRun orOne nowMs delayMs keeps armed isDue arenaAllowed pageSizeSound newArena reservedArena managedArena adoptedArena grownArena findRun runCommitted runFresh takeRun giveBackRun commitRun dirtyRun finishGrant tellRun pendRun releaseRun stampRun sweepDue disarm young toAsk nextAsked borrowChunk unpendChunk returnChunk rearm bytesOf endOf isInside soundRange clearPast clearPastAll soundArena empty meets overlaps badRange findArena apart soundQuestion soundTable soundLent chunksFor tooLarge bytesAsked askMemory reserveReply badCount noWholeChunk grows reserveOf manageOf adoptOf eligible serves asksCommit grantArena grantReply missReply searchOf claimOf releaseOf purgeReply sweptReply visit sweepFrom isFor answerOf rules
+unfolding enter inRange bit bitAt within asNumber pack writeRun all least lowestRun orOne nowMs delayMs keeps armed isDue arenaAllowed pageSizeSound newArena reservedArena managedArena adoptedArena grownArena findRun runCommitted runFresh takeRun giveBackRun commitRun dirtyRun finishGrant tellRun pendRun releaseRun stampRun sweepDue disarm young toAsk nextAsked borrowChunk unpendChunk returnChunk rearm bytesOf endOf isInside soundRange clearPast clearPastAll soundArena empty meets overlaps badRange findArena apart soundQuestion soundTable soundLent chunksFor tooLarge bytesAsked askMemory reserveReply badCount noWholeChunk grows reserveOf manageOf adoptOf eligible serves asksCommit grantArena grantReply missReply searchOf claimOf releaseOf purgeReply sweptReply visit sweepFrom isFor answerOf rules
 facts = record {
   sound-nagged = refl;
   looked = refl;

@@ -1,44 +1,13 @@
 -- Wrong layers that turn an exclusive arena down which Registering's rules register: program 7's claim there then gets 10. Assumes nothing.
-use mathlib.Core.Path.{_≡_, refl, sym, ap, _∙_}
-use mathlib.Core.Bool.{true, false, true≢false}
-use mathlib.Core.List.{List, [], _∷_, _++_}
-use Prim.Native.Nat.{ℕ, _+_, _*_, _≤_, _<_}
-use native.Mathlib.Omega.{arith}
-use lib.Dec.{lit<}
-use lib.IntN.{pos, negsuc}
-use lib.ListN.{replicate}
-use Rattle.refusals.specs.declared.Refusal.the-variants.{Range, NoRun, ChunkCount, TableFull}
-use Rattle.words.specs.Bits.{bit, bitAt, within}
-use Rattle.words.specs.Rows.{number, pack, writeRun}
-use Rattle.runs.specs.Lowest.{all, least, lowestRun}
-use Rattle.clock.specs.Clock.{orOne, nowMs, delayMs, keeps, armed, isDue}
-use Rattle.options.specs.Options.{arenaAllowed, pageSizeSound}
-use Rattle.arena.specs.declared.Arena.{Arena}
-use Rattle.arena.specs.Registering.{newArena, reservedArena, managedArena, adoptedArena, grownArena}
-use Rattle.arena.specs.Claiming.{findRun, runCommitted, runFresh, takeRun, giveBackRun, commitRun, dirtyRun, finishGrant}
-use Rattle.arena.specs.Releasing.{tellRun, pendRun, releaseRun, stampRun}
-use Rattle.arena.specs.Sweeping.{sweepDue, disarm, young, toAsk, nextAsked, borrowChunk, unpendChunk, returnChunk, rearm}
-use Rattle.lookup.specs.Place.{bytesOf, endOf, isInside}
-use Rattle.lookup.specs.Soundness.{soundRange, clearPast, clearPastAll, soundArena}
+use Rattle.layer.proofs.Prelude.{_≡_, refl, sym, ap, _∙_, true, false, true≢false, List, [], _∷_, _++_, ℕ, _+_, _*_, _≤_, _<_, arith, lit<, pos, negsuc, replicate, Range, NoRun, ChunkCount, TableFull, bit, bitAt, within, asNumber, pack, writeRun, all, least, lowestRun, orOne, nowMs, delayMs, keeps, armed, isDue, arenaAllowed, pageSizeSound, Arena, newArena, reservedArena, managedArena, adoptedArena, grownArena, findRun, runCommitted, runFresh, takeRun, giveBackRun, commitRun, dirtyRun, finishGrant, tellRun, pendRun, releaseRun, stampRun, sweepDue, disarm, young, toAsk, nextAsked, borrowChunk, unpendChunk, returnChunk, rearm, bytesOf, endOf, isInside, soundRange, clearPast, clearPastAll, soundArena, World, Outcome, blank, stateWith, worldOf, outcome, empty, at, meets, overlaps, badRange, findArena, apart, soundQuestion, soundTable, soundLent, sound, chunksFor, tooLarge, bytesAsked, askMemory, reserveReply, badCount, noWholeChunk, grows, reserveOf, manageOf, adoptOf, eligible, serves, asksCommit, grantArena, grantReply, missReply, searchOf, claimOf, releaseOf, purgeReply, sweptReply, visit, sweepFrom, isFor, answerOf, reserve, manage, claim, owns, act, query, answer, rules, step, lowest, claims, refused, granted, enter, sayAll, Marked, begin, next, isSound, start, Place, inRange, OpensAt, bookOf, Demand3}
 use Rattle.layer.specs.declared.Question.the-variants.{Idle, Reserving}
 use Rattle.layer.specs.declared.Ask.the-variants.{AskMemory}
 use Rattle.layer.specs.declared.Waiting.the-variants.{Reserve}
 use Rattle.layer.specs.declared.Kind.the-variants.{ForMemory}
 use Rattle.layer.specs.declared.Answer.{Answer}
 use Rattle.layer.specs.declared.Answer.the-variants.{Refused, Asks, Registered, Claimed, Owns}
-use Rattle.layer.specs.World.{World, Outcome, blank, stateOf, worldOf, outcome, empty}
-use Rattle.layer.specs.Table.{at, meets, overlaps, badRange, findArena, apart, soundQuestion, soundTable, soundLent, sound}
-use Rattle.layer.specs.Registering.{chunksFor, tooLarge, bytesAsked, askMemory, reserveReply, badCount, noWholeChunk, grows, reserveOf, manageOf, adoptOf}
-use Rattle.layer.specs.Claiming.{eligible, serves, asksCommit, grantArena, grantReply, missReply, searchOf, claimOf}
-use Rattle.layer.specs.Releasing.{releaseOf}
-use Rattle.layer.specs.Sweeping.{purgeReply, sweptReply, visit, sweepFrom}
-use Rattle.layer.specs.Answering.{isFor, answerOf}
-use Rattle.layer.specs.Step.{reserve, manage, claim, owns, act, query, answer, rules, step}
-use Rattle.layer.specs.Book.{lowest, claims, refused, granted, enter, sayAll}
-use Rattle.layer.specs.History.{Marked, begin, next, isSound, start, Place, inRange, OpensAt}
-use Rattle.layer.specs.Demand.{bookOf, Demand3}
-use Rattle.share_book_cases.specs.Example.{S, plain, row, by}
-use Rattle.share_book_cases.proofs.Runs.{Before, at-start, before-made, open-made, after-made, by-book, own-call}
+use Rattle.document_cases.specs.Example.{S, plain, row, by}
+use Rattle.document_cases.proofs.Runs.{Before, at-start, before-made, open-made, after-made, by-book, own-call}
 use Rattle.wrong_layers.proofs.Ground.{stand, clash, ground}
 use Rattle.wrong_layers.specs.Wrong.{smallOnly, lowOnly, fullAtOne, dummies, fillsTheTable, noneReserved, breaksItsTable, RegisteringFails}
 
@@ -48,19 +17,19 @@ abbrev most : List ℕ
 most = replicate 16 4294967295 ++ 1 ∷ replicate 15 0
 
 abbrev large : ℕ → World
-large used = worldOf (record { base = S; chunks = 513; exclusive = 1; owned = 0; node = negsuc 0; deadline = 0; used = row used; dirty = most; committed = most; pending = row 0 } ∷ replicate 31 blank) (replicate 32768 0) (stateOf 1 false Idle)
+large used = worldOf (record { base = S; chunks = 513; exclusive = 1; owned = 0; node = negsuc 0; deadline = 0; used = row used; dirty = most; committed = most; pending = row 0 } ∷ replicate 31 blank) (replicate 32768 0) (stateWith 1 false Idle)
 
 abbrev far : ℕ → World
-far used = worldOf (record { base = 4398046511104; chunks = 1; exclusive = 1; owned = 0; node = negsuc 0; deadline = 0; used = row used; dirty = row 1; committed = row 1; pending = row 0 } ∷ replicate 31 blank) (replicate 32768 0) (stateOf 1 false Idle)
+far used = worldOf (record { base = 4398046511104; chunks = 1; exclusive = 1; owned = 0; node = negsuc 0; deadline = 0; used = row used; dirty = row 1; committed = row 1; pending = row 0 } ∷ replicate 31 blank) (replicate 32768 0) (stateWith 1 false Idle)
 
 abbrev shared : Arena
 shared = record { base = S; chunks = 1; exclusive = 0; owned = 0; node = negsuc 0; deadline = 0; used = row 0; dirty = row 1; committed = row 1; pending = row 0 }
 
 abbrev alone : World
-alone = worldOf (shared ∷ replicate 31 blank) (replicate 32768 0) (stateOf 1 false Idle)
+alone = worldOf (shared ∷ replicate 31 blank) (replicate 32768 0) (stateWith 1 false Idle)
 
 abbrev both : ℕ → World
-both used = worldOf (shared ∷ record { base = 3 * S; chunks = 1; exclusive = 1; owned = 0; node = negsuc 0; deadline = 0; used = row used; dirty = row 1; committed = row 1; pending = row 0 } ∷ replicate 30 blank) (replicate 32768 0) (stateOf 2 false Idle)
+both used = worldOf (shared ∷ record { base = 3 * S; chunks = 1; exclusive = 1; owned = 0; node = negsuc 0; deadline = 0; used = row used; dirty = row 1; committed = row 1; pending = row 0 } ∷ replicate 30 blank) (replicate 32768 0) (stateWith 2 false Idle)
 
 abbrev managesLarge : Marked
 managesLarge = by 9 empty 0 (act (manage S (513 * S) true (negsuc 0) false true))
@@ -102,7 +71,7 @@ record Facts : Type 0 where
   next-says : sayAll (bookOf at-next) (claims lowest 1 ∷ []) ≡ granted (3 * S) false ∷ []
 
 facts : Facts
-unfolding enter inRange bit bitAt within number pack writeRun all least lowestRun orOne nowMs delayMs keeps armed isDue arenaAllowed pageSizeSound newArena reservedArena managedArena adoptedArena grownArena findRun runCommitted runFresh takeRun giveBackRun commitRun dirtyRun finishGrant tellRun pendRun releaseRun stampRun sweepDue disarm young toAsk nextAsked borrowChunk unpendChunk returnChunk rearm bytesOf endOf isInside soundRange clearPast clearPastAll soundArena empty meets overlaps badRange findArena apart soundQuestion soundTable soundLent chunksFor tooLarge bytesAsked askMemory reserveReply badCount noWholeChunk grows reserveOf manageOf adoptOf eligible serves asksCommit grantArena grantReply missReply searchOf claimOf releaseOf purgeReply sweptReply visit sweepFrom isFor answerOf rules
+unfolding enter inRange bit bitAt within asNumber pack writeRun all least lowestRun orOne nowMs delayMs keeps armed isDue arenaAllowed pageSizeSound newArena reservedArena managedArena adoptedArena grownArena findRun runCommitted runFresh takeRun giveBackRun commitRun dirtyRun finishGrant tellRun pendRun releaseRun stampRun sweepDue disarm young toAsk nextAsked borrowChunk unpendChunk returnChunk rearm bytesOf endOf isInside soundRange clearPast clearPastAll soundArena empty meets overlaps badRange findArena apart soundQuestion soundTable soundLent chunksFor tooLarge bytesAsked askMemory reserveReply badCount noWholeChunk grows reserveOf manageOf adoptOf eligible serves asksCommit grantArena grantReply missReply searchOf claimOf releaseOf purgeReply sweptReply visit sweepFrom isFor answerOf rules
 facts = record {
   large-registered = refl;
   large-claimed = refl;
@@ -197,7 +166,7 @@ full-at-one d =
 -- ---- a table that a query filled
 
 abbrev filled : World
-filled = worldOf (dummies 32 1) (replicate 32768 0) (stateOf 32 false Idle)
+filled = worldOf (dummies 32 1) (replicate 32768 0) (stateWith 32 false Idle)
 
 abbrev looks : Marked
 looks = by 9 empty 0 (query (owns 0))
@@ -212,7 +181,7 @@ record Filled : Type 0 where
   elsewhere : step filled 0 plain (claimsAt 0 filled .call) .answer ≡ Claimed S true false
 
 filled-facts : Filled
-unfolding enter inRange bit bitAt within number pack writeRun all least lowestRun orOne nowMs delayMs keeps armed isDue arenaAllowed pageSizeSound newArena reservedArena managedArena adoptedArena grownArena findRun runCommitted runFresh takeRun giveBackRun commitRun dirtyRun finishGrant tellRun pendRun releaseRun stampRun sweepDue disarm young toAsk nextAsked borrowChunk unpendChunk returnChunk rearm bytesOf endOf isInside soundRange clearPast clearPastAll soundArena empty meets overlaps badRange findArena apart soundQuestion soundTable soundLent chunksFor tooLarge bytesAsked askMemory reserveReply badCount noWholeChunk grows reserveOf manageOf adoptOf eligible serves asksCommit grantArena grantReply missReply searchOf claimOf releaseOf purgeReply sweptReply visit sweepFrom isFor answerOf rules
+unfolding enter inRange bit bitAt within asNumber pack writeRun all least lowestRun orOne nowMs delayMs keeps armed isDue arenaAllowed pageSizeSound newArena reservedArena managedArena adoptedArena grownArena findRun runCommitted runFresh takeRun giveBackRun commitRun dirtyRun finishGrant tellRun pendRun releaseRun stampRun sweepDue disarm young toAsk nextAsked borrowChunk unpendChunk returnChunk rearm bytesOf endOf isInside soundRange clearPast clearPastAll soundArena empty meets overlaps badRange findArena apart soundQuestion soundTable soundLent chunksFor tooLarge bytesAsked askMemory reserveReply badCount noWholeChunk grows reserveOf manageOf adoptOf eligible serves asksCommit grantArena grantReply missReply searchOf claimOf releaseOf purgeReply sweptReply visit sweepFrom isFor answerOf rules
 filled-facts = record { looked = refl; sound-filled = refl; thirteen = refl; elsewhere = refl }
 
 then-opens : OpensAt (stand empty 9 looks) managesThen
@@ -248,10 +217,10 @@ fills-the-table d =
 abbrev reserved : ℕ → ℕ → World
 reserved used dirty =
     worldOf (record { base = S; chunks = 1; exclusive = 1; owned = 1; node = negsuc 0; deadline = 0; used = row used; dirty = row dirty; committed = row 0; pending = row 0 } ∷ replicate 31 blank)
-    (replicate 32768 0) (stateOf 1 false Idle)
+    (replicate 32768 0) (stateWith 1 false Idle)
 
 abbrev waiting : World
-waiting = worldOf (replicate 32 blank) (replicate 32768 0) (stateOf 0 false (Reserving 1 S false true Reserve))
+waiting = worldOf (replicate 32 blank) (replicate 32768 0) (stateWith 0 false (Reserving 1 S false true Reserve))
 
 abbrev asks : Marked
 asks = by 9 empty 0 (act (reserve S false false true))
@@ -270,7 +239,7 @@ record Asked : Type 0 where
   reserved-says : sayAll (bookOf at-reserved) (claims lowest 1 ∷ []) ≡ granted S true ∷ []
 
 asked-facts : Asked
-unfolding enter inRange bit bitAt within number pack writeRun all least lowestRun orOne nowMs delayMs keeps armed isDue arenaAllowed pageSizeSound newArena reservedArena managedArena adoptedArena grownArena findRun runCommitted runFresh takeRun giveBackRun commitRun dirtyRun finishGrant tellRun pendRun releaseRun stampRun sweepDue disarm young toAsk nextAsked borrowChunk unpendChunk returnChunk rearm bytesOf endOf isInside soundRange clearPast clearPastAll soundArena empty meets overlaps badRange findArena apart soundQuestion soundTable soundLent chunksFor tooLarge bytesAsked askMemory reserveReply badCount noWholeChunk grows reserveOf manageOf adoptOf eligible serves asksCommit grantArena grantReply missReply searchOf claimOf releaseOf purgeReply sweptReply visit sweepFrom isFor answerOf rules
+unfolding enter inRange bit bitAt within asNumber pack writeRun all least lowestRun orOne nowMs delayMs keeps armed isDue arenaAllowed pageSizeSound newArena reservedArena managedArena adoptedArena grownArena findRun runCommitted runFresh takeRun giveBackRun commitRun dirtyRun finishGrant tellRun pendRun releaseRun stampRun sweepDue disarm young toAsk nextAsked borrowChunk unpendChunk returnChunk rearm bytesOf endOf isInside soundRange clearPast clearPastAll soundArena empty meets overlaps badRange findArena apart soundQuestion soundTable soundLent chunksFor tooLarge bytesAsked askMemory reserveReply badCount noWholeChunk grows reserveOf manageOf adoptOf eligible serves asksCommit grantArena grantReply missReply searchOf claimOf releaseOf purgeReply sweptReply visit sweepFrom isFor answerOf rules
 asked-facts = record { asked = refl; sound-waiting = refl; brought = refl; reserved-claimed = refl; reserved-says = refl }
 
 reserved-opens : OpensAt (stand waiting 9 asks) brings
@@ -300,7 +269,7 @@ none-reserved d =
 -- ---- a table of 33 arenas
 
 abbrev broken : World
-broken = worldOf (replicate 32 blank) (replicate 32768 0) (stateOf 33 false Idle)
+broken = worldOf (replicate 32 blank) (replicate 32768 0) (stateWith 33 false Idle)
 
 broken-is : sound S broken 4096 ≡ false
 unfolding pageSizeSound soundLent soundTable

@@ -1,41 +1,13 @@
 -- Wrong layers that demand 2 alone rules out: each differs from the rules on one call. Assumes nothing.
-use mathlib.Core.Path.{_≡_, refl, sym, ap, _∙_}
-use mathlib.Core.Bool.{true, false}
-use mathlib.Core.List.{List, [], _∷_}
-use Prim.Native.Nat.{ℕ, _+_}
-use native.Mathlib.Omega.{arith}
-use lib.IntN.{pos, negsuc}
-use lib.ListN.{replicate, set}
-use Rattle.words.specs.Bits.{bit, bitAt, within}
-use Rattle.words.specs.Rows.{number, pack, writeRun}
-use Rattle.runs.specs.Lowest.{all, least, lowestRun}
-use Rattle.clock.specs.Clock.{orOne, nowMs, delayMs, keeps, armed, isDue}
-use Rattle.options.specs.Options.{arenaAllowed, pageSizeSound}
-use Rattle.arena.specs.declared.Arena.{Arena}
-use Rattle.arena.specs.Registering.{noBits, newArena, reservedArena, managedArena, adoptedArena, grownArena}
+use Rattle.layer.proofs.Prelude.{_≡_, refl, sym, ap, _∙_, true, false, List, [], _∷_, ℕ, _+_, arith, pos, negsuc, replicate, set, bit, bitAt, within, asNumber, pack, writeRun, all, least, lowestRun, orOne, nowMs, delayMs, keeps, armed, isDue, arenaAllowed, pageSizeSound, Arena, noBits, newArena, reservedArena, managedArena, adoptedArena, grownArena, findRun, runCommitted, runFresh, takeRun, giveBackRun, commitRun, dirtyRun, finishGrant, tellRun, pendRun, releaseRun, stampRun, sweepDue, disarm, young, toAsk, nextAsked, borrowChunk, unpendChunk, returnChunk, rearm, bytesOf, endOf, isInside, soundRange, clearPast, clearPastAll, soundArena, World, Outcome, blank, stateWith, worldOf, outcome, empty, at, meets, overlaps, badRange, findArena, apart, soundQuestion, soundTable, soundLent, chunksFor, tooLarge, bytesAsked, askMemory, reserveReply, badCount, noWholeChunk, grows, reserveOf, manageOf, adoptOf, eligible, serves, asksCommit, grantArena, grantReply, missReply, searchOf, claimOf, releaseOf, purgeReply, sweptReply, visit, sweepFrom, isFor, answerOf, claim, sweep, Call, act, answer, rules, step, enter, inRange}
 use Rattle.arena.specs.Record.{withPending}
-use Rattle.arena.specs.Claiming.{findRun, runCommitted, runFresh, takeRun, giveBackRun, commitRun, dirtyRun, finishGrant}
-use Rattle.arena.specs.Releasing.{tellRun, pendRun, releaseRun, stampRun}
-use Rattle.arena.specs.Sweeping.{sweepDue, disarm, young, toAsk, nextAsked, borrowChunk, unpendChunk, returnChunk, rearm}
-use Rattle.lookup.specs.Place.{bytesOf, endOf, isInside}
-use Rattle.lookup.specs.Soundness.{soundRange, clearPast, clearPastAll, soundArena}
 use Rattle.layer.specs.declared.Settings.{Settings}
 use Rattle.layer.specs.declared.Question.{Question}
 use Rattle.layer.specs.declared.Question.the-variants.{Idle, Committing, Purging}
 use Rattle.layer.specs.declared.Kind.the-variants.{ForPurge}
 use Rattle.layer.specs.declared.Ask.the-variants.{AskCommit, AskPurge}
 use Rattle.layer.specs.declared.Answer.the-variants.{Asks, Swept}
-use Rattle.layer.specs.World.{World, Outcome, blank, stateOf, worldOf, outcome, empty}
-use Rattle.layer.specs.Table.{at, meets, overlaps, badRange, findArena, apart, soundQuestion, soundTable, soundLent}
-use Rattle.layer.specs.Registering.{chunksFor, tooLarge, bytesAsked, askMemory, reserveReply, badCount, noWholeChunk, grows, reserveOf, manageOf, adoptOf}
-use Rattle.layer.specs.Claiming.{eligible, serves, asksCommit, grantArena, grantReply, missReply, searchOf, claimOf}
-use Rattle.layer.specs.Releasing.{releaseOf}
-use Rattle.layer.specs.Sweeping.{purgeReply, sweptReply, visit, sweepFrom}
-use Rattle.layer.specs.Answering.{isFor, answerOf}
-use Rattle.layer.specs.Step.{claim, sweep, Call, act, answer, rules, step}
-use Rattle.layer.specs.Book.{enter}
-use Rattle.layer.specs.History.{inRange}
-use Rattle.share_book_cases.specs.Example.{S, plain, row}
+use Rattle.document_cases.specs.Example.{S, plain, row}
 use Rattle.wrong_layers.specs.Wrong.{dirtied, dirtyBeforeYes, oneMore, inventsCount, asksOnce, clearsPending, SweepsFail}
 
 -- ---- an arena of two chunks, and what is called there
@@ -44,7 +16,7 @@ abbrev one : ℕ → ℕ → ℕ → ℕ → Arena
 one used dirty pending deadline = record { base = S; chunks = 2; exclusive = 0; owned = 1; node = negsuc 0; deadline = deadline; used = row used; dirty = row dirty; committed = row 0; pending = row pending }
 
 abbrev world : Arena → Question → World
-world a q = worldOf (a ∷ replicate 31 blank) (replicate 32768 0) (stateOf 1 false q)
+world a q = worldOf (a ∷ replicate 31 blank) (replicate 32768 0) (stateWith 1 false q)
 
 abbrev sweeping : Question
 sweeping = Purging 0 0 (record { force = true; now = 1; delay = 0; decommit = false; purged = 0 })
@@ -57,7 +29,7 @@ record Facts : Type 0 where
   passed-over : step (world (one 3 0 1 1) Idle) 0 plain (act (sweep true)) ≡ outcome (Swept 0) (world (one 3 0 1 0) Idle)
 
 facts : Facts
-unfolding enter inRange bit bitAt within number pack writeRun all least lowestRun orOne nowMs delayMs keeps armed isDue arenaAllowed pageSizeSound newArena reservedArena managedArena adoptedArena grownArena findRun runCommitted runFresh takeRun giveBackRun commitRun dirtyRun finishGrant tellRun pendRun releaseRun stampRun sweepDue disarm young toAsk nextAsked borrowChunk unpendChunk returnChunk rearm bytesOf endOf isInside soundRange clearPast clearPastAll soundArena empty meets overlaps badRange findArena apart soundQuestion soundTable soundLent chunksFor tooLarge bytesAsked askMemory reserveReply badCount noWholeChunk grows reserveOf manageOf adoptOf eligible serves asksCommit grantArena grantReply missReply searchOf claimOf releaseOf purgeReply sweptReply visit sweepFrom isFor answerOf rules
+unfolding enter inRange bit bitAt within asNumber pack writeRun all least lowestRun orOne nowMs delayMs keeps armed isDue arenaAllowed pageSizeSound newArena reservedArena managedArena adoptedArena grownArena findRun runCommitted runFresh takeRun giveBackRun commitRun dirtyRun finishGrant tellRun pendRun releaseRun stampRun sweepDue disarm young toAsk nextAsked borrowChunk unpendChunk returnChunk rearm bytesOf endOf isInside soundRange clearPast clearPastAll soundArena empty meets overlaps badRange findArena apart soundQuestion soundTable soundLent chunksFor tooLarge bytesAsked askMemory reserveReply badCount noWholeChunk grows reserveOf manageOf adoptOf eligible serves asksCommit grantArena grantReply missReply searchOf claimOf releaseOf purgeReply sweptReply visit sweepFrom isFor answerOf rules
 facts = record { claimed = refl; dirtied-row = refl; swept = refl; asked-again = refl; passed-over = refl }
 
 -- the first word of a map

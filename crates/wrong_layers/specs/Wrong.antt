@@ -21,7 +21,7 @@ use Rattle.layer.specs.declared.Waiting.the-variants.{Reserve, Claim}
 use Rattle.layer.specs.declared.Unusable.the-variants.{Count}
 use Rattle.layer.specs.declared.Answer.{Answer}
 use Rattle.layer.specs.declared.Answer.the-variants.{Refused, Asks, Registered, Claimed, Released, Swept, Owns, Area}
-use Rattle.layer.specs.World.{World, Outcome, outcome, worldOf, stateOf, sizeOf}
+use Rattle.layer.specs.World.{World, Outcome, outcome, worldOf, stateWith, sizeOf}
 use Rattle.layer.specs.Table.{at}
 use Rattle.layer.specs.Answering.{kindOpen}
 use Rattle.layer.specs.Step.{reserve, manage, adopt, claim, release, sweep, Call, act, query, answer, step}
@@ -133,7 +133,7 @@ givesBackForEver = butWhere (λ w c. isAnswer c && eqb (kindOpen (w .state .ques
 
 -- a query leaves a question open
 abbrev pub nagging : Layer
-nagging = butWhere (λ w c. isQuery c) (λ w o. outcome (o .answer) (worldOf (w .records) (w .stamps) (stateOf (w .state .count) (w .state .mark) (GivingBack Count Reserve))))
+nagging = butWhere (λ w c. isQuery c) (λ w o. outcome (o .answer) (worldOf (w .records) (w .stamps) (stateWith (w .state .count) (w .state .mark) (GivingBack Count Reserve))))
 
 -- a claim that waited for memory is told where the last of its chunks is
 abbrev pub waitsFor : Question → ℕ
@@ -180,7 +180,7 @@ exclusiveAsked (GivingBack cause waiting) = false
 abbrev pub noneReserved : Layer
 noneReserved =
     butWhere (λ w c. isAnswer c && exclusiveAsked (w .state .question))
-    (λ w o. outcome (Refused TableFull) (worldOf (w .records) (w .stamps) (stateOf (w .state .count) (w .state .mark) Idle)))
+    (λ w o. outcome (Refused TableFull) (worldOf (w .records) (w .stamps) (stateWith (w .state .count) (w .state .mark) Idle)))
 
 -- a query fills the table with arenas that nobody registered, so that 13 comes
 abbrev pub dummy : ℕ → Arena
@@ -191,11 +191,11 @@ dummies zero i = []
 dummies (suc n) i = dummy i ∷ dummies n (suc i)
 
 abbrev pub fillsTheTable : Layer
-fillsTheTable = butWhere (λ w c. isQuery c) (λ w o. outcome (o .answer) (worldOf (dummies 32 1) (w .stamps) (stateOf 32 (w .state .mark) Idle)))
+fillsTheTable = butWhere (λ w c. isQuery c) (λ w o. outcome (o .answer) (worldOf (dummies 32 1) (w .stamps) (stateWith 32 (w .state .mark) Idle)))
 
 -- a query leaves a table that row 1 does not let pass, so that no program can bring a sound one
 abbrev pub breaksItsTable : Layer
-breaksItsTable = butWhere (λ w c. isQuery c) (λ w o. outcome (o .answer) (worldOf (w .records) (w .stamps) (stateOf 33 (w .state .mark) Idle)))
+breaksItsTable = butWhere (λ w c. isQuery c) (λ w o. outcome (o .answer) (worldOf (w .records) (w .stamps) (stateWith 33 (w .state .mark) Idle)))
 
 -- ---- sweeps and bits: what demand 2 alone rules out
 
@@ -225,7 +225,7 @@ abbrev pub inventsCount : Layer
 inventsCount = butWhere (λ w c. true) (λ w o. outcome (oneMore (o .answer)) (o .world))
 
 abbrev pub asksOnce : Layer
-asksOnce = butWhere (λ w c. isAnswer c && eqb (kindOpen (w .state .question)) 2) (λ w o. outcome (Swept 2) (worldOf (o .world .records) (o .world .stamps) (stateOf (w .state .count) (w .state .mark) Idle)))
+asksOnce = butWhere (λ w c. isAnswer c && eqb (kindOpen (w .state .question)) 2) (λ w o. outcome (Swept 2) (worldOf (o .world .records) (o .world .stamps) (stateWith (w .state .count) (w .state .mark) Idle)))
 
 -- "Clearing the pending bit of a chunk in use"
 abbrev pub clearsPending : Layer

@@ -24,8 +24,8 @@ use Rattle.layer.specs.Step.{answer, step}
 use Rattle.layer.specs.Table.{soundLent}
 use Rattle.refusals.specs.declared.Refusal.the-variants.{Broken, NoSuchQuestion}
 use Rattle.layer.specs.Answering.{isFor}
-use Rattle.state.proofs.Entry.{size-fits, asked}
-use Rattle.answering.proofs.EntryLaws.{is-open, broken-row, other-row, answered}
+use Rattle.state.proofs.Entry.{size-fits, asked, broken-row}
+use Rattle.answering.proofs.EntryLaws.{is-open, other-row, answered}
 use Rattle.walks.proofs.Frame.{Done2, finish2, mut2-meets}
 use Rattle.state.proofs.chunk_size.Symbol as chunk-size-def
 use Rattle.state.proofs.chunk_size.Symbol.{name as #state·chunk-size}
@@ -115,7 +115,7 @@ module _ {M : Type 1} (𝓤 : URA M) (H : Heap 𝓤) (A : Atoms 𝓤) (W : Given
         (λ _. and-then ! (arg ! refl) (and-then ! (arg ! refl) (no-more !))) (λ v-result g-result.
         land ! (from ! (stop !)) (init ! 1 refl (LL.lawful T-Reply.the-type L-Reply.the-laws 𝓤 H A W .typed result (v-result ∷ []) g-result .0)) $
         returns-within ! Post refl (look ! 1 refl) $ used ! $ used ! $ used ! $ used ! $ used ! $ used ! $ used ! $ used ! $ used ! $ used ! $ used ! $ used ! $ used ! $ used ! $ used ! $ used ! $ room ! $ room ! $ room ! $ room ! $ room ! $ free0 ! $
-        finish2 𝓤 H A T-Arena.the-row u32 L-records L-stamps T-Reply.the-row records stamps χ W (‵ ftrue) v-result result records stamps g-result refl refl (broken-row records stamps state ns settings kind granted base (is-false t10 h1))))
+        finish2 𝓤 H A T-Arena.the-row u32 L-records L-stamps T-Reply.the-row records stamps χ W (‵ ftrue) v-result result records stamps g-result refl refl (broken-row records stamps state ns settings (is-false t10 h1) (answer kind granted base))))
         (λ h1.
         is-answered-step ! (in-seq ! (fmOf 𝓤 H (W .laws) 𝓣)) mem run known-is-answered state v-state g-state kind v-kind g-kind
         (λ _. and-then ! (arg ! refl) (and-then ! (arg ! refl) (no-more !))) (

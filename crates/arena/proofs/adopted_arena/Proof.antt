@@ -1,5 +1,5 @@
 -- `arena::adopted_arena` meets its contract. Assumes nothing.
-use borrow.Author.Needs.{needs}
+use Rattle.arena.proofs.Prelude.{needs}
 use Rattle.arena.specs.Registering.{adoptedArena}
 use Rattle.arena.proofs.adopted_arena.Statement.{statement}
 use Rattle.arena.proofs.adopted_arena.Tie as tie

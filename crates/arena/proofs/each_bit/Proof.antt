@@ -1,11 +1,5 @@
 -- `arena::each_bit` meets its contract. Assumes nothing.
-use mathlib.Core.Path.{sym, ap, _∙_}
-use mathlib.Core.Bool.{Bool, cond}
-use mathlib.Core.List.{List}
-use Prim.Native.Nat.{ℕ}
-use borrow.Author.Needs.{needs}
-use Rattle.words.specs.Rows.{setRun}
-use Rattle.arena.specs.Registering.{noBits}
+use Rattle.arena.proofs.Prelude.{sym, ap, _∙_, Bool, cond, needs, setRun, noBits}
 use Rattle.arena.proofs.each_bit.Statement.{statement}
 use Rattle.arena.proofs.each_bit.Tie as tie
 

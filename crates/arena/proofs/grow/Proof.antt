@@ -1,7 +1,5 @@
 -- `arena::grow` meets its contract. Assumes nothing.
-use Prim.Native.Nat.{_+_}
-use borrow.Author.Needs.{needs}
-use Rattle.arena.specs.Registering.{grownArena}
+use Rattle.arena.proofs.Prelude.{_+_, needs, grownArena}
 use Rattle.arena.proofs.Remade.{remade, read-back}
 use Rattle.arena.proofs.grow.Statement.{statement}
 use Rattle.arena.proofs.grow.Tie as tie

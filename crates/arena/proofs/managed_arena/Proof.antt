@@ -1,7 +1,5 @@
 -- `arena::managed_arena` meets its contract. Assumes nothing.
-use mathlib.Core.Path.{ap, _∙_}
-use borrow.Author.Needs.{needs}
-use lib.IntN.{ℤ}
+use Rattle.arena.proofs.Prelude.{ap, _∙_, needs}
 use mir.Facts.{toZ-ofZ}
 use Rattle.arena.specs.Registering.{managedArena}
 use Rattle.arena.proofs.managed_arena.Statement.{statement}

@@ -1,14 +1,8 @@
 -- `arena::new_arena` meets its contract. Assumes nothing.
-use mathlib.Core.Path.{ap, ap₂, _∙_}
-use mathlib.Core.List.{List}
-use Prim.Native.Nat.{ℕ}
-use borrow.Author.Needs.{needs}
-use lib.IntN.{ℤ}
+use Rattle.arena.proofs.Prelude.{ap, _∙_, List, ℕ, needs, ℤ, Arena, noBits, newArena}
 use mir.Facts.{toZ-ofZ}
 use mir.Syntax.{w32}
 use mir.Val.{toZ, ofZ}
-use Rattle.arena.specs.declared.Arena.{Arena}
-use Rattle.arena.specs.Registering.{noBits, newArena}
 use Rattle.arena.proofs.new_arena.Statement.{statement}
 use Rattle.arena.proofs.new_arena.Tie as tie
 

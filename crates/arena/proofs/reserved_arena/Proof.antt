@@ -1,5 +1,5 @@
 -- `arena::reserved_arena` meets its contract. Assumes nothing.
-use borrow.Author.Needs.{needs}
+use Rattle.arena.proofs.Prelude.{needs}
 use Rattle.arena.specs.Registering.{reservedArena}
 use Rattle.arena.proofs.reserved_arena.Statement.{statement}
 use Rattle.arena.proofs.reserved_arena.Tie as tie

@@ -1,7 +1,6 @@
 -- `calls::address_of` meets its contract. Assumes nothing.
-use mathlib.Core.Path.{sym, ap}
+use Rattle.state.proofs.Prelude.{sym, ap, needs}
 use Rattle.calls.specs.Calls.{addressOf}
-use borrow.Author.Needs.{needs}
 use Rattle.calls.proofs.address_of.Statement.{statement}
 use Rattle.calls.proofs.address_of.Tie as tie
 

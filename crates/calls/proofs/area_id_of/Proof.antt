@@ -1,8 +1,7 @@
 -- `calls::area_id_of` meets its contract. Assumes nothing.
-use mathlib.Core.Path.{sym, ap, _∙_}
+use Rattle.state.proofs.Prelude.{sym, ap, _∙_, needs}
 use mir.Facts.{toZ-ofZ}
 use Rattle.calls.specs.Calls.{areaIdOf}
-use borrow.Author.Needs.{needs}
 use Rattle.calls.proofs.area_id_of.Statement.{statement}
 use Rattle.calls.proofs.area_id_of.Tie as tie
 

@@ -17,7 +17,7 @@ use Rattle.layer.specs.declared.Settings.{Settings}
 use Rattle.calls.specs.declared.kinds.QueryCall.{QueryCall}
 use Rattle.arena.specs.declared.Arena.{Arena}
 use Rattle.layer.specs.declared.Reply.{Reply}
-use Rattle.layer.specs.World.{worldOf, Leaves, replyOf}
+use Rattle.layer.specs.World.{worldOf, Leaves, replyIn}
 use Rattle.layer.specs.Step.{step, query, owns, area}
 use Rattle.calls.specs.Calls.{queryOf, isOwns, askedOf, areaIdOf}
 use Rattle.calls.proofs.CallLaws.{kept, owns-is, area-is}
@@ -82,7 +82,7 @@ module _ {M : Type 1} (𝓤 : URA M) (H : Heap 𝓤) (A : Atoms 𝓤) (W : Given
     address = askedOf c
 
     abbrev result : Reply
-    result = replyOf (step (worldOf records stamps state) ns settings (query (owns address)))
+    result = replyIn (step (worldOf records stamps state) ns settings (query (owns address)))
 
     abbrev id : ℤ
     id = areaIdOf c
@@ -119,7 +119,7 @@ module _ {M : Type 1} (𝓤 : URA M) (H : Heap 𝓤) (A : Atoms 𝓤) (W : Given
         assigns ! (agg ! (and-then ! (in-local ! refl) (and-then ! (load ! (from ! (fld ! refl (stop !))) (look-in ! 5 (sub ! 1 refl (whole !)))) (no-more !)))) (from ! (stop !)) (init ! 35 refl (tt, (tt, (record { fits = known-stamps .1 .0 }, tt)))) $
         arg-fits ! 3 refl (λ f0-2. arg-fits ! 5 refl (λ f0-4.
         arena-area-step ! (in-seq ! (fmOf 𝓤 H (W .laws) 𝓣)) mem run known-arena-area L-records records L-stamps stamps state v-state g-state _ (f0-2 .fits) settings v-settings g-settings _ f0-4
-        (λ _. and-then ! (arg ! refl) (and-then ! (arg ! refl) (and-then ! (arg ! refl) (and-then ! (arg ! refl) (and-then ! (arg ! refl) (and-then ! (arg ! refl) (no-more !))))))) (λ v-result g-result. let result : Reply = replyOf (step (worldOf records stamps state) ns settings (query (area (toZ w32 (ofZ w32 id))))) in
+        (λ _. and-then ! (arg ! refl) (and-then ! (arg ! refl) (and-then ! (arg ! refl) (and-then ! (arg ! refl) (and-then ! (arg ! refl) (and-then ! (arg ! refl) (no-more !))))))) (λ v-result g-result. let result : Reply = replyIn (step (worldOf records stamps state) ns settings (query (area (toZ w32 (ofZ w32 id))))) in
         land ! (from ! (stop !)) (init ! 1 refl (LL.lawful T-Reply.the-type L-Reply.the-laws 𝓤 H A W .typed result (v-result ∷ []) g-result .0)) $
         returns ! (look ! 1 refl) $ used ! $ used ! $ used ! $ used ! $ used ! $ used ! $ used ! $ room ! $ used ! $ used ! $ room ! $ room ! $ room ! $ room ! $ used ! $ used ! $ used ! $ used ! $ free0 ! $
         finish2 𝓤 H A T-Arena.the-row u32 L-records L-stamps T-Reply.the-row records stamps χ W (‵ ftrue) v-result result records stamps g-result refl refl (kept (worldOf records stamps state) ns settings _ _ (area-is c (is-false t9 h1) _ (toZ-ofZ w32 id s-id))))))))))

@@ -1,7 +1,6 @@
 -- `calls::released_of` meets its contract. Assumes nothing.
-use mathlib.Core.Path.{sym, ap}
+use Rattle.state.proofs.Prelude.{sym, ap, needs}
 use Rattle.calls.specs.Calls.{releasedOf}
-use borrow.Author.Needs.{needs}
 use Rattle.calls.proofs.released_of.Statement.{statement}
 use Rattle.calls.proofs.released_of.Tie as tie
 

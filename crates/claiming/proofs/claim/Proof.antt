@@ -27,6 +27,7 @@ use Rattle.claiming.specs.Search.{searchFrom, isRun, idOf, startOf}
 use Rattle.layer.specs.Table.{at}
 use Rattle.claiming.specs.declared.verdicts.Verdict.{Verdict}
 use Rattle.state.proofs.Entry.{size-fits}
+use Rattle.claiming.proofs.SearchLaws.{some-wanted}
 use Rattle.claiming.proofs.RowLaws.{searchable, grantable, zero-row, off-row, granted, missed}
 use Rattle.walks.proofs.Frame.{Done, finish, mut-meets}
 use Rattle.state.proofs.refuse.Symbol as refuse-def
@@ -144,7 +145,7 @@ module _ {M : Type 1} (𝓤 : URA M) (H : Heap 𝓤) (A : Atoms 𝓤) (W : Given
         assigns ! (addr ! (from ! (fld ! refl (hop ! (look-in ! 3 (sub ! 0 refl (whole !))) (stop !))))) (from ! (stop !)) (init ! 31 refl (tt, tt)) $
         assigns ! (agg ! (and-then ! (in-local ! refl) (and-then ! (load ! (from ! (fld ! refl (stop !))) (look-in ! 3 (sub ! 1 refl (whole !)))) (no-more !)))) (from ! (stop !)) (init ! 33 refl (tt, (tt, (record { fits = known-records .1 .0 }, tt)))) $
         arg-fits ! 1 refl (λ f8-1. arg-fits ! 2 refl (λ f8-2. arg-fits ! 3 refl (λ f8-3.
-        search-step ! (in-seq ! (fmOf 𝓤 H (W .laws) 𝓣)) mem run known-search L-records records _ (f8-1 .fits) _ f8-2 _ (f8-3 .fits) (searchable records state (need .0))
+        search-step ! (in-seq ! (fmOf 𝓤 H (W .laws) 𝓣)) mem run known-search L-records records _ (f8-1 .fits) _ f8-2 _ (f8-3 .fits) ((searchable records state (need .0), some-wanted n (is-false (eqb n 0) h1)))
         (λ _. and-then ! (arg ! refl) (and-then ! (arg ! refl) (and-then ! (arg ! refl) (and-then ! (arg ! refl) (no-more !))))) (λ v-v g-v.
         land ! (from ! (stop !)) (init ! 17 refl (EL.lawful T-Verdict.the-type L-Verdict.the-laws 𝓤 H A W tt .typed v (v-v ∷ []) g-v .0)) $
         is-run-step ! (in-seq ! (fmOf 𝓤 H (W .laws) 𝓣)) mem run known-is-run v v-v g-v

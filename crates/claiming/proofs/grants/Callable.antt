@@ -1,21 +1,21 @@
 -- Functions of `claiming` that a walk calls, each in one step: asks-commit-step, commit-question-step, grant-step. Written by tools/walks.
 -- Assumes `Given`, the callee's theorem, and that the table of calls is monotone under a frame.
 use Rattle.walks.proofs.Walking.{_≡_, refl, sym, _∙_, ap, subst, Bool, not, ℕ, _<_, _+_, _*_, _^_, List, [], _∷_, length, set, w64, Operand, Val, vint, vbool, URA, SProp, emp, id⊢, Memory, Routine, Heap, Env, Calls, Atoms, Given, Item, Goal, Seq, ‵, _⊛_, Opds, Fun, factI, bool, u64, usize, yes, Is, Ises, owns-make, uint-makes, bool-tells, bool-makes, plain, only, tripleOf, Contract, Triple, Loan, lent, sliceOf, Site, plain-call, mut-call}
-use Rattle.judge.proofs.Head as T-Head
-use Rattle.judge.proofs.Head.Laws as L-Head
+use Rattle.table.proofs.heads.Head as T-Head
+use Rattle.table.proofs.heads.Head.Laws as L-Head
 use denote.Struct.Laws as LL
 use Rattle.layer.proofs.State as T-State
 use Rattle.layer.proofs.State.Laws as L-State
 use Rattle.layer.proofs.Reply as T-Reply
 use Rattle.arena.proofs.Arena as T-Arena
 use mathlib.Core.Bool.{_&&_}
-use Rattle.judge.specs.declared.Head.{Head}
+use Rattle.table.specs.declared.heads.Head.{Head}
 use Rattle.layer.specs.declared.State.{State}
 use Rattle.layer.specs.declared.Reply.{Reply}
 use Rattle.layer.specs.declared.Ask.the-variants.{AskCommit}
 use Rattle.layer.specs.declared.Answer.the-variants.{Asks}
 use Rattle.layer.specs.declared.Question.the-variants.{Committing}
-use Rattle.layer.specs.World.{stateOf, reply, sizeOf}
+use Rattle.layer.specs.World.{stateWith, reply, sizeOf}
 use Rattle.arena.specs.declared.Arena.{Arena}
 use Rattle.layer.specs.Table.{at}
 use Rattle.layer.specs.Claiming.{grantArena, grantReply}
@@ -52,12 +52,12 @@ module _ {M : Type 1} {𝓤 : URA M} {H : Heap 𝓤} {A : Atoms 𝓤} {K : Type 
   pub commit-question-step : K → Site K W Γ C E #claiming·grants·commit-question xs G after → (mem : Memory → SProp 𝓤) (run : Routine → Fun 𝓤) → Triple 𝓤 (C #claiming·grants·commit-question) (CommitQuestionSpec 𝓤 H A mem run)
       → (h : Head) (v-h : Val) → Is T-Head.the-row h (v-h ∷ []) → (state : State) (v-state : Val) → Is T-State.the-row state (v-state ∷ []) → (i : ℕ) → i < 2 ^ 64 → (s : ℕ) → s < 2 ^ 64 → (n : ℕ) → n < 2 ^ 64 → (chunk-size : ℕ) → chunk-size < 2 ^ 64 → ((h .base + s * chunk-size < 2 ^ 64) × (n * chunk-size < 2 ^ 64))
       → ((hd′ : Item 𝓤) → Opds K W (hd′ ∷ Γ) E xs (v-h ∷ v-state ∷ vint w64 i ∷ vint w64 s ∷ vint w64 n ∷ vint w64 chunk-size ∷ []))
-      → ((val′ : Val) → Is T-Reply.the-row (reply (Asks (AskCommit (h .base + s * chunk-size) (n * chunk-size))) (stateOf (state .count) (state .mark) (Committing i s n))) (val′ ∷ []) → Seq K W (more ∷ Γ) (after val′))
+      → ((val′ : Val) → Is T-Reply.the-row (reply (Asks (AskCommit (h .base + s * chunk-size) (n * chunk-size))) (stateWith (state .count) (state .mark) (Committing i s n))) (val′ ∷ []) → Seq K W (more ∷ Γ) (after val′))
       → Seq K W (more ∷ Γ) G
   commit-question-step bang site mem run known h v-h g-h state v-state g-state i f-i s f-s n f-n chunk-size f-chunk-size need ops then′ =
       plain-call bang site T-Reply.the-row (plain (λ _. T-Head.the-row) ∷ plain (λ _. T-State.the-row) ∷ plain (λ _. usize) ∷ plain (λ _. usize) ∷ plain (λ _. usize) ∷ plain (λ _. u64) ∷ []) (yes, (yes, (yes, (yes, (yes, (yes, tt)))))) (commit-question′.clauses 𝓤 H A mem run) known (h, (state, (i, (s, (n, (chunk-size, tt)))))) (v-h ∷ [], (v-state ∷ [], (vint w64 i ∷ [], (vint w64 s ∷ [], (vint w64 n ∷ [], (vint w64 chunk-size ∷ [], tt))))))
       (owns-make 𝓤 H A (T-Head.the-row ∷ T-State.the-row ∷ usize ∷ usize ∷ usize ∷ u64 ∷ []) (Ises (T-Head.the-row ∷ T-State.the-row ∷ usize ∷ usize ∷ usize ∷ u64 ∷ [])) (LL.makes T-Head.the-type L-Head.the-plain 𝓤 H A, (LL.makes T-State.the-type L-State.the-plain 𝓤 H A, (uint-makes 𝓤 H A W w64, (uint-makes 𝓤 H A W w64, (uint-makes 𝓤 H A W w64, (uint-makes 𝓤 H A W w64, tt)))))) (h, (state, (i, (s, (n, (chunk-size, tt)))))) (v-h ∷ [], (v-state ∷ [], (vint w64 i ∷ [], (vint w64 s ∷ [], (vint w64 n ∷ [], (vint w64 chunk-size ∷ [], tt)))))) (g-h, (g-state, ((refl, f-i), ((refl, f-s), ((refl, f-n), ((refl, f-chunk-size), tt))))))) tt (factI 𝓤 _ (emp 𝓤) need)
-      (λ out. out ≡ reply (Asks (AskCommit (h .base + s * chunk-size) (n * chunk-size))) (stateOf (state .count) (state .mark) (Committing i s n))) (λ out ws. id⊢ 𝓤 _) ops (λ val′ out rel′ eq′. then′ val′ (subst (λ (obj′ : Reply). Is T-Reply.the-row obj′ (val′ ∷ [])) eq′ rel′))
+      (λ out. out ≡ reply (Asks (AskCommit (h .base + s * chunk-size) (n * chunk-size))) (stateWith (state .count) (state .mark) (Committing i s n))) (λ out ws. id⊢ 𝓤 _) ops (λ val′ out rel′ eq′. then′ val′ (subst (λ (obj′ : Reply). Is T-Reply.the-row obj′ (val′ ∷ [])) eq′ rel′))
 
   pub grant-step : K → Site K W Γ C E #claiming·grants·grant xs G after → (mem : Memory → SProp 𝓤) (run : Routine → Fun 𝓤) → Triple 𝓤 (C #claiming·grants·grant) (GrantSpec 𝓤 H A mem run)
       → (L-records : Loan) (records : List Arena) → (state : State) (v-state : Val) → Is T-State.the-row state (v-state ∷ []) → (i : ℕ) → i < 2 ^ 64 → (s : ℕ) → s < 2 ^ 64 → (n : ℕ) → n < 2 ^ 64 → (commits : Bool) → (RunAt (sizeOf state) records i s n)

@@ -1,8 +1,6 @@
 -- `claiming::is_allowed` meets its contract. The machine holds the id's bits, and reads back the id that came in. Assumes nothing.
-use mathlib.Core.Path.{ap, _∙_}
-use borrow.Author.Needs.{needs}
+use Rattle.state.proofs.Prelude.{ap, _∙_, needs, arenaAllowed}
 use mir.Facts.{toZ-ofZ}
-use Rattle.options.specs.Options.{arenaAllowed}
 use Rattle.claiming.proofs.is_allowed.Statement.{statement}
 use Rattle.claiming.proofs.is_allowed.Tie as tie
 

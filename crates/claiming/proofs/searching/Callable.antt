@@ -1,18 +1,18 @@
 -- Functions of `claiming` that a walk calls, each in one step: has-too-few-step, is-eligible-step, of-run-step, run-of-none-step, verdict-at-pass, without-run-step. Written by tools/walks.
 -- Assumes `Given`, the callee's theorem, and that the table of calls is monotone under a frame.
 use Rattle.walks.proofs.Walking.{_≡_, refl, sym, _∙_, ap, subst, ℕ, _<_, _≤_, _^_, List, [], _∷_, ltb, length, w32, w64, Operand, Val, vint, vbool, Fits, toZ, URA, SProp, emp, id⊢, Memory, Routine, Heap, Env, Calls, Atoms, Given, Item, Goal, Seq, ‵, _⊛_, Opds, Fun, factI, bool, usize, i32, yes, Is, Ises, owns-make, uint-makes, bool-tells, plain, sint-makes, only, tripleOf, Contract, Triple, Loan, shared, sliceOf, signed, Site, plain-call, pass-call}
-use Rattle.judge.proofs.Head as T-Head
-use Rattle.judge.proofs.Head.Laws as L-Head
+use Rattle.table.proofs.heads.Head as T-Head
+use Rattle.table.proofs.heads.Head.Laws as L-Head
 use denote.Struct.Laws as LL
-use Rattle.runs.proofs.Found as T-Found
-use Rattle.runs.proofs.Found.Laws as L-Found
+use Rattle.bitmap.proofs.runs.Found as T-Found
+use Rattle.bitmap.proofs.runs.Found.Laws as L-Found
 use denote.Enum.Laws as EL
 use Rattle.claiming.proofs.verdicts.Verdict as T-Verdict
 use Rattle.arena.proofs.Arena as T-Arena
-use Rattle.judge.specs.declared.Head.{Head}
+use Rattle.table.specs.declared.heads.Head.{Head}
 use Rattle.layer.specs.Claiming.{eligible}
-use Rattle.judge.specs.Heads.{headed}
-use Rattle.runs.specs.declared.Found.{Found}
+use Rattle.table.specs.Heads.{headed}
+use Rattle.bitmap.specs.declared.runs.Found.{Found}
 use Rattle.claiming.specs.declared.verdicts.Verdict.{Verdict}
 use Rattle.claiming.specs.Search.{runVerdict, verdictOf}
 use Rattle.claiming.specs.declared.verdicts.Verdict.the-variants.{Run, NoRun}
@@ -93,7 +93,7 @@ module _ {M : Type 1} {𝓤 : URA M} {H : Heap 𝓤} {A : Atoms 𝓤} {K : Type 
       (λ out. out ≡ Run i 0) (λ out ws. id⊢ 𝓤 _) ops (λ val′ out rel′ eq′. then′ val′ (subst (λ (obj′ : Verdict). Is T-Verdict.the-row obj′ (val′ ∷ [])) eq′ rel′))
 
   pub verdict-at-pass : K → Site K W Γ C E #claiming·searching·verdict-at xs G after → (mem : Memory → SProp 𝓤) (run : Routine → Fun 𝓤) → Triple 𝓤 (C #claiming·searching·verdict-at) (VerdictAtSpec 𝓤 H A mem run)
-      → (L-records : Loan) (records : List Arena) → (i : ℕ) → i < 2 ^ 64 → (id : ℕ) → Fits w32 id → (n : ℕ) → n < 2 ^ 64 → ((i < length records) × (at records i .chunks ≤ 1024))
+      → (L-records : Loan) (records : List Arena) → (i : ℕ) → i < 2 ^ 64 → (id : ℕ) → Fits w32 id → (n : ℕ) → n < 2 ^ 64 → ((i < length records) × (at records i .chunks ≤ 1024) × (0 < n))
       → ((hd′ : Item 𝓤) → Opds K W (hd′ ∷ Γ) E xs (sliceOf L-records ∷ vint w64 i ∷ vint w32 id ∷ vint w64 n ∷ []))
       → ((val′ : Val) → Is T-Verdict.the-row (verdictOf (toZ w32 id) n i (at records i)) (val′ ∷ []) → Seq K W ((‵ (shared T-Arena.the-row L-records records) ⊛ more) ∷ Γ) (after val′))
       → Seq K W ((‵ (shared T-Arena.the-row L-records records) ⊛ more) ∷ Γ) G

@@ -1,7 +1,5 @@
 -- `clock::arm` meets its contract. Assumes nothing.
-use mathlib.Core.Path.{_≡_, subst, ap, _∙_}
-use Prim.Native.Nat.{ℕ, _≤_, _<_}
-use borrow.Author.Needs.{needs}
+use Rattle.walks.proofs.Prelude.{_≡_, subst, ap, _∙_, ℕ, _≤_, _<_, needs}
 use Rattle.clock.specs.Clock.{orOne, minus}
 use Rattle.clock.proofs.ClockLaws.{minus-is, armed-first, armed-kept, armed-replaced}
 use Rattle.clock.proofs.arm.Statement.{statement}

@@ -1,6 +1,5 @@
 -- `clock::delay_ms` meets its contract. The machine holds the delay's bits, and reads back the delay that came in. Assumes nothing.
-use mathlib.Core.Path.{_≡_, ap, _∙_}
-use borrow.Author.Needs.{needs}
+use Rattle.walks.proofs.Prelude.{_≡_, ap, _∙_, needs}
 use mir.Facts.{toZ-ofZ}
 use mir.Syntax.{w64}
 use mir.Val.{toZ, ofZ}

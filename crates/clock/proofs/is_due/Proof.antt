@@ -1,7 +1,5 @@
 -- `clock::is_due` meets its contract. Assumes nothing.
-use mathlib.Core.Path.{_≡_, ap, _∙_}
-use lib.Dec.{leb}
-use borrow.Author.Needs.{needs}
+use Rattle.walks.proofs.Prelude.{_≡_, ap, _∙_, leb, needs}
 use Rattle.clock.specs.Clock.{minus}
 use Rattle.clock.proofs.ClockLaws.{minus-is, due-now, due-else}
 use Rattle.clock.proofs.is_due.Statement.{statement}

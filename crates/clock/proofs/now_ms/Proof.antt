@@ -1,5 +1,5 @@
 -- `clock::now_ms` meets its contract. Assumes nothing.
-use borrow.Author.Needs.{needs}
+use Rattle.walks.proofs.Prelude.{needs}
 use Rattle.clock.specs.Clock.{nowMs}
 use Rattle.clock.proofs.now_ms.Statement.{statement}
 use Rattle.clock.proofs.now_ms.Tie as tie

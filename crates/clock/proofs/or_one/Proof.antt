@@ -1,5 +1,5 @@
 -- `clock::or_one` meets its contract. Assumes nothing.
-use mathlib.Core.Path.{sym, ap}
+use Rattle.walks.proofs.Prelude.{sym, ap}
 use Rattle.clock.specs.Clock.{orOne}
 use Rattle.clock.proofs.ClockLaws.{orOne-keeps}
 use Rattle.clock.proofs.or_one.Statement.{statement}

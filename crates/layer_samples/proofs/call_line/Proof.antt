@@ -12,7 +12,7 @@ use Rattle.layer.proofs.Reply.Laws as L-Reply
 use Rattle.layer_samples.specs.declared.Session.{Session}
 use Rattle.samples.specs.declared.lines.Line.{Line}
 use Rattle.arena.specs.declared.Arena.{Arena}
-use Rattle.layer.specs.World.{replyOf}
+use Rattle.layer.specs.World.{replyIn}
 use Rattle.layer_samples.specs.Replaying.{steppedOf}
 use Rattle.layer_samples.specs.Session.{calledOf}
 use Rattle.walks.proofs.Frame.{Done2, finish2, mut2-meets}
@@ -45,7 +45,7 @@ module _ {M : Type 1} (𝓤 : URA M) (H : Heap 𝓤) (A : Atoms 𝓤) (W : Given
     v-l = LL.val T-Line.the-type L-Line.the-laws l
 
     abbrev χ : Session → List Arena → List ℕ → Type 0
-    χ out records-exit stamps-exit = (out ≡ calledOf s l (replyOf (steppedOf records stamps s l))) × (records-exit ≡ steppedOf records stamps s l .world .records) × (stamps-exit ≡ steppedOf records stamps s l .world .stamps)
+    χ out records-exit stamps-exit = (out ≡ calledOf s l (replyIn (steppedOf records stamps s l))) × (records-exit ≡ steppedOf records stamps s l .world .records) × (stamps-exit ≡ steppedOf records stamps s l .world .stamps)
 
     abbrev Shown : (Session → List Arena → List ℕ → Type 0) → Type 1
     Shown says = Sq W ((‵ (lent T-Arena.the-row L-records records) ⊛ (‵ (lent u32 L-stamps stamps) ⊛ ‵ ftrue)) ∷ []) (prop (WpFn 𝓤 H (𝓣 .C) (𝓣 .Λ) code.function (sliceOf L-records ∷ sliceOf L-stamps ∷ v-s ∷ v-l ∷ []) (Done2 𝓤 H A T-Arena.the-row u32 L-records L-stamps T-Session.the-row records stamps says)))
@@ -73,7 +73,7 @@ module _ {M : Type 1} (𝓤 : URA M) (H : Heap 𝓤) (A : Atoms 𝓤) (W : Given
   call-line-meets : Meets 𝓤 H A call-line′.signature (WpFn 𝓤 H (𝓣 .C) (𝓣 .Λ) code.function) (call-line′.spec 𝓤 H A mem run)
   call-line-meets = mut2-meets 𝓤 H A W T-Arena.the-row u32 T-Session.the-row (plain (λ _. T-Session.the-row) ∷ plain (λ _. T-Line.the-row) ∷ []) (yes, (yes, tt)) (call-line′.clauses 𝓤 H A mem run)
       (λ κs. (LL.vals T-Session.the-type L-Session.the-laws, (LL.vals T-Line.the-type L-Line.the-laws, tt))) (λ κs a. (tt, (tt, tt)))
-      (λ κs x g. Unit {0}) (λ κs x g out records-exit stamps-exit. (out ≡ calledOf (x .1 .1 .0) (x .1 .1 .1 .0) (replyOf (steppedOf (x .0 .now) (x .1 .0 .now) (x .1 .1 .0) (x .1 .1 .1 .0)))) × (records-exit ≡ steppedOf (x .0 .now) (x .1 .0 .now) (x .1 .1 .0) (x .1 .1 .1 .0) .world .records) × (stamps-exit ≡ steppedOf (x .0 .now) (x .1 .0 .now) (x .1 .1 .0) (x .1 .1 .1 .0) .world .stamps))
+      (λ κs x g. Unit {0}) (λ κs x g out records-exit stamps-exit. (out ≡ calledOf (x .1 .1 .0) (x .1 .1 .1 .0) (replyIn (steppedOf (x .0 .now) (x .1 .0 .now) (x .1 .1 .0) (x .1 .1 .1 .0)))) × (records-exit ≡ steppedOf (x .0 .now) (x .1 .0 .now) (x .1 .1 .0) (x .1 .1 .1 .0) .world .records) × (stamps-exit ≡ steppedOf (x .0 .now) (x .1 .0 .now) (x .1 .1 .0) (x .1 .1 .1 .0) .world .stamps))
       (LL.makes T-Session.the-type L-Session.the-plain 𝓤 H A) ((λ κs x f. refl), ((λ κs x f. refl), tt)) (λ κs. (LL.tells T-Session.the-type L-Session.the-laws, (LL.tells T-Line.the-type L-Line.the-laws, tt)))
       (λ κs x g. factI 𝓤 (Unit {0}) _ tt) (λ κs x g out records-exit stamps-exit e. factI 𝓤 _ (emp 𝓤) e) code.function 𝓣
       (λ κs q0 q1 x g known0 known1 are l. walk (κs .0) (κs .1 .0) q0 q1 (x .0 .name) (x .1 .0 .name) (x .0 .ptr .0) (x .1 .0 .ptr .0) (x .0 .ptr .1) (x .1 .0 .ptr .1) (x .0 .now) (x .1 .0 .now) (x .1 .1 .0) (x .1 .1 .1 .0) known0 known1 (are .0) (are .1 .0))

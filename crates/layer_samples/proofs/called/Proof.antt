@@ -1,10 +1,8 @@
 -- `layer_samples::called` meets its contract. Assumes nothing.
-use mathlib.Core.Path.{ap, _∙_}
-use lib.Dec.{eqb}
+use Rattle.state.proofs.Prelude.{ap, _∙_, eqb, needs}
 use Rattle.surface.specs.declared.reply.ReplyNumbers.{ReplyNumbers}
 use Rattle.samples.specs.Counting.{afterAnswer}
 use Rattle.layer_samples.specs.Session.{calledOf, saidOf}
-use borrow.Author.Needs.{needs}
 use Rattle.layer_samples.proofs.called.Statement.{statement}
 use Rattle.layer_samples.proofs.called.Tie as tie
 

@@ -1,7 +1,5 @@
 -- `layer_samples::carried_after` meets its contract. Assumes nothing.
-use borrow.Author.Needs.{needs}
-use borrow.Author.Tests.{eq-eqb, ne-eqb}
-use mathlib.Core.Path.{ap, _∙_}
+use Rattle.state.proofs.Prelude.{needs, eq-eqb, ne-eqb, ap, _∙_}
 use mir.Syntax.{w64}
 use mir.Facts.{toZ-ofZ}
 use Rattle.layer_samples.specs.Session.{carriedOf, withClock}

@@ -1,7 +1,5 @@
 -- `layer_samples::noted` meets its contract. Assumes nothing.
-use borrow.Author.Needs.{needs}
-use borrow.Author.Tests.{eq-eqb, ne-eqb}
-use mathlib.Core.Path.{ap, _∙_}
+use Rattle.state.proofs.Prelude.{needs, eq-eqb, ne-eqb, ap, _∙_}
 use Rattle.layer_samples.specs.Session.{notedOf, counted}
 use Rattle.layer_samples.proofs.noted.Statement.{statement}
 use Rattle.layer_samples.proofs.noted.Tie as tie

@@ -12,7 +12,7 @@ use Rattle.samples.specs.declared.lines.Line.{Line}
 use Rattle.arena.specs.declared.Arena.{Arena}
 use Rattle.layer_samples.specs.Replaying.{replayedOf, steppedOf}
 use Rattle.layer_samples.specs.Session.{isCall, calledOf, isHash, hashedOf, notedOf}
-use Rattle.layer.specs.World.{replyOf}
+use Rattle.layer.specs.World.{replyIn}
 use Rattle.layer_samples.specs.StateHash.{hashOf}
 use Rattle.layer_samples.proofs.ReplayLaws.{call-kept, hash-kept, note-kept}
 use Rattle.walks.proofs.Frame.{Done2, finish2, mut2-meets}
@@ -69,7 +69,7 @@ module _ {M : Type 1} (𝓤 : URA M) (H : Heap 𝓤) (A : Atoms 𝓤) (W : Given
     t5 = isCall l
 
     abbrev result : Session
-    result = calledOf s l (replyOf (steppedOf records stamps s l))
+    result = calledOf s l (replyIn (steppedOf records stamps s l))
 
     abbrev records-1 : List Arena
     records-1 = steppedOf records stamps s l .world .records

@@ -1,5 +1,5 @@
 -- `layer_samples::start` meets its contract. Assumes nothing.
-use borrow.Author.Needs.{needs}
+use Rattle.state.proofs.Prelude.{needs}
 use Rattle.layer_samples.proofs.start.Statement.{statement}
 use Rattle.layer_samples.proofs.start.Tie as tie
 

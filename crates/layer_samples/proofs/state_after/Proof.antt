@@ -1,9 +1,6 @@
 -- `layer_samples::state_after` meets its contract. Assumes nothing.
 use Rattle.layer_samples.specs.Session.{stateAfter}
-use borrow.Author.Needs.{needs}
-use borrow.Author.Tests.{eq-eqb, ne-eqb}
-use mathlib.Core.Path.{sym, _∙_}
-use Rattle.words.proofs.Tests.{when, unless}
+use Rattle.state.proofs.Prelude.{needs, eq-eqb, ne-eqb, sym, _∙_, when, unless}
 use Rattle.layer_samples.proofs.state_after.Statement.{statement}
 use Rattle.layer_samples.proofs.state_after.Tie as tie
 

@@ -1,6 +1,5 @@
 -- `layer_samples::with_settings` meets its contract. Assumes nothing.
-use borrow.Author.Needs.{needs}
-use Prim.Native.Nat.{_/_}
+use Rattle.state.proofs.Prelude.{needs, _/_}
 use mir.Syntax.{w64}
 use mir.Val.{SFits}
 use mir.Facts.{toZ-ofZ}

@@ -1,7 +1,6 @@
 -- `layer_samples::word_of` meets its contract. Assumes nothing.
 use Rattle.layer_samples.specs.Session.{wordOf}
-use mathlib.Core.Path.{refl}
-use borrow.Author.Needs.{needs}
+use Rattle.state.proofs.Prelude.{refl, needs}
 use Rattle.layer_samples.proofs.word_of.Statement.{statement}
 use Rattle.layer_samples.proofs.word_of.Tie as tie
 

@@ -1,7 +1,5 @@
 -- `options::arena_allowed` meets its contract. The machine holds the id's bits, and reads back the id that came in. Assumes nothing.
-use mathlib.Core.Path.{ap, _∙_}
-use lib.IntN.{pos}
-use lib.Signed.{leZ}
+use Rattle.walks.proofs.Prelude.{ap, _∙_, pos, leZ}
 use mir.Facts.{toZ-ofZ}
 use Rattle.options.proofs.OptionLaws.{allowed-off, allowed-on}
 use Rattle.options.proofs.arena_allowed.Statement.{statement}

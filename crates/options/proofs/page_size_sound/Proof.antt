@@ -1,5 +1,5 @@
 -- `options::page_size_sound` meets its contract. Assumes nothing.
-use mathlib.Core.Path.{sym}
+use Rattle.walks.proofs.Prelude.{sym}
 use Rattle.options.proofs.OptionLaws.{five-sound, not-five}
 use Rattle.options.proofs.page_size_sound.Statement.{statement}
 use Rattle.options.proofs.page_size_sound.Tie as tie

@@ -1,7 +1,5 @@
 -- `queries::area_answer` meets its contract. Assumes nothing.
-use mathlib.Core.Path.{refl}
-use native.Mathlib.Nat.{mul-le-mul}
-use native.Mathlib.Omega.{arith}
+use Rattle.state.proofs.Prelude.{refl, mul-le-mul, arith}
 use Rattle.queries.proofs.area_answer.Statement.{statement}
 use Rattle.queries.proofs.area_answer.Tie as tie
 

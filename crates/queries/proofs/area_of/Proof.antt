@@ -8,8 +8,8 @@ use Rattle.arena.proofs.Arena as T-Arena
 use Rattle.layer.proofs.Answer as T-Answer
 use Rattle.layer.proofs.Answer.Laws as L-Answer
 use denote.Enum.Laws as EL
-use Rattle.judge.proofs.Head as T-Head
-use Rattle.judge.proofs.Head.Laws as L-Head
+use Rattle.table.proofs.heads.Head as T-Head
+use Rattle.table.proofs.heads.Head.Laws as L-Head
 use Rattle.layer.specs.declared.State.{State}
 use Rattle.arena.specs.declared.Arena.{Arena}
 use Rattle.layer.specs.declared.Answer.{Answer}
@@ -19,8 +19,8 @@ use Rattle.state.specs.Ready.{Standing}
 use Rattle.queries.specs.Registered.{isRegistered}
 use Rattle.layer.specs.declared.Answer.the-variants.{Area}
 use lib.IntN.{natAbs}
-use Rattle.judge.specs.Heads.{headOf}
-use Rattle.judge.specs.declared.Head.{Head}
+use Rattle.table.specs.Heads.{headOf}
+use Rattle.table.specs.declared.heads.Head.{Head}
 use Rattle.state.proofs.Entry.{size-fits}
 use Rattle.queries.proofs.QueryLaws.{placed, few-chunks, none-registered, area-is}
 use Rattle.walks.proofs.Frame.{DoneS, finishS, shr-meets}

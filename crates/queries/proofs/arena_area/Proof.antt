@@ -18,14 +18,14 @@ use Rattle.layer.specs.declared.State.{State}
 use Rattle.layer.specs.declared.Settings.{Settings}
 use Rattle.arena.specs.declared.Arena.{Arena}
 use Rattle.layer.specs.declared.Reply.{Reply}
-use Rattle.layer.specs.World.{worldOf, replyOf, sizeOf, turnDown, reply}
+use Rattle.layer.specs.World.{worldOf, replyIn, sizeOf, turnDown, reply}
 use Rattle.layer.specs.Step.{area, step, query, areaOf}
 use Rattle.layer.specs.Table.{soundLent}
 use Rattle.refusals.specs.declared.Refusal.the-variants.{Broken}
 use Rattle.layer.specs.declared.Answer.{Answer}
 use Rattle.layer.specs.Step.{area}
-use Rattle.state.proofs.Entry.{size-fits, standing}
-use Rattle.queries.proofs.QueryLaws.{broken-row, answered-row}
+use Rattle.state.proofs.Entry.{size-fits, standing, broken-row}
+use Rattle.queries.proofs.QueryLaws.{answered-row}
 use Rattle.walks.proofs.Two.{Done, finish, meets}
 use Rattle.state.proofs.chunk_size.Symbol as chunk-size-def
 use Rattle.state.proofs.chunk_size.Symbol.{name as #state·chunk-size}
@@ -73,7 +73,7 @@ module _ {M : Type 1} (𝓤 : URA M) (H : Heap 𝓤) (A : Atoms 𝓤) (W : Given
     id = toZ w32 bits-id
 
     abbrev χ : Reply → Type 0
-    χ out = out ≡ replyOf (step (worldOf records stamps state) ns settings (query (area id)))
+    χ out = out ≡ replyIn (step (worldOf records stamps state) ns settings (query (area id)))
 
     abbrev Shown : (Reply → Type 0) → Type 1
     Shown says = Sq W ((‵ (shared T-Arena.the-row L-records records) ⊛ (‵ (shared u32 L-stamps stamps) ⊛ ‵ ftrue)) ∷ []) (prop (WpFn 𝓤 H (𝓣 .C) (𝓣 .Λ) code.function (sliceOf L-records ∷ sliceOf L-stamps ∷ v-state ∷ vint w64 ns ∷ v-settings ∷ vint w32 bits-id ∷ []) (Done 𝓤 H A T-Arena.the-row u32 L-records L-stamps T-Reply.the-row records stamps says)))
@@ -113,7 +113,7 @@ module _ {M : Type 1} (𝓤 : URA M) (H : Heap 𝓤) (A : Atoms 𝓤) (W : Given
         (λ _. and-then ! (arg ! refl) (and-then ! (arg ! refl) (no-more !))) (λ v-result g-result.
         land ! (from ! (stop !)) (init ! 1 refl (LL.lawful T-Reply.the-type L-Reply.the-laws 𝓤 H A W .typed result (v-result ∷ []) g-result .0)) $
         returns-within ! Post refl (look ! 1 refl) $ used ! $ used ! $ used ! $ used ! $ used ! $ used ! $ used ! $ used ! $ room ! $ used ! $ used ! $ used ! $ used ! $ free0 ! $
-        finish 𝓤 H A T-Arena.the-row u32 L-records L-stamps T-Reply.the-row records stamps χ W (‵ ftrue) v-result result g-result (broken-row records stamps state ns settings (area id) (is-false t9 h1))))
+        finish 𝓤 H A T-Arena.the-row u32 L-records L-stamps T-Reply.the-row records stamps χ W (‵ ftrue) v-result result g-result (broken-row records stamps state ns settings (is-false t9 h1) (query (area id)) .0)))
         (λ h1.
         arg-fits ! 2 refl (λ f8-2.
         area-of-pass ! (in-seq ! (fmOf 𝓤 H (W .laws) 𝓣)) mem run known-area-of L-records records state v-state g-state _ f8-2 (standing records stamps state ns settings (is-true t9 (T-not-not t9 h1)))
@@ -128,10 +128,10 @@ module _ {M : Type 1} (𝓤 : URA M) (H : Heap 𝓤) (A : Atoms 𝓤) (W : Given
   arena-area-meets : Meets 𝓤 H A arena-area′.signature (WpFn 𝓤 H (𝓣 .C) (𝓣 .Λ) code.function) (arena-area′.spec 𝓤 H A mem run)
   arena-area-meets = meets 𝓤 H A W T-Arena.the-row u32 T-Reply.the-row (plain (λ _. T-State.the-row) ∷ plain (λ _. u64) ∷ plain (λ _. T-Settings.the-row) ∷ plain (λ _. i32) ∷ []) (yes, (yes, (yes, (yes, tt)))) (arena-area′.clauses 𝓤 H A mem run)
       (λ κs. (LL.vals T-State.the-type L-State.the-laws, (uint-vals w64, (LL.vals T-Settings.the-type L-Settings.the-laws, (sint-vals w32, tt))))) (λ κs a. (tt, (tt, (tt, (tt, tt)))))
-      (λ κs x g. Unit {0}) (λ κs x g out. out ≡ replyOf (step (worldOf (x .0 .now) (x .1 .0 .now) (x .1 .1 .0)) (x .1 .1 .1 .0) (x .1 .1 .1 .1 .0) (query (area (x .1 .1 .1 .1 .1 .0)))))
+      (λ κs x g. Unit {0}) (λ κs x g out. out ≡ replyIn (step (worldOf (x .0 .now) (x .1 .0 .now) (x .1 .1 .0)) (x .1 .1 .1 .0) (x .1 .1 .1 .1 .0) (query (area (x .1 .1 .1 .1 .1 .0)))))
       (LL.makes T-Reply.the-type L-Reply.the-plain 𝓤 H A) ((λ κs x f. refl), ((λ κs x f. refl), ((λ κs x f. refl), ((λ κs x f. refl), tt)))) (λ κs. (LL.tells T-State.the-type L-State.the-laws, (uint-tells w64, (LL.tells T-Settings.the-type L-Settings.the-laws, (sint-tells w32, tt)))))
       (λ κs x g. factI 𝓤 (Unit {0}) _ tt) (λ κs x g out e. factI 𝓤 _ (emp 𝓤) e) code.function 𝓣
-      (λ κs q0 q1 x g known0 known1 are l. subst (λ (z : ℤ). Shown (κs .0) (κs .1 .0) q0 q1 (x .0 .name) (x .1 .0 .name) (x .0 .ptr .0) (x .1 .0 .ptr .0) (x .0 .ptr .1) (x .1 .0 .ptr .1) (x .0 .now) (x .1 .0 .now) (x .1 .1 .0) (x .1 .1 .1 .0) (x .1 .1 .1 .1 .0) (ofZ w32 (x .1 .1 .1 .1 .1 .0)) (λ out. out ≡ replyOf (step (worldOf (x .0 .now) (x .1 .0 .now) (x .1 .1 .0)) (x .1 .1 .1 .0) (x .1 .1 .1 .1 .0) (query (area z))))) (toZ-ofZ w32 (x .1 .1 .1 .1 .1 .0) (record { sfits = (are .1 .1 .1 .0 .1) })) (walk (κs .0) (κs .1 .0) q0 q1 (x .0 .name) (x .1 .0 .name) (x .0 .ptr .0) (x .1 .0 .ptr .0) (x .0 .ptr .1) (x .1 .0 .ptr .1) (x .0 .now) (x .1 .0 .now) (x .1 .1 .0) (x .1 .1 .1 .0) (x .1 .1 .1 .1 .0) (ofZ w32 (x .1 .1 .1 .1 .1 .0)) known0 known1 (are .0) (are .1 .0 .1) (are .1 .1 .0) (ofZ-fits w32 (x .1 .1 .1 .1 .1 .0) (record { sfits = (are .1 .1 .1 .0 .1) }))))
+      (λ κs q0 q1 x g known0 known1 are l. subst (λ (z : ℤ). Shown (κs .0) (κs .1 .0) q0 q1 (x .0 .name) (x .1 .0 .name) (x .0 .ptr .0) (x .1 .0 .ptr .0) (x .0 .ptr .1) (x .1 .0 .ptr .1) (x .0 .now) (x .1 .0 .now) (x .1 .1 .0) (x .1 .1 .1 .0) (x .1 .1 .1 .1 .0) (ofZ w32 (x .1 .1 .1 .1 .1 .0)) (λ out. out ≡ replyIn (step (worldOf (x .0 .now) (x .1 .0 .now) (x .1 .1 .0)) (x .1 .1 .1 .0) (x .1 .1 .1 .1 .0) (query (area z))))) (toZ-ofZ w32 (x .1 .1 .1 .1 .1 .0) (record { sfits = (are .1 .1 .1 .0 .1) })) (walk (κs .0) (κs .1 .0) q0 q1 (x .0 .name) (x .1 .0 .name) (x .0 .ptr .0) (x .1 .0 .ptr .0) (x .0 .ptr .1) (x .1 .0 .ptr .1) (x .0 .now) (x .1 .0 .now) (x .1 .1 .0) (x .1 .1 .1 .0) (x .1 .1 .1 .1 .0) (ofZ w32 (x .1 .1 .1 .1 .1 .0)) known0 known1 (are .0) (are .1 .0 .1) (are .1 .1 .0) (ofZ-fits w32 (x .1 .1 .1 .1 .1 .0) (record { sfits = (are .1 .1 .1 .0 .1) }))))
 
 pub arena-area-spec : {M : Type 1} → stated.statement M
 unfolding code.routine tablesOf

@@ -1,16 +1,9 @@
 -- `queries::is_registered` meets its contract. The machine holds the id's bits, and reads back the id that came in. Assumes nothing.
-use mathlib.Core.Path.{_≡_, refl, sym, ap, _∙_, subst}
-use mathlib.Core.Bool.{Bool, true, false, true≢false}
-use Prim.Native.Nat.{ℕ}
-use native.Mathlib.Omega.{arith}
-use borrow.Author.Tests.{ltb-true}
-use lib.Dec.{T, ltb}
-use lib.IntN.{ℤ, pos, negsuc, natAbs}
-use lib.Signed.{ltZ, nonNeg}
+use Rattle.state.proofs.Prelude.{_≡_, refl, sym, ap, _∙_, subst, true, false, true≢false, ℕ, arith, ltb-true, T, ltb, ℤ, pos, negsuc, natAbs, ltZ, nonNeg}
 use mir.Syntax.{w64}
 use mir.Val.{Fits}
 use mir.Facts.{toZ-ofZ}
-use Rattle.judge.proofs.ClaimLaws.{named-fits}
+use Rattle.table.proofs.heads.ClaimLaws.{named-fits}
 use Rattle.queries.specs.Registered.{isRegistered}
 use Rattle.queries.proofs.is_registered.Statement.{statement}
 use Rattle.queries.proofs.is_registered.Tie as tie

@@ -5,15 +5,15 @@ use Rattle.layer.proofs.State as T-State
 use Rattle.layer.proofs.State.Laws as L-State
 use denote.Struct.Laws as LL
 use Rattle.arena.proofs.Arena as T-Arena
-use Rattle.runs.proofs.Found as T-Found
-use Rattle.runs.proofs.Found.Laws as L-Found
+use Rattle.bitmap.proofs.runs.Found as T-Found
+use Rattle.bitmap.proofs.runs.Found.Laws as L-Found
 use denote.Enum.Laws as EL
 use Rattle.layer.specs.declared.State.{State}
 use Rattle.arena.specs.declared.Arena.{Arena}
 use Rattle.layer.specs.World.{sizeOf}
 use Rattle.layer.specs.Table.{isAt, findArena}
 use Rattle.state.specs.Ready.{Standing}
-use Rattle.runs.specs.declared.Found.{Found}
+use Rattle.bitmap.specs.declared.runs.Found.{Found}
 use Rattle.state.proofs.Entry.{size-fits, arenas}
 use Rattle.walks.proofs.Frame.{DoneS, finishS, shr-meets}
 use Rattle.state.proofs.chunk_size.Symbol as chunk-size-def
@@ -22,12 +22,11 @@ use Rattle.state.proofs.chunk_size.Met as chunk-size-thm
 use Rattle.table.proofs.find_arena.Symbol as find-arena-def
 use Rattle.table.proofs.find_arena.Symbol.{name as #table·find-arena}
 use Rattle.table.proofs.find_arena.Met as find-arena-thm
-use Rattle.judge.proofs.row_parts.is_at.Symbol as is-at-def
-use Rattle.judge.proofs.row_parts.is_at.Symbol.{name as #judge·row-parts·is-at}
-use Rattle.judge.proofs.row_parts.is_at.Met as is-at-thm
+use Rattle.table.proofs.row_parts.is_at.Symbol as is-at-def
+use Rattle.table.proofs.row_parts.is_at.Symbol.{name as #table·row-parts·is-at}
+use Rattle.table.proofs.row_parts.is_at.Met as is-at-thm
 use Rattle.state.proofs.Callable.{ChunkSizeSpec, chunk-size-step}
-use Rattle.table.proofs.Callable.{FindArenaSpec, find-arena-pass}
-use Rattle.judge.proofs.Callable.{IsAtSpec, is-at-step}
+use Rattle.table.proofs.Callable.{FindArenaSpec, IsAtSpec, find-arena-pass, is-at-step}
 use Rattle.queries.proofs.lies_in_arena.Key.{name as #queries·lies-in-arena}
 use Rattle.queries.proofs.lies_in_arena as lies-in-arena′
 use Rattle.queries.proofs.lies_in_arena.Statement as stated
@@ -36,7 +35,7 @@ use Rattle.queries.proofs.lies_in_arena.Code as code
 module _ {M : Type 1} (𝓤 : URA M) (H : Heap 𝓤) (A : Atoms 𝓤) (W : Given 𝓤 H A) (mem : Memory → SProp 𝓤) (run : Routine → Fun 𝓤) (𝓣 : Tables 𝓤 H)
     (known-chunk-size : Triple 𝓤 (𝓣 .C #state·chunk-size) (ChunkSizeSpec 𝓤 H A mem run))
     (known-find-arena : Triple 𝓤 (𝓣 .C #table·find-arena) (FindArenaSpec 𝓤 H A mem run))
-    (known-is-at : Triple 𝓤 (𝓣 .C #judge·row-parts·is-at) (IsAtSpec 𝓤 H A mem run)) where
+    (known-is-at : Triple 𝓤 (𝓣 .C #table·row-parts·is-at) (IsAtSpec 𝓤 H A mem run)) where
   module _ (κ-records : Lft) (q-records : Share) (γ-records : GName) (b-records : ℕ) (o-records : ℕ) (records : List Arena) (state : State) (address : ℕ) where
     abbrev L-records : Loan
     L-records = record { κ = κ-records; q = q-records; γ = γ-records; b = b-records; o = o-records; n = length records }
@@ -95,4 +94,4 @@ lies-in-arena-spec 𝓤 H 𝓜 𝓖 𝓡 =
     (lies-in-arena-meets 𝓤 H (𝓖 .A) (givenOf 𝓤 H 𝓜 𝓖) (𝓜 .mem) (𝓡 .run) (tablesOf 𝓤 H 𝓜 (tables 𝓤 H 𝓜 𝓡 code.env))
     (cited 𝓤 H (ChunkSizeSpec 𝓤 H (𝓖 .A) (𝓜 .mem) (𝓡 .run)) 𝓜 𝓡 code.env #state·chunk-size chunk-size-def.routine code.calls-state·chunk-size (chunk-size-thm.met 𝓤 H 𝓜 𝓖 𝓡))
     (cited 𝓤 H (FindArenaSpec 𝓤 H (𝓖 .A) (𝓜 .mem) (𝓡 .run)) 𝓜 𝓡 code.env #table·find-arena find-arena-def.routine code.calls-table·find-arena (find-arena-thm.met 𝓤 H 𝓜 𝓖 𝓡))
-    (cited 𝓤 H (IsAtSpec 𝓤 H (𝓖 .A) (𝓜 .mem) (𝓡 .run)) 𝓜 𝓡 code.env #judge·row-parts·is-at is-at-def.routine code.calls-judge·row-parts·is-at (is-at-thm.met 𝓤 H 𝓜 𝓖 𝓡)))
+    (cited 𝓤 H (IsAtSpec 𝓤 H (𝓖 .A) (𝓜 .mem) (𝓡 .run)) 𝓜 𝓡 code.env #table·row-parts·is-at is-at-def.routine code.calls-table·row-parts·is-at (is-at-thm.met 𝓤 H 𝓜 𝓖 𝓡)))

@@ -1,11 +1,5 @@
 -- `queries::place_of` meets its contract. The machine holds the id's bits, and reads back the id that came in. Assumes nothing.
-use mathlib.Core.Path.{_≡_, sym, ap, subst}
-use mathlib.Core.Bool.{true, true≢false}
-use Prim.Native.Nat.{ℕ}
-use native.Mathlib.Omega.{arith}
-use lib.Dec.{T}
-use lib.IntN.{ℤ, pos, negsuc, natAbs}
-use lib.Signed.{nonNeg}
+use Rattle.state.proofs.Prelude.{_≡_, sym, ap, subst, true, true≢false, ℕ, arith, T, ℤ, pos, negsuc, natAbs, nonNeg}
 use mir.Syntax.{w32, w64}
 use mir.Val.{Fits, SFits}
 use mir.Facts.{toZ-ofZ}

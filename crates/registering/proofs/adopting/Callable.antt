@@ -12,7 +12,7 @@ use Rattle.layer.specs.declared.Reply.{Reply}
 use Rattle.arena.specs.Registering.{adoptedArena, grownArena}
 use Rattle.layer.specs.World.{Leaves, reply, calm}
 use Rattle.state.specs.Ready.{Ready, Stamped}
-use Rattle.registering.specs.New.{newArena}
+use Rattle.registering.specs.New.{registerNew}
 use Rattle.layer.specs.declared.Answer.the-variants.{Registered}
 use Rattle.layer.specs.Table.{at}
 use mathlib.Core.Bool.{_&&_}
@@ -45,12 +45,12 @@ module _ {M : Type 1} {𝓤 : URA M} {H : Heap 𝓤} {A : Atoms 𝓤} {K : Type 
   pub adopt-new-step : K → Site K W Γ C E #registering·adopting·adopt-new xs G after → (mem : Memory → SProp 𝓤) (run : Routine → Fun 𝓤) → Triple 𝓤 (C #registering·adopting·adopt-new) (AdoptNewSpec 𝓤 H A mem run)
       → (L-records : Loan) (records : List Arena) → (L-stamps : Loan) (stamps : List ℕ) → (state : State) (v-state : Val) → Is T-State.the-row state (v-state ∷ []) → (address : ℕ) → address < 2 ^ 64 → (chunks : ℕ) → chunks < 2 ^ 64 → (Ready records state × Stamped stamps)
       → ((hd′ : Item 𝓤) → Opds K W (hd′ ∷ Γ) E xs (sliceOf L-records ∷ sliceOf L-stamps ∷ v-state ∷ vint w64 address ∷ vint w64 chunks ∷ []))
-      → ((val′ : Val) (out : Reply) (records-exit : List Arena) (stamps-exit : List ℕ) → Is T-Reply.the-row out (val′ ∷ []) → Leaves (newArena records stamps (state .count) (state .mark) chunks (adoptedArena address chunks)) out records-exit stamps-exit → length records-exit ≡ length records → length stamps-exit ≡ length stamps → Seq K W ((‵ (lent T-Arena.the-row L-records records-exit) ⊛ (‵ (lent u32 L-stamps stamps-exit) ⊛ more)) ∷ Γ) (after val′))
+      → ((val′ : Val) (out : Reply) (records-exit : List Arena) (stamps-exit : List ℕ) → Is T-Reply.the-row out (val′ ∷ []) → Leaves (registerNew records stamps (state .count) (state .mark) chunks (adoptedArena address chunks)) out records-exit stamps-exit → length records-exit ≡ length records → length stamps-exit ≡ length stamps → Seq K W ((‵ (lent T-Arena.the-row L-records records-exit) ⊛ (‵ (lent u32 L-stamps stamps-exit) ⊛ more)) ∷ Γ) (after val′))
       → Seq K W ((‵ (lent T-Arena.the-row L-records records) ⊛ (‵ (lent u32 L-stamps stamps) ⊛ more)) ∷ Γ) G
   adopt-new-step bang site mem run known L-records records L-stamps stamps state v-state g-state address f-address chunks f-chunks need ops then′ =
       mut2-call bang site T-Arena.the-row u32 L-records L-stamps T-Reply.the-row (plain (λ _. T-State.the-row) ∷ plain (λ _. u64) ∷ plain (λ _. u64) ∷ []) (yes, (yes, (yes, tt))) (adopt-new′.clauses 𝓤 H A mem run) known records stamps (λ _. (state, (address, (chunks, tt)))) (λ _. (v-state ∷ [], (vint w64 address ∷ [], (vint w64 chunks ∷ [], tt))))
       (λ _. owns-make 𝓤 H A (T-State.the-row ∷ u64 ∷ u64 ∷ []) (Ises (T-State.the-row ∷ u64 ∷ u64 ∷ [])) (LL.makes T-State.the-type L-State.the-plain 𝓤 H A, (uint-makes 𝓤 H A W w64, (uint-makes 𝓤 H A W w64, tt))) (state, (address, (chunks, tt))) (v-state ∷ [], (vint w64 address ∷ [], (vint w64 chunks ∷ [], tt))) (g-state, ((refl, f-address), ((refl, f-chunks), tt)))) (λ _ _ _. tt) (λ _ _ _. factI 𝓤 _ (emp 𝓤) need)
-      (λ out records-exit stamps-exit. Leaves (newArena records stamps (state .count) (state .mark) chunks (adoptedArena address chunks)) out records-exit stamps-exit) (λ _ _ _ out ws. id⊢ 𝓤 _) (λ hd′ _. ops hd′) (λ val′ out records-exit stamps-exit rel′ eq′ l-records l-stamps. then′ val′ out records-exit stamps-exit rel′ eq′ l-records l-stamps)
+      (λ out records-exit stamps-exit. Leaves (registerNew records stamps (state .count) (state .mark) chunks (adoptedArena address chunks)) out records-exit stamps-exit) (λ _ _ _ out ws. id⊢ 𝓤 _) (λ hd′ _. ops hd′) (λ val′ out records-exit stamps-exit rel′ eq′ l-records l-stamps. then′ val′ out records-exit stamps-exit rel′ eq′ l-records l-stamps)
 
   pub grow-at-step : K → Site K W Γ C E #registering·adopting·grow-at xs G after → (mem : Memory → SProp 𝓤) (run : Routine → Fun 𝓤) → Triple 𝓤 (C #registering·adopting·grow-at) (GrowAtSpec 𝓤 H A mem run)
       → (L-records : Loan) (records : List Arena) → (state : State) (v-state : Val) → Is T-State.the-row state (v-state ∷ []) → (i : ℕ) → i < 2 ^ 64 → (n : ℕ) → n < 2 ^ 64 → ((i < length records) × (at records i .chunks + n ≤ 1024))

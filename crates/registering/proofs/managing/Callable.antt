@@ -16,7 +16,7 @@ use Rattle.layer.specs.declared.Reply.{Reply}
 use Rattle.arena.specs.Registering.{managedArena}
 use Rattle.layer.specs.World.{Leaves}
 use Rattle.state.specs.Ready.{Ready, Stamped}
-use Rattle.registering.specs.New.{newArena}
+use Rattle.registering.specs.New.{registerNew}
 use Rattle.registering.proofs.managing.bytes_from as bytes-from′
 use Rattle.registering.proofs.managing.bytes_from.Symbol.{name as #registering·managing·bytes-from}
 use Rattle.registering.proofs.managing.first_whole as first-whole′
@@ -79,12 +79,12 @@ module _ {M : Type 1} {𝓤 : URA M} {H : Heap 𝓤} {A : Atoms 𝓤} {K : Type 
   pub manage-new-step : K → Site K W Γ C E #registering·managing·manage-new xs G after → (mem : Memory → SProp 𝓤) (run : Routine → Fun 𝓤) → Triple 𝓤 (C #registering·managing·manage-new) (ManageNewSpec 𝓤 H A mem run)
       → (L-records : Loan) (records : List Arena) → (L-stamps : Loan) (stamps : List ℕ) → (state : State) (v-state : Val) → Is T-State.the-row state (v-state ∷ []) → (base : ℕ) → base < 2 ^ 64 → (chunks : ℕ) → chunks < 2 ^ 64 → (exclusive : Bool) → (node : ℕ) → Fits w32 node → (Ready records state × Stamped stamps)
       → ((hd′ : Item 𝓤) → Opds K W (hd′ ∷ Γ) E xs (sliceOf L-records ∷ sliceOf L-stamps ∷ v-state ∷ vint w64 base ∷ vint w64 chunks ∷ vbool exclusive ∷ vint w32 node ∷ []))
-      → ((val′ : Val) (out : Reply) (records-exit : List Arena) (stamps-exit : List ℕ) → Is T-Reply.the-row out (val′ ∷ []) → Leaves (newArena records stamps (state .count) (state .mark) chunks (managedArena base chunks exclusive (toZ w32 node))) out records-exit stamps-exit → length records-exit ≡ length records → length stamps-exit ≡ length stamps → Seq K W ((‵ (lent T-Arena.the-row L-records records-exit) ⊛ (‵ (lent u32 L-stamps stamps-exit) ⊛ more)) ∷ Γ) (after val′))
+      → ((val′ : Val) (out : Reply) (records-exit : List Arena) (stamps-exit : List ℕ) → Is T-Reply.the-row out (val′ ∷ []) → Leaves (registerNew records stamps (state .count) (state .mark) chunks (managedArena base chunks exclusive (toZ w32 node))) out records-exit stamps-exit → length records-exit ≡ length records → length stamps-exit ≡ length stamps → Seq K W ((‵ (lent T-Arena.the-row L-records records-exit) ⊛ (‵ (lent u32 L-stamps stamps-exit) ⊛ more)) ∷ Γ) (after val′))
       → Seq K W ((‵ (lent T-Arena.the-row L-records records) ⊛ (‵ (lent u32 L-stamps stamps) ⊛ more)) ∷ Γ) G
   manage-new-step bang site mem run known L-records records L-stamps stamps state v-state g-state base f-base chunks f-chunks exclusive node f-node need ops then′ =
       mut2-call bang site T-Arena.the-row u32 L-records L-stamps T-Reply.the-row (plain (λ _. T-State.the-row) ∷ plain (λ _. u64) ∷ plain (λ _. u64) ∷ plain (λ _. bool) ∷ plain (λ _. i32) ∷ []) (yes, (yes, (yes, (yes, (yes, tt))))) (manage-new′.clauses 𝓤 H A mem run) known records stamps (λ _. (state, (base, (chunks, (exclusive, (toZ w32 node, tt)))))) (λ _. (v-state ∷ [], (vint w64 base ∷ [], (vint w64 chunks ∷ [], (vbool exclusive ∷ [], (vint w32 node ∷ [], tt))))))
       (λ _. owns-make 𝓤 H A (T-State.the-row ∷ u64 ∷ u64 ∷ bool ∷ i32 ∷ []) (Ises (T-State.the-row ∷ u64 ∷ u64 ∷ bool ∷ i32 ∷ [])) (LL.makes T-State.the-type L-State.the-plain 𝓤 H A, (uint-makes 𝓤 H A W w64, (uint-makes 𝓤 H A W w64, (bool-makes 𝓤 H A W, (sint-makes 𝓤 H A W w32, tt))))) (state, (base, (chunks, (exclusive, (toZ w32 node, tt))))) (v-state ∷ [], (vint w64 base ∷ [], (vint w64 chunks ∷ [], (vbool exclusive ∷ [], (vint w32 node ∷ [], tt))))) (g-state, ((refl, f-base), ((refl, f-chunks), (refl, (signed f-node, tt)))))) (λ _ _ _. tt) (λ _ _ _. factI 𝓤 _ (emp 𝓤) need)
-      (λ out records-exit stamps-exit. Leaves (newArena records stamps (state .count) (state .mark) chunks (managedArena base chunks exclusive (toZ w32 node))) out records-exit stamps-exit) (λ _ _ _ out ws. id⊢ 𝓤 _) (λ hd′ _. ops hd′) (λ val′ out records-exit stamps-exit rel′ eq′ l-records l-stamps. then′ val′ out records-exit stamps-exit rel′ eq′ l-records l-stamps)
+      (λ out records-exit stamps-exit. Leaves (registerNew records stamps (state .count) (state .mark) chunks (managedArena base chunks exclusive (toZ w32 node))) out records-exit stamps-exit) (λ _ _ _ out ws. id⊢ 𝓤 _) (λ hd′ _. ops hd′) (λ val′ out records-exit stamps-exit rel′ eq′ l-records l-stamps. then′ val′ out records-exit stamps-exit rel′ eq′ l-records l-stamps)
 
   pub no-whole-chunk-step : K → Site K W Γ C E #registering·managing·no-whole-chunk xs G after → (mem : Memory → SProp 𝓤) (run : Routine → Fun 𝓤) → Triple 𝓤 (C #registering·managing·no-whole-chunk) (NoWholeChunkSpec 𝓤 H A mem run)
       → (start : ℕ) → start < 2 ^ 64 → (size : ℕ) → size < 2 ^ 64 → (chunk-size : ℕ) → chunk-size < 2 ^ 64 → (ChunkSize chunk-size)

@@ -22,8 +22,8 @@ use Rattle.layer.specs.Table.{soundLent}
 use Rattle.refusals.specs.declared.Refusal.the-variants.{Broken, QuestionOpen}
 use Rattle.layer.specs.Answering.{isIdle}
 use Rattle.layer.specs.Registering.{reserveReply}
-use Rattle.state.proofs.Entry.{size-fits, ready}
-use Rattle.registering.proofs.EntryLaws.{broken-row, open-row, acted, reserve-leaves}
+use Rattle.state.proofs.Entry.{size-fits, ready, broken-row, open-row, acted}
+use Rattle.registering.proofs.ReserveLaws.{reserve-leaves}
 use Rattle.walks.proofs.Frame.{Done2, finish2, mut2-meets}
 use Rattle.state.proofs.chunk_size.Symbol as chunk-size-def
 use Rattle.state.proofs.chunk_size.Symbol.{name as #state·chunk-size}
@@ -110,7 +110,7 @@ module _ {M : Type 1} (𝓤 : URA M) (H : Heap 𝓤) (A : Atoms 𝓤) (W : Given
         (λ _. and-then ! (arg ! refl) (and-then ! (arg ! refl) (no-more !))) (λ v-result g-result.
         land ! (from ! (stop !)) (init ! 1 refl (LL.lawful T-Reply.the-type L-Reply.the-laws 𝓤 H A W .typed result (v-result ∷ []) g-result .0)) $
         returns-within ! Post refl (look ! 1 refl) $ used ! $ used ! $ used ! $ used ! $ used ! $ used ! $ used ! $ used ! $ used ! $ used ! $ used ! $ used ! $ used ! $ used ! $ used ! $ used ! $ used ! $ room ! $ free0 ! $
-        finish2 𝓤 H A T-Arena.the-row u32 L-records L-stamps T-Reply.the-row records stamps χ W (‵ ftrue) v-result result records stamps g-result refl refl (broken-row records stamps state ns settings (reserve size commit allow-large exclusive) (is-false t11 h1))))
+        finish2 𝓤 H A T-Arena.the-row u32 L-records L-stamps T-Reply.the-row records stamps χ W (‵ ftrue) v-result result records stamps g-result refl refl (broken-row records stamps state ns settings (is-false t11 h1) (act (reserve size commit allow-large exclusive)))))
         (λ h1.
         is-idle-step ! (in-seq ! (fmOf 𝓤 H (W .laws) 𝓣)) mem run known-is-idle state v-state g-state
         (λ _. and-then ! (arg ! refl) (no-more !)) (
@@ -123,14 +123,14 @@ module _ {M : Type 1} (𝓤 : URA M) (H : Heap 𝓤) (A : Atoms 𝓤) (W : Given
         (λ _. and-then ! (arg ! refl) (and-then ! (arg ! refl) (no-more !))) (λ v-result g-result. let result : Reply = turnDown QuestionOpen state in
         land ! (from ! (stop !)) (init ! 1 refl (LL.lawful T-Reply.the-type L-Reply.the-laws 𝓤 H A W .typed result (v-result ∷ []) g-result .0)) $
         returns-within ! Post refl (look ! 1 refl) $ used ! $ used ! $ used ! $ used ! $ used ! $ used ! $ used ! $ used ! $ used ! $ used ! $ used ! $ used ! $ used ! $ used ! $ used ! $ used ! $ room ! $ used ! $ free0 ! $
-        finish2 𝓤 H A T-Arena.the-row u32 L-records L-stamps T-Reply.the-row records stamps χ W (‵ ftrue) v-result result records stamps g-result refl refl (open-row records stamps state ns settings (reserve size commit allow-large exclusive) (is-true t11 (T-not-not t11 h1)) (is-false t11-2 h2))))
+        finish2 𝓤 H A T-Arena.the-row u32 L-records L-stamps T-Reply.the-row records stamps χ W (‵ ftrue) v-result result records stamps g-result refl refl (open-row records stamps state ns settings (is-true t11 (T-not-not t11 h1)) (is-false t11-2 h2) (reserve size commit allow-large exclusive))))
         (λ h2.
         arg-fits ! 2 refl (λ f0-3.
         reserve-step ! (in-seq ! (fmOf 𝓤 H (W .laws) 𝓣)) mem run known-reserve state v-state g-state settings v-settings g-settings _ (f0-3 .fits) _ _ _ (ready records stamps state ns settings (is-true t11 (T-not-not t11 h1)) (is-true t11-2 (T-not-not t11-2 h2)) .1)
         (λ _. and-then ! (arg ! refl) (and-then ! (arg ! refl) (and-then ! (arg ! refl) (and-then ! (arg ! refl) (and-then ! (arg ! refl) (and-then ! (arg ! refl) (no-more !))))))) (λ v-result g-result. let result : Reply = reserveReply (sizeOf state) (state .count) (state .mark) size commit allow-large exclusive (settings .page) in
         land ! (from ! (stop !)) (init ! 1 refl (LL.lawful T-Reply.the-type L-Reply.the-laws 𝓤 H A W .typed result (v-result ∷ []) g-result .0)) $
         returns ! (look ! 1 refl) $ used ! $ used ! $ used ! $ used ! $ used ! $ used ! $ used ! $ used ! $ used ! $ used ! $ used ! $ used ! $ used ! $ used ! $ used ! $ used ! $ room ! $ room ! $ free0 ! $
-        finish2 𝓤 H A T-Arena.the-row u32 L-records L-stamps T-Reply.the-row records stamps χ W (‵ ftrue) v-result result records stamps g-result refl refl (acted records stamps state ns settings (reserve size commit allow-large exclusive) (is-true t11 (T-not-not t11 h1)) (is-true t11-2 (T-not-not t11-2 h2)) result records stamps (reserve-leaves records stamps state size commit allow-large exclusive (settings .page))))))))))))))
+        finish2 𝓤 H A T-Arena.the-row u32 L-records L-stamps T-Reply.the-row records stamps χ W (‵ ftrue) v-result result records stamps g-result refl refl (acted records stamps state ns settings (is-true t11 (T-not-not t11 h1)) (is-true t11-2 (T-not-not t11-2 h2)) (reserve size commit allow-large exclusive) result records stamps (reserve-leaves records stamps state size commit allow-large exclusive (settings .page))))))))))))))
 
   reserve-os-memory-ex-meets : Meets 𝓤 H A reserve-os-memory-ex′.signature (WpFn 𝓤 H (𝓣 .C) (𝓣 .Λ) code.function) (reserve-os-memory-ex′.spec 𝓤 H A mem run)
   reserve-os-memory-ex-meets = mut2-meets 𝓤 H A W T-Arena.the-row u32 T-Reply.the-row (plain (λ _. T-State.the-row) ∷ plain (λ _. u64) ∷ plain (λ _. T-Settings.the-row) ∷ plain (λ _. u64) ∷ plain (λ _. bool) ∷ plain (λ _. bool) ∷ plain (λ _. bool) ∷ []) (yes, (yes, (yes, (yes, (yes, (yes, (yes, tt))))))) (reserve-os-memory-ex′.clauses 𝓤 H A mem run)

@@ -1,8 +1,6 @@
 -- `releasing::delay_of` meets its contract. Assumes nothing.
-use mathlib.Core.Path.{ap, _∙_}
+use Rattle.state.proofs.Prelude.{ap, _∙_, needs, delayMs}
 use mir.Facts.{toZ-ofZ}
-use borrow.Author.Needs.{needs}
-use Rattle.clock.specs.Clock.{delayMs}
 use Rattle.releasing.proofs.delay_of.Statement.{statement}
 use Rattle.releasing.proofs.delay_of.Tie as tie
 

@@ -1,11 +1,5 @@
 -- `releasing::fits` meets its contract: a sum against a bound, as a difference. Assumes nothing.
-use mathlib.Core.Path.{_≡_, refl}
-use mathlib.Core.Bool.{Bool, true, false}
-use Prim.Native.Nat.{ℕ, _+_, _-_, _≤_, _<_}
-use native.Mathlib.Omega.{arith}
-use borrow.Author.Tests.{le-leb, lt-leb, leb-true, leb-false}
-use borrow.Author.Needs.{needs}
-use lib.Dec.{leb}
+use Rattle.state.proofs.Prelude.{_≡_, refl, Bool, true, false, ℕ, _+_, _-_, _≤_, _<_, arith, le-leb, lt-leb, leb-true, leb-false, needs, leb}
 use Rattle.releasing.proofs.fits.Statement.{statement}
 use Rattle.releasing.proofs.fits.Tie as tie
 

@@ -14,10 +14,10 @@ use Rattle.layer.proofs.Reply as T-Reply
 use Rattle.layer.proofs.Reply.Laws as L-Reply
 use Rattle.refusals.proofs.Refusal as T-Refusal
 use Rattle.refusals.proofs.Refusal.Laws as L-Refusal
-use Rattle.runs.proofs.Found as T-Found
-use Rattle.runs.proofs.Found.Laws as L-Found
-use Rattle.judge.proofs.Head as T-Head
-use Rattle.judge.proofs.Head.Laws as L-Head
+use Rattle.bitmap.proofs.runs.Found as T-Found
+use Rattle.bitmap.proofs.runs.Found.Laws as L-Found
+use Rattle.table.proofs.heads.Head as T-Head
+use Rattle.table.proofs.heads.Head.Laws as L-Head
 use Rattle.layer.specs.declared.State.{State}
 use Rattle.layer.specs.declared.Settings.{Settings}
 use Rattle.arena.specs.declared.Commitment.{Commitment}
@@ -29,13 +29,13 @@ use Rattle.layer.specs.Releasing.{releaseOf}
 use Rattle.state.specs.Ready.{Ready, Stamped}
 use Rattle.refusals.specs.declared.Refusal.the-variants.{Zero, NotInside, NotWhole, PastEnd}
 use Rattle.layer.specs.Table.{findArena, isAt, at}
-use Rattle.judge.specs.Heads.{headOf}
+use Rattle.table.specs.Heads.{headOf}
 use Prim.Native.Nat.{_-_, _%_, _/_}
 use Rattle.layer.specs.declared.Answer.the-variants.{Released}
 use Rattle.arena.specs.Releasing.{releaseRun, stampRun}
 use mathlib.Core.Bool.{cond}
-use Rattle.runs.specs.declared.Found.{Found}
-use Rattle.judge.specs.declared.Head.{Head}
+use Rattle.bitmap.specs.declared.runs.Found.{Found}
+use Rattle.table.specs.declared.heads.Head.{Head}
 use Rattle.state.proofs.Entry.{size-fits, arenas}
 use Rattle.releasing.proofs.RowLaws.{is-lent, from-base, starts-in, releasable, zero-row, outside-row, part-row, end-row, released}
 use Rattle.walks.proofs.Frame.{Done2, finish2, mut2-meets}
@@ -48,12 +48,12 @@ use Rattle.state.proofs.chunk_size.Met as chunk-size-thm
 use Rattle.table.proofs.find_arena.Symbol as find-arena-def
 use Rattle.table.proofs.find_arena.Symbol.{name as #table·find-arena}
 use Rattle.table.proofs.find_arena.Met as find-arena-thm
-use Rattle.judge.proofs.row_parts.is_at.Symbol as is-at-def
-use Rattle.judge.proofs.row_parts.is_at.Symbol.{name as #judge·row-parts·is-at}
-use Rattle.judge.proofs.row_parts.is_at.Met as is-at-thm
-use Rattle.judge.proofs.row_parts.id_of.Symbol as id-of-def
-use Rattle.judge.proofs.row_parts.id_of.Symbol.{name as #judge·row-parts·id-of}
-use Rattle.judge.proofs.row_parts.id_of.Met as id-of-thm
+use Rattle.table.proofs.row_parts.is_at.Symbol as is-at-def
+use Rattle.table.proofs.row_parts.is_at.Symbol.{name as #table·row-parts·is-at}
+use Rattle.table.proofs.row_parts.is_at.Met as is-at-thm
+use Rattle.table.proofs.row_parts.id_of.Symbol as id-of-def
+use Rattle.table.proofs.row_parts.id_of.Symbol.{name as #table·row-parts·id-of}
+use Rattle.table.proofs.row_parts.id_of.Met as id-of-thm
 use Rattle.table.proofs.head_at.Symbol as head-at-def
 use Rattle.table.proofs.head_at.Symbol.{name as #table·head-at}
 use Rattle.table.proofs.head_at.Met as head-at-thm
@@ -73,8 +73,7 @@ use Rattle.releasing.proofs.release_in.Symbol as release-in-def
 use Rattle.releasing.proofs.release_in.Symbol.{name as #releasing·release-in}
 use Rattle.releasing.proofs.release_in.Met as release-in-thm
 use Rattle.state.proofs.Callable.{RefuseSpec, ChunkSizeSpec, refuse-step, chunk-size-step}
-use Rattle.table.proofs.Callable.{FindArenaSpec, HeadAtSpec, find-arena-step, head-at-step}
-use Rattle.judge.proofs.Callable.{IsAtSpec, IdOfSpec, is-at-step, id-of-step}
+use Rattle.table.proofs.Callable.{FindArenaSpec, IsAtSpec, IdOfSpec, HeadAtSpec, find-arena-step, is-at-step, id-of-step, head-at-step}
 use Rattle.releasing.proofs.Callable.{OffsetOfSpec, IsWholeSpec, StartOfSpec, FitsSpec, ReleaseInSpec, offset-of-step, is-whole-step, start-of-step, fits-step, release-in-step}
 use Rattle.releasing.proofs.release.Key.{name as #releasing·release}
 use Rattle.releasing.proofs.release as release′
@@ -85,8 +84,8 @@ module _ {M : Type 1} (𝓤 : URA M) (H : Heap 𝓤) (A : Atoms 𝓤) (W : Given
     (known-refuse : Triple 𝓤 (𝓣 .C #state·refuse) (RefuseSpec 𝓤 H A mem run))
     (known-chunk-size : Triple 𝓤 (𝓣 .C #state·chunk-size) (ChunkSizeSpec 𝓤 H A mem run))
     (known-find-arena : Triple 𝓤 (𝓣 .C #table·find-arena) (FindArenaSpec 𝓤 H A mem run))
-    (known-is-at : Triple 𝓤 (𝓣 .C #judge·row-parts·is-at) (IsAtSpec 𝓤 H A mem run))
-    (known-id-of : Triple 𝓤 (𝓣 .C #judge·row-parts·id-of) (IdOfSpec 𝓤 H A mem run))
+    (known-is-at : Triple 𝓤 (𝓣 .C #table·row-parts·is-at) (IsAtSpec 𝓤 H A mem run))
+    (known-id-of : Triple 𝓤 (𝓣 .C #table·row-parts·id-of) (IdOfSpec 𝓤 H A mem run))
     (known-head-at : Triple 𝓤 (𝓣 .C #table·head-at) (HeadAtSpec 𝓤 H A mem run))
     (known-offset-of : Triple 𝓤 (𝓣 .C #releasing·offset-of) (OffsetOfSpec 𝓤 H A mem run))
     (known-is-whole : Triple 𝓤 (𝓣 .C #releasing·is-whole) (IsWholeSpec 𝓤 H A mem run))
@@ -234,8 +233,8 @@ release-spec 𝓤 H 𝓜 𝓖 𝓡 =
     (cited 𝓤 H (RefuseSpec 𝓤 H (𝓖 .A) (𝓜 .mem) (𝓡 .run)) 𝓜 𝓡 code.env #state·refuse refuse-def.routine code.calls-state·refuse (refuse-thm.met 𝓤 H 𝓜 𝓖 𝓡))
     (cited 𝓤 H (ChunkSizeSpec 𝓤 H (𝓖 .A) (𝓜 .mem) (𝓡 .run)) 𝓜 𝓡 code.env #state·chunk-size chunk-size-def.routine code.calls-state·chunk-size (chunk-size-thm.met 𝓤 H 𝓜 𝓖 𝓡))
     (cited 𝓤 H (FindArenaSpec 𝓤 H (𝓖 .A) (𝓜 .mem) (𝓡 .run)) 𝓜 𝓡 code.env #table·find-arena find-arena-def.routine code.calls-table·find-arena (find-arena-thm.met 𝓤 H 𝓜 𝓖 𝓡))
-    (cited 𝓤 H (IsAtSpec 𝓤 H (𝓖 .A) (𝓜 .mem) (𝓡 .run)) 𝓜 𝓡 code.env #judge·row-parts·is-at is-at-def.routine code.calls-judge·row-parts·is-at (is-at-thm.met 𝓤 H 𝓜 𝓖 𝓡))
-    (cited 𝓤 H (IdOfSpec 𝓤 H (𝓖 .A) (𝓜 .mem) (𝓡 .run)) 𝓜 𝓡 code.env #judge·row-parts·id-of id-of-def.routine code.calls-judge·row-parts·id-of (id-of-thm.met 𝓤 H 𝓜 𝓖 𝓡))
+    (cited 𝓤 H (IsAtSpec 𝓤 H (𝓖 .A) (𝓜 .mem) (𝓡 .run)) 𝓜 𝓡 code.env #table·row-parts·is-at is-at-def.routine code.calls-table·row-parts·is-at (is-at-thm.met 𝓤 H 𝓜 𝓖 𝓡))
+    (cited 𝓤 H (IdOfSpec 𝓤 H (𝓖 .A) (𝓜 .mem) (𝓡 .run)) 𝓜 𝓡 code.env #table·row-parts·id-of id-of-def.routine code.calls-table·row-parts·id-of (id-of-thm.met 𝓤 H 𝓜 𝓖 𝓡))
     (cited 𝓤 H (HeadAtSpec 𝓤 H (𝓖 .A) (𝓜 .mem) (𝓡 .run)) 𝓜 𝓡 code.env #table·head-at head-at-def.routine code.calls-table·head-at (head-at-thm.met 𝓤 H 𝓜 𝓖 𝓡))
     (cited 𝓤 H (OffsetOfSpec 𝓤 H (𝓖 .A) (𝓜 .mem) (𝓡 .run)) 𝓜 𝓡 code.env #releasing·offset-of offset-of-def.routine code.calls-releasing·offset-of (offset-of-thm.met 𝓤 H 𝓜 𝓖 𝓡))
     (cited 𝓤 H (IsWholeSpec 𝓤 H (𝓖 .A) (𝓜 .mem) (𝓡 .run)) 𝓜 𝓡 code.env #releasing·is-whole is-whole-def.routine code.calls-releasing·is-whole (is-whole-thm.met 𝓤 H 𝓜 𝓖 𝓡))

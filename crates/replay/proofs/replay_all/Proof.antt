@@ -1,7 +1,5 @@
 -- `replay::replay_all` is safe and ends. The measure is the number of blocks that are left. Assumes nothing.
-use borrow.Author.Needs.{needs}
-use mathlib.Core.Path.{_≡_}
-use lib.ListN.{length}
+use Rattle.walks.proofs.Prelude.{needs, _≡_, length}
 use Rattle.replay.proofs.replay_all.Statement.{statement}
 use Rattle.replay.proofs.replay_all.Tie as tie
 

@@ -1,8 +1,5 @@
 -- `replay::replay_lines` is safe and ends. The measure is what is left of the text. Assumes nothing.
-use borrow.Author.Needs.{needs}
-use mathlib.Core.Path.{_≡_}
-use Prim.Native.Nat.{_≤_, _-_}
-use lib.ListN.{length}
+use Rattle.walks.proofs.Prelude.{needs, _≡_, _≤_, _-_, length}
 use Rattle.replay.proofs.replay_lines.Statement.{statement}
 use Rattle.replay.proofs.replay_lines.Tie as tie
 

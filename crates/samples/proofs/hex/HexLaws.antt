@@ -1,14 +1,6 @@
 -- What the definitions of a hexadecimal text say in the cases that its functions meet. Assumes nothing.
-use mathlib.Core.Path.{_≡_, refl, sym, ap, subst}
-use mathlib.Core.Bool.{Bool, true, false, cond}
-use mathlib.Core.List.{List}
-use Prim.Native.Nat.{ℕ, zero, suc, _+_, _-_, _*_, _^_, _≤_, _<_}
-use native.Mathlib.Nat.{pow-le-pow-right, pow-suc, zero-lt-suc}
-use native.Mathlib.Numerals.{add-one}
-use native.Mathlib.Omega.{arith}
-use borrow.Author.Tests.{ltb-true, lt-ltb, le-ltb}
-use lib.Dec.{ltb}
-use lib.ListN.{getD}
+use Rattle.walks.proofs.Prelude.{_≡_, refl, sym, subst, Bool, true, false, cond, List, ℕ, zero, suc, _+_, _-_, _*_, _^_, _≤_, _<_, pow-suc, zero-lt-suc, add-one, arith, ltb-true, lt-ltb, le-ltb, ltb, getD}
+use native.Mathlib.Nat.{pow-le-pow-right}
 use Rattle.samples.specs.declared.hex.Number.{Number}
 use Rattle.samples.specs.declared.hex.Number.the-variants.{Is, NotHex}
 use Rattle.samples.specs.Hex.{Below, digitOf, thenDigit, digitsAt}

@@ -1,10 +1,5 @@
 -- The fields of a line, put in one by one. Assumes nothing.
-use mathlib.Core.Path.{_≡_, ap₂, _∙_}
-use mathlib.Core.Bool.{true}
-use mathlib.Core.List.{List}
-use Prim.Native.Nat.{ℕ, _+_}
-use lib.Dec.{eqb}
-use lib.ListN.{getD}
+use Rattle.walks.proofs.Prelude.{_≡_, ap₂, _∙_, true, List, ℕ, _+_, eqb, getD}
 use Rattle.samples.specs.declared.hex.Number.{Number}
 use Rattle.samples.specs.Lines.{parted, lineOf}
 

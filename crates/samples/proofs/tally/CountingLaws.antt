@@ -1,8 +1,5 @@
 -- A line counted, by whether its answer is the recorded one. Assumes nothing.
-use mathlib.Core.Path.{_≡_, refl}
-use mathlib.Core.Bool.{Bool, true, false, cond}
-use Prim.Native.Nat.{ℕ}
-use lib.Dec.{eqb}
+use Rattle.walks.proofs.Prelude.{_≡_, refl, Bool, true, false, cond, ℕ, eqb}
 use Rattle.samples.specs.declared.tally.Tally.{Tally}
 use Rattle.samples.specs.Counting.{oneMore, afterAnswer, afterMalformed}
 

@@ -1,12 +1,6 @@
 -- `slice_pool::alloc_run` meets its contract. Assumes nothing.
-use mathlib.Core.Path.{_≡_, refl, sym, ap, _∙_}
-use Prim.Native.Nat.{ℕ, _*_}
-use native.Mathlib.Omega.{arith}
-use borrow.Author.Needs.{needs}
-use lib.ListN.{length}
-use Rattle.runs.specs.declared.Found.the-variants.{At, Nothing}
-use Rattle.slice_pool.specs.declared.Allocated.the-variants.{Run}
-use Rattle.slice_pool.specs.Pool.{Alloc, takeRun, allocRun}
+use Rattle.walks.proofs.Prelude.{sym, ap, _∙_, arith, needs}
+use Rattle.slice_pool.specs.Pool.{Alloc, allocFound}
 use Rattle.slice_pool.proofs.PoolLaws.{alloc-broken, alloc-zero, alloc-found, found-inside}
 use Rattle.slice_pool.proofs.alloc_run.Statement.{statement}
 use Rattle.slice_pool.proofs.alloc_run.Tie as tie
@@ -55,7 +49,7 @@ returns-3 c =
     let g = c .before .before .before .before .before .before .before .before .before in
     let a = g .before .before .before .args in
     let s = c .before .before .before .before .before .found in
-    let e = alloc-found (a .lent .now) (a .slices) (g .before .if1 .left) (g .if2 .left) ∙ ap (takeRun (a .lent .now) (a .slices)) (sym (f .ensures) ∙ s .given .1) in
+    let e = alloc-found (a .lent .now) (a .slices) (g .before .if1 .left) (g .if2 .left) ∙ ap (allocFound (a .lent .now) (a .slices)) (sym (f .ensures) ∙ s .given .1) in
     (sym (ap (λ (x : Alloc). x .answer) e), c .before .before .clear-run .ensures ∙ sym (ap (λ (x : Alloc). x .words) e))
 
 same-length-2 : tie.Need-same-length-2
@@ -66,7 +60,7 @@ returns-4 c =
     let f = c .before .before .lowest-set-run in
     let g = c .before .before .before .before in
     let a = g .before .before .before .args in
-    let e = alloc-found (a .lent .now) (a .slices) (g .before .if1 .left) (g .if2 .left) ∙ ap (takeRun (a .lent .now) (a .slices)) (sym (f .ensures) ∙ c .enum-told .given .1) in
+    let e = alloc-found (a .lent .now) (a .slices) (g .before .if1 .left) (g .if2 .left) ∙ ap (allocFound (a .lent .now) (a .slices)) (sym (f .ensures) ∙ c .enum-told .given .1) in
     (sym (ap (λ (x : Alloc). x .answer) e), sym (ap (λ (x : Alloc). x .words) e))
 
 pub alloc-run-spec : {M : Type 1} → statement M

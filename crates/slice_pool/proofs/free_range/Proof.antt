@@ -1,7 +1,6 @@
 -- `slice_pool::free_range` meets its contract. Assumes nothing.
-use mathlib.Core.Path.{_≡_, refl, sym, ap, _∙_}
-use borrow.Author.Needs.{needs}
-use Rattle.slice_pool.specs.Pool.{Free, freeRange}
+use Rattle.walks.proofs.Prelude.{sym, ap, _∙_, needs}
+use Rattle.slice_pool.specs.Pool.{Free}
 use Rattle.slice_pool.proofs.PoolLaws.{free-broken, free-zero, free-base, free-size, free-below, free-past, free-done}
 use Rattle.slice_pool.proofs.free_range.Statement.{statement}
 use Rattle.slice_pool.proofs.free_range.Tie as tie

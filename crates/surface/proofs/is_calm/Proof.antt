@@ -1,7 +1,5 @@
 -- `surface::is_calm` meets its contract. Assumes nothing.
-use mathlib.Core.Bool.{_&&_}
-use lib.Dec.{eqb}
-use borrow.Author.Needs.{needs}
+use Rattle.state.proofs.Prelude.{_&&_, eqb, needs}
 use Rattle.surface.proofs.is_calm.Statement.{statement}
 use Rattle.surface.proofs.is_calm.Tie as tie
 

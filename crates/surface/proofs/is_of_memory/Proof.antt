@@ -1,10 +1,5 @@
 -- `surface::is_of_memory` meets its contract. Assumes nothing.
-use mathlib.Core.Path.{sym, _∙_}
-use mathlib.Core.Bool.{_&&_}
-use lib.Dec.{eqb, leb}
-use borrow.Author.Tests.{eq-eqb, ne-eqb}
-use borrow.Author.Needs.{needs}
-use Rattle.words.proofs.Tests.{when, unless}
+use Rattle.state.proofs.Prelude.{sym, _∙_, _&&_, eqb, leb, eq-eqb, ne-eqb, needs, when, unless}
 use Rattle.surface.proofs.is_of_memory.Statement.{statement}
 use Rattle.surface.proofs.is_of_memory.Tie as tie
 

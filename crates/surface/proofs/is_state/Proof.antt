@@ -1,8 +1,5 @@
 -- `surface::is_state` meets its contract. Assumes nothing.
-use mathlib.Core.Path.{ap, _∙_}
-use mathlib.Core.Bool.{_&&_}
-use lib.Dec.{leb}
-use borrow.Author.Needs.{needs}
+use Rattle.state.proofs.Prelude.{ap, _∙_, _&&_, leb, needs}
 use Rattle.surface.proofs.FieldLaws.{calm-says, placed-says, asks-says}
 use Rattle.surface.proofs.is_state.Statement.{statement}
 use Rattle.surface.proofs.is_state.Tie as tie

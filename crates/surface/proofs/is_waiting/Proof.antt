@@ -1,7 +1,5 @@
 -- `surface::is_waiting` meets its contract. Assumes nothing.
-use mathlib.Core.Path.{sym}
-use borrow.Author.Tests.{eq-eqb, ne-eqb}
-use Rattle.words.proofs.Tests.{when, unless}
+use Rattle.state.proofs.Prelude.{sym, eq-eqb, ne-eqb, when, unless}
 use Rattle.surface.proofs.is_waiting.Statement.{statement}
 use Rattle.surface.proofs.is_waiting.Tie as tie
 

@@ -1,7 +1,6 @@
 -- `surface::memory_numbers` meets its contract. Assumes nothing.
-use Rattle.arena.specs.Flags.{asFlag}
+use Rattle.state.proofs.Prelude.{asFlag, needs}
 use Rattle.surface.specs.Numbers.{stateNumbers}
-use borrow.Author.Needs.{needs}
 use Rattle.surface.proofs.memory_numbers.Statement.{statement}
 use Rattle.surface.proofs.memory_numbers.Tie as tie
 

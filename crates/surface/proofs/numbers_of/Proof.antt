@@ -1,6 +1,6 @@
 -- `surface::numbers_of` meets its contract. Assumes nothing.
 use Rattle.surface.specs.Numbers.{numbersOf}
-use borrow.Author.Needs.{needs}
+use Rattle.state.proofs.Prelude.{needs}
 use Rattle.surface.proofs.numbers_of.Statement.{statement}
 use Rattle.surface.proofs.numbers_of.Tie as tie
 

@@ -1,8 +1,6 @@
 -- `surface::question_numbers` meets its contract. Assumes nothing.
-use mathlib.Core.Path.{sym, ap, _∙_}
-use Prim.Native.Nat.{ℕ}
-use Rattle.surface.specs.Numbers.{stateNumbers, waits, waitingChunks, waitingCommits, questionNumbers}
-use borrow.Author.Needs.{needs}
+use Rattle.state.proofs.Prelude.{sym, ap, _∙_, ℕ, needs}
+use Rattle.surface.specs.Numbers.{stateNumbers, waitingNumber, waitingChunks, waitingCommits, questionNumbers}
 use Rattle.surface.proofs.question_numbers.Statement.{statement}
 use Rattle.surface.proofs.question_numbers.Tie as tie
 
@@ -64,7 +62,7 @@ returns-5 c =
     let a = g .before .before .args in
     let w = g .q4 .given .0 .1 .0 in
     c .memory-numbers2 .ensures
-    ∙ ap (λ (x : ℕ). stateNumbers (a .count) (a .mark) 4 0 0 (waitingChunks w) 0 0 0 0 (waits w) (waitingCommits w) x 0 0 0 0 0) (y .cause-number .ensures)
+    ∙ ap (λ (x : ℕ). stateNumbers (a .count) (a .mark) 4 0 0 (waitingChunks w) 0 0 0 0 (waitingNumber w) (waitingCommits w) x 0 0 0 0 0) (y .cause-number .ensures)
     ∙ sym (ap (questionNumbers (a .count) (a .mark)) (g .q4 .given .1))
 
 pub question-numbers-spec : {M : Type 1} → statement M

@@ -1,9 +1,6 @@
 -- `surface::question_of` meets its contract. Assumes nothing.
-use mathlib.Core.Path.{sym, _∙_}
-use borrow.Author.Tests.{eq-eqb, ne-eqb}
-use Rattle.words.proofs.Tests.{when, unless}
+use Rattle.state.proofs.Prelude.{sym, _∙_, eq-eqb, ne-eqb, when, unless, needs}
 use Rattle.surface.proofs.Cases.{purging, reserving, giving-back}
-use borrow.Author.Needs.{needs}
 use Rattle.surface.proofs.question_of.Statement.{statement}
 use Rattle.surface.proofs.question_of.Tie as tie
 

@@ -1,9 +1,7 @@
 -- `surface::state_of` meets its contract. Assumes nothing.
-use mathlib.Core.Path.{ap}
-use lib.Dec.{eqb}
-use Rattle.layer.specs.World as W
+use Rattle.state.proofs.Prelude.{ap, eqb, needs}
+use Rattle.layer.specs.World.{stateWith}
 use Rattle.surface.specs.Numbers.{stateOf}
-use borrow.Author.Needs.{needs}
 use Rattle.surface.proofs.state_of.Statement.{statement}
 use Rattle.surface.proofs.state_of.Tie as tie
 
@@ -12,7 +10,7 @@ question-of-requires c κs = search needs
 
 returns : tie.Need-returns
 unfolding stateOf
-returns c = let f = c .before .before .args .f in ap (W.stateOf (f .count) (eqb (f .mark) 1)) (c .question-of .ensures)
+returns c = let f = c .before .before .args .f in ap (stateWith (f .count) (eqb (f .mark) 1)) (c .question-of .ensures)
 
 pub state-of-spec : {M : Type 1} → statement M
 state-of-spec = tie.close (tie.spec question-of-requires returns)

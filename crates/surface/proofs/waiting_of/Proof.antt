@@ -1,7 +1,5 @@
 -- `surface::waiting_of` meets its contract. Assumes nothing.
-use mathlib.Core.Path.{sym}
-use borrow.Author.Tests.{eq-eqb, ne-eqb}
-use Rattle.words.proofs.Tests.{when, unless}
+use Rattle.state.proofs.Prelude.{sym, eq-eqb, ne-eqb, when, unless}
 use Rattle.surface.proofs.waiting_of.Statement.{statement}
 use Rattle.surface.proofs.waiting_of.Tie as tie
 

@@ -10,8 +10,8 @@ use Rattle.arena.proofs.Arena as T-Arena
 use Rattle.arena.proofs.Arena.Laws as L-Arena
 use Rattle.layer.proofs.Reply as T-Reply
 use Rattle.layer.proofs.Reply.Laws as L-Reply
-use Rattle.runs.proofs.Found as T-Found
-use Rattle.runs.proofs.Found.Laws as L-Found
+use Rattle.bitmap.proofs.runs.Found as T-Found
+use Rattle.bitmap.proofs.runs.Found.Laws as L-Found
 use denote.Enum.Laws as EL
 use Rattle.layer.specs.declared.State.{State}
 use Rattle.layer.specs.declared.Sweep.{Sweep}
@@ -21,13 +21,13 @@ use Rattle.layer.specs.World.{sizeOf, Leaves, blank}
 use Rattle.layer.specs.Answering.{answerPurge, counted}
 use Rattle.sweeping.specs.Visit.{Borrowed, chunkOf}
 use Rattle.arena.specs.Sweeping.{nextAsked, borrowChunk, returnChunk}
-use Rattle.purge.specs.Stamps.{stampsOf}
+use Rattle.arena.specs.Stamps.{stampsOf}
 use Rattle.layer.specs.Table.{isAt, at}
 use Rattle.layer.specs.Sweeping.{purgeReply}
-use Rattle.words.specs.Rows.{clearRun}
-use Rattle.purge.specs.Maps.{nextDeadline}
+use Rattle.bitmap.specs.Rows.{clearRun}
+use Rattle.arena.specs.Maps.{nextDeadline}
 use Rattle.arena.specs.Record.{withDeadline}
-use Rattle.runs.specs.declared.Found.{Found}
+use Rattle.bitmap.specs.declared.runs.Found.{Found}
 use Rattle.sweeping.proofs.AnswerLaws.{chunks-few, id-low, id-small, id-lent, chunk-low, few-counted, next-low, next-fits, asks-next, rest-sweepable, goes-on}
 use Rattle.walks.proofs.Frame.{Done2, finish2, mut2-meets}
 use Rattle.sweeping.proofs.count_answer.Symbol as count-answer-def
@@ -39,24 +39,24 @@ use Rattle.sweeping.proofs.decommits.Met as decommits-thm
 use Rattle.sweeping.proofs.behind.Symbol as behind-def
 use Rattle.sweeping.proofs.behind.Symbol.{name as #sweeping·behind}
 use Rattle.sweeping.proofs.behind.Met as behind-thm
-use Rattle.records.proofs.load.Symbol as load-def
-use Rattle.records.proofs.load.Symbol.{name as #records·load}
-use Rattle.records.proofs.load.Met as load-thm
+use Rattle.table.proofs.records.load.Symbol as load-def
+use Rattle.table.proofs.records.load.Symbol.{name as #table·records·load}
+use Rattle.table.proofs.records.load.Met as load-thm
 use Rattle.sweeping.proofs.next_chunk.Symbol as next-chunk-def
 use Rattle.sweeping.proofs.next_chunk.Symbol.{name as #sweeping·next-chunk}
 use Rattle.sweeping.proofs.next_chunk.Met as next-chunk-thm
-use Rattle.judge.proofs.row_parts.is_at.Symbol as is-at-def
-use Rattle.judge.proofs.row_parts.is_at.Symbol.{name as #judge·row-parts·is-at}
-use Rattle.judge.proofs.row_parts.is_at.Met as is-at-thm
+use Rattle.table.proofs.row_parts.is_at.Symbol as is-at-def
+use Rattle.table.proofs.row_parts.is_at.Symbol.{name as #table·row-parts·is-at}
+use Rattle.table.proofs.row_parts.is_at.Met as is-at-thm
 use Rattle.sweeping.proofs.chunk_of.Symbol as chunk-of-def
 use Rattle.sweeping.proofs.chunk_of.Symbol.{name as #sweeping·chunk-of}
 use Rattle.sweeping.proofs.chunk_of.Met as chunk-of-thm
 use Rattle.arena.proofs.arena_sweeps.next_borrowed.Symbol as next-borrowed-def
 use Rattle.arena.proofs.arena_sweeps.next_borrowed.Symbol.{name as #arena·arena-sweeps·next-borrowed}
 use Rattle.arena.proofs.arena_sweeps.next_borrowed.Met as next-borrowed-thm
-use Rattle.records.proofs.store.Symbol as store-def
-use Rattle.records.proofs.store.Symbol.{name as #records·store}
-use Rattle.records.proofs.store.Met as store-thm
+use Rattle.table.proofs.records.store.Symbol as store-def
+use Rattle.table.proofs.records.store.Symbol.{name as #table·records·store}
+use Rattle.table.proofs.records.store.Met as store-thm
 use Rattle.sweeping.proofs.question_at.Symbol as question-at-def
 use Rattle.sweeping.proofs.question_at.Symbol.{name as #sweeping·question-at}
 use Rattle.sweeping.proofs.question_at.Met as question-at-thm
@@ -70,8 +70,7 @@ use Rattle.sweeping.proofs.sweep_on.Symbol as sweep-on-def
 use Rattle.sweeping.proofs.sweep_on.Symbol.{name as #sweeping·sweep-on}
 use Rattle.sweeping.proofs.sweep_on.Met as sweep-on-thm
 use Rattle.sweeping.proofs.Callable.{CountAnswerSpec, DecommitsSpec, BehindSpec, NextChunkSpec, ChunkOfSpec, QuestionAtSpec, DeadlineWithoutSpec, SweepOnSpec, count-answer-step, decommits-step, behind-step, next-chunk-step, chunk-of-step, question-at-step, deadline-without-step, sweep-on-step}
-use Rattle.records.proofs.Callable.{LoadSpec, StoreSpec, load-step, store-step}
-use Rattle.judge.proofs.Callable.{IsAtSpec, is-at-step}
+use Rattle.table.proofs.Callable.{LoadSpec, IsAtSpec, StoreSpec, load-step, is-at-step, store-step}
 use Rattle.arena.proofs.Callable.{NextBorrowedSpec, LastReturnedSpec, next-borrowed-step, last-returned-step}
 use Rattle.sweeping.proofs.answer_purge.Key.{name as #sweeping·answer-purge}
 use Rattle.sweeping.proofs.answer_purge as answer-purge′
@@ -82,12 +81,12 @@ module _ {M : Type 1} (𝓤 : URA M) (H : Heap 𝓤) (A : Atoms 𝓤) (W : Given
     (known-count-answer : Triple 𝓤 (𝓣 .C #sweeping·count-answer) (CountAnswerSpec 𝓤 H A mem run))
     (known-decommits : Triple 𝓤 (𝓣 .C #sweeping·decommits) (DecommitsSpec 𝓤 H A mem run))
     (known-behind : Triple 𝓤 (𝓣 .C #sweeping·behind) (BehindSpec 𝓤 H A mem run))
-    (known-load : Triple 𝓤 (𝓣 .C #records·load) (LoadSpec 𝓤 H A mem run))
+    (known-load : Triple 𝓤 (𝓣 .C #table·records·load) (LoadSpec 𝓤 H A mem run))
     (known-next-chunk : Triple 𝓤 (𝓣 .C #sweeping·next-chunk) (NextChunkSpec 𝓤 H A mem run))
-    (known-is-at : Triple 𝓤 (𝓣 .C #judge·row-parts·is-at) (IsAtSpec 𝓤 H A mem run))
+    (known-is-at : Triple 𝓤 (𝓣 .C #table·row-parts·is-at) (IsAtSpec 𝓤 H A mem run))
     (known-chunk-of : Triple 𝓤 (𝓣 .C #sweeping·chunk-of) (ChunkOfSpec 𝓤 H A mem run))
     (known-next-borrowed : Triple 𝓤 (𝓣 .C #arena·arena-sweeps·next-borrowed) (NextBorrowedSpec 𝓤 H A mem run))
-    (known-store : Triple 𝓤 (𝓣 .C #records·store) (StoreSpec 𝓤 H A mem run))
+    (known-store : Triple 𝓤 (𝓣 .C #table·records·store) (StoreSpec 𝓤 H A mem run))
     (known-question-at : Triple 𝓤 (𝓣 .C #sweeping·question-at) (QuestionAtSpec 𝓤 H A mem run))
     (known-deadline-without : Triple 𝓤 (𝓣 .C #sweeping·deadline-without) (DeadlineWithoutSpec 𝓤 H A mem run))
     (known-last-returned : Triple 𝓤 (𝓣 .C #arena·arena-sweeps·last-returned) (LastReturnedSpec 𝓤 H A mem run))
@@ -259,12 +258,12 @@ answer-purge-spec 𝓤 H 𝓜 𝓖 𝓡 =
     (cited 𝓤 H (CountAnswerSpec 𝓤 H (𝓖 .A) (𝓜 .mem) (𝓡 .run)) 𝓜 𝓡 code.env #sweeping·count-answer count-answer-def.routine code.calls-sweeping·count-answer (count-answer-thm.met 𝓤 H 𝓜 𝓖 𝓡))
     (cited 𝓤 H (DecommitsSpec 𝓤 H (𝓖 .A) (𝓜 .mem) (𝓡 .run)) 𝓜 𝓡 code.env #sweeping·decommits decommits-def.routine code.calls-sweeping·decommits (decommits-thm.met 𝓤 H 𝓜 𝓖 𝓡))
     (cited 𝓤 H (BehindSpec 𝓤 H (𝓖 .A) (𝓜 .mem) (𝓡 .run)) 𝓜 𝓡 code.env #sweeping·behind behind-def.routine code.calls-sweeping·behind (behind-thm.met 𝓤 H 𝓜 𝓖 𝓡))
-    (cited 𝓤 H (LoadSpec 𝓤 H (𝓖 .A) (𝓜 .mem) (𝓡 .run)) 𝓜 𝓡 code.env #records·load load-def.routine code.calls-records·load (load-thm.met 𝓤 H 𝓜 𝓖 𝓡))
+    (cited 𝓤 H (LoadSpec 𝓤 H (𝓖 .A) (𝓜 .mem) (𝓡 .run)) 𝓜 𝓡 code.env #table·records·load load-def.routine code.calls-table·records·load (load-thm.met 𝓤 H 𝓜 𝓖 𝓡))
     (cited 𝓤 H (NextChunkSpec 𝓤 H (𝓖 .A) (𝓜 .mem) (𝓡 .run)) 𝓜 𝓡 code.env #sweeping·next-chunk next-chunk-def.routine code.calls-sweeping·next-chunk (next-chunk-thm.met 𝓤 H 𝓜 𝓖 𝓡))
-    (cited 𝓤 H (IsAtSpec 𝓤 H (𝓖 .A) (𝓜 .mem) (𝓡 .run)) 𝓜 𝓡 code.env #judge·row-parts·is-at is-at-def.routine code.calls-judge·row-parts·is-at (is-at-thm.met 𝓤 H 𝓜 𝓖 𝓡))
+    (cited 𝓤 H (IsAtSpec 𝓤 H (𝓖 .A) (𝓜 .mem) (𝓡 .run)) 𝓜 𝓡 code.env #table·row-parts·is-at is-at-def.routine code.calls-table·row-parts·is-at (is-at-thm.met 𝓤 H 𝓜 𝓖 𝓡))
     (cited 𝓤 H (ChunkOfSpec 𝓤 H (𝓖 .A) (𝓜 .mem) (𝓡 .run)) 𝓜 𝓡 code.env #sweeping·chunk-of chunk-of-def.routine code.calls-sweeping·chunk-of (chunk-of-thm.met 𝓤 H 𝓜 𝓖 𝓡))
     (cited 𝓤 H (NextBorrowedSpec 𝓤 H (𝓖 .A) (𝓜 .mem) (𝓡 .run)) 𝓜 𝓡 code.env #arena·arena-sweeps·next-borrowed next-borrowed-def.routine code.calls-arena·arena-sweeps·next-borrowed (next-borrowed-thm.met 𝓤 H 𝓜 𝓖 𝓡))
-    (cited 𝓤 H (StoreSpec 𝓤 H (𝓖 .A) (𝓜 .mem) (𝓡 .run)) 𝓜 𝓡 code.env #records·store store-def.routine code.calls-records·store (store-thm.met 𝓤 H 𝓜 𝓖 𝓡))
+    (cited 𝓤 H (StoreSpec 𝓤 H (𝓖 .A) (𝓜 .mem) (𝓡 .run)) 𝓜 𝓡 code.env #table·records·store store-def.routine code.calls-table·records·store (store-thm.met 𝓤 H 𝓜 𝓖 𝓡))
     (cited 𝓤 H (QuestionAtSpec 𝓤 H (𝓖 .A) (𝓜 .mem) (𝓡 .run)) 𝓜 𝓡 code.env #sweeping·question-at question-at-def.routine code.calls-sweeping·question-at (question-at-thm.met 𝓤 H 𝓜 𝓖 𝓡))
     (cited 𝓤 H (DeadlineWithoutSpec 𝓤 H (𝓖 .A) (𝓜 .mem) (𝓡 .run)) 𝓜 𝓡 code.env #sweeping·deadline-without deadline-without-def.routine code.calls-sweeping·deadline-without (deadline-without-thm.met 𝓤 H 𝓜 𝓖 𝓡))
     (cited 𝓤 H (LastReturnedSpec 𝓤 H (𝓖 .A) (𝓜 .mem) (𝓡 .run)) 𝓜 𝓡 code.env #arena·arena-sweeps·last-returned last-returned-def.routine code.calls-arena·arena-sweeps·last-returned (last-returned-thm.met 𝓤 H 𝓜 𝓖 𝓡))

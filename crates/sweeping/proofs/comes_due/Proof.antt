@@ -1,8 +1,5 @@
 -- `sweeping::comes_due` meets its contract. Assumes nothing.
-use mathlib.Core.Path.{sym, ap, _∙_}
-use mathlib.Core.Bool.{Bool, false, not, _&&_, _||_}
-use borrow.Author.Needs.{needs}
-use borrow.Author.Tests.{eq-eqb, ne-eqb}
+use Rattle.state.proofs.Prelude.{sym, ap, _∙_, Bool, false, not, _&&_, _||_, needs, eq-eqb, ne-eqb}
 use denote.Ref.{now}
 use Rattle.clock.specs.Clock.{isDue}
 use Rattle.sweeping.specs.Visit.{comesDue}

@@ -1,10 +1,6 @@
 -- `sweeping::count_answer` meets its contract. Assumes nothing.
-use mathlib.Core.Path.{sym, ap, _∙_}
-use Prim.Native.Nat.{ℕ}
+use Rattle.state.proofs.Prelude.{sym, ap, _∙_, ℕ, needs, Sweep, counted}
 use native.Mathlib.Nat.{add-zero}
-use borrow.Author.Needs.{needs}
-use Rattle.layer.specs.declared.Sweep.{Sweep}
-use Rattle.layer.specs.Answering.{counted}
 use Rattle.sweeping.proofs.count_answer.Statement.{statement}
 use Rattle.sweeping.proofs.count_answer.Tie as tie
 

@@ -1,10 +1,5 @@
 -- `sweeping::deadline_without` meets its contract. Assumes nothing.
-use mathlib.Core.Path.{ap, _∙_}
-use mathlib.Core.List.{List}
-use Prim.Native.Nat.{ℕ}
-use borrow.Author.Needs.{needs}
-use Rattle.purge.specs.Stamps.{stampsOf}
-use Rattle.purge.specs.Maps.{nextDeadline}
+use Rattle.state.proofs.Prelude.{ap, _∙_, List, ℕ, needs, stampsOf, nextDeadline}
 use Rattle.sweeping.proofs.deadline_without.Statement.{statement}
 use Rattle.sweeping.proofs.deadline_without.Tie as tie
 

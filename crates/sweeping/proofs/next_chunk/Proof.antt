@@ -1,8 +1,6 @@
 -- `sweeping::next_chunk` meets its contract. Assumes nothing.
-use mathlib.Core.Path.{_∙_}
-use borrow.Author.Needs.{needs}
-use Rattle.purge.specs.Stamps.{stampsOf}
-use Rattle.purge.proofs.MapLaws.{next-in}
+use Rattle.state.proofs.Prelude.{_∙_, needs, stampsOf}
+use Rattle.arena.proofs.purge.MapLaws.{next-in}
 use Rattle.sweeping.proofs.next_chunk.Statement.{statement}
 use Rattle.sweeping.proofs.next_chunk.Tie as tie
 

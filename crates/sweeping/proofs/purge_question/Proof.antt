@@ -1,6 +1,5 @@
 -- `sweeping::purge_question` meets its contract. Assumes nothing.
-use borrow.Author.Needs.{needs}
-use Rattle.layer.specs.Sweeping.{purgeReply}
+use Rattle.state.proofs.Prelude.{needs, purgeReply}
 use Rattle.sweeping.proofs.purge_question.Statement.{statement}
 use Rattle.sweeping.proofs.purge_question.Tie as tie
 

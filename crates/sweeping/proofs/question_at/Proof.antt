@@ -9,8 +9,8 @@ use Rattle.layer.proofs.Sweep.Laws as L-Sweep
 use Rattle.arena.proofs.Arena as T-Arena
 use Rattle.layer.proofs.Reply as T-Reply
 use Rattle.layer.proofs.Reply.Laws as L-Reply
-use Rattle.judge.proofs.Head as T-Head
-use Rattle.judge.proofs.Head.Laws as L-Head
+use Rattle.table.proofs.heads.Head as T-Head
+use Rattle.table.proofs.heads.Head.Laws as L-Head
 use Rattle.layer.specs.declared.State.{State}
 use Rattle.layer.specs.declared.Sweep.{Sweep}
 use Rattle.arena.specs.declared.Arena.{Arena}
@@ -18,8 +18,8 @@ use Rattle.layer.specs.declared.Reply.{Reply}
 use Rattle.layer.specs.World.{sizeOf, blank}
 use Rattle.layer.specs.Table.{at}
 use Rattle.layer.specs.Sweeping.{purgeReply}
-use Rattle.judge.specs.Heads.{headOf, headed}
-use Rattle.judge.specs.declared.Head.{Head}
+use Rattle.table.specs.Heads.{headOf, headed}
+use Rattle.table.specs.declared.heads.Head.{Head}
 use Rattle.sweeping.proofs.VisitLaws.{purge-headed}
 use Rattle.walks.proofs.Frame.{DoneS, finishS, shr-meets}
 use Rattle.state.proofs.chunk_size.Symbol as chunk-size-def

@@ -1,13 +1,8 @@
 -- `sweeping::sweep_of` meets its contract. Assumes nothing.
-use mathlib.Core.Path.{ap, ap₂, _∙_}
-use Prim.Native.Nat.{ℕ}
-use mathlib.Core.Bool.{Bool}
-use borrow.Author.Needs.{needs}
+use Rattle.state.proofs.Prelude.{ap, ap₂, _∙_, ℕ, Bool, needs, delayMs, Sweep}
 use mir.Facts.{toZ-ofZ}
 use mir.Syntax.{w64}
 use mir.Val.{SFits}
-use Rattle.clock.specs.Clock.{delayMs}
-use Rattle.layer.specs.declared.Sweep.{Sweep}
 use Rattle.sweeping.proofs.sweep_of.Statement.{statement}
 use Rattle.sweeping.proofs.sweep_of.Tie as tie
 

@@ -1,10 +1,7 @@
 -- `sweeping::sweep_on` meets its contract: a walk of its MIR, by hand. A loop over the records, with the stamps beside them and a `return` in a turn. All that it
 -- knows of its callees is that each meets its contract. Assumes nothing.
-use Rattle.walks.proofs.Walking.{_≡_, refl, sym, _∙_, true, false, not, ℕ, _<_, _^_, List, [], _∷_, length, set, w64, Val, vint, is-true, is-false, URA, SProp, emp, id⊢, ftrue, fullShare, Memory, Routine, Heap, Env, WpFn, Tables, Atoms, fmOf, Given, Item, Sq, prop, !, ‵, _⊛_, _$_, whole, sub, agg, look-in, look, init, store, stop, hop, fld, from, load, addr, of-opd, and-then, no-more, assigns, land, returns, returns-within, params1, pass1, pass0, free0, Fun, factI, givenOf, tables, tablesOf, u32, usize, yes, Is, uint-vals, uint-tells, plain, Meets, tripleOf, Triple, entered, cited, Loan, lent, sliceOf, enters, used, room, in-seq, if-else}
-use Prim.Native.Nat.{_+_, _-_}
-use native.Mathlib.Omega.{arith}
-use lib.Dec.{T as Holds, ltb, ltb→lt, nltb→le}
-use lib.ListN.{length-set}
+use Rattle.walks.proofs.Walking.{_≡_, refl, sym, _∙_, true, false, not, ℕ, _<_, _^_, List, [], _∷_, length, set, w64, Val, vint, is-true, is-false, URA, SProp, emp, id⊢, ftrue, fullShare, Memory, Routine, Heap, Env, WpFn, Tables, Atoms, fmOf, Given, Item, Sq, prop, !, ‵, _⊛_, _$_, whole, sub, agg, look-in, look, init, store, stop, hop, fld, from, load, addr, of-opd, and-then, no-more, assigns, land, returns, returns-within, params1, pass1, pass0, free0, Fun, factI, givenOf, tables, tablesOf, u32, usize, yes, Is, uint-vals, uint-tells, plain, Meets, tripleOf, Triple, entered, cited, Loan, lent, sliceOf, enters, used, room, in-seq, if-else, entry-fits}
+use Rattle.state.proofs.Prelude.{_+_, _-_, arith, T as Holds, ltb, ltb→lt, nltb→le, length-set, Found, Arena, stampsOf, State, Sweep, Reply, Outcome, sizeOf, Leaves, at, isAt, purgeReply, sweptReply, sweepFrom}
 use mir.Syntax.{Ty, named, mut, tyInt, tyRef}
 use base.Fml.{fat}
 use prog.Wp.{Wp, atReturn, afterSeq, afterBlock, afterTurn}
@@ -14,18 +11,9 @@ use denote.Enum.Laws as EL
 use denote.Memory.{pointee}
 use denote.Slice.{sliceTy}
 use denote.Struct.Laws as LL
-use Rattle.runs.specs.declared.Found.{Found}
-use Rattle.runs.proofs.Found as T-Found
-use Rattle.runs.proofs.Found.Laws as L-Found
-use Rattle.arena.specs.declared.Arena.{Arena}
+use Rattle.bitmap.proofs.runs.Found as T-Found
+use Rattle.bitmap.proofs.runs.Found.Laws as L-Found
 use Rattle.arena.proofs.Arena as T-Arena
-use Rattle.purge.specs.Stamps.{stampsOf}
-use Rattle.layer.specs.declared.State.{State}
-use Rattle.layer.specs.declared.Sweep.{Sweep}
-use Rattle.layer.specs.declared.Reply.{Reply}
-use Rattle.layer.specs.World.{Outcome, sizeOf, Leaves}
-use Rattle.layer.specs.Table.{at, isAt}
-use Rattle.layer.specs.Sweeping.{purgeReply, sweptReply, sweepFrom}
 use Rattle.layer.proofs.State as T-State
 use Rattle.layer.proofs.State.Laws as L-State
 use Rattle.layer.proofs.Sweep as T-Sweep
@@ -36,14 +24,10 @@ use Rattle.walks.proofs.Locals.{Blocks, envOf, rooms, tests, whiles}
 use Rattle.walks.proofs.Frame.{Done2, finish2, mut2-meets}
 use Rattle.state.specs.Ready.{Stamped}
 use Rattle.state.proofs.Entry.{comes}
-use Rattle.state.proofs.Callable.{CountOfSpec, count-of-step}
-use Rattle.state.proofs.count_of.Symbol as count-of-def
-use Rattle.state.proofs.count_of.Symbol.{name as #state·count-of}
-use Rattle.state.proofs.count_of.Met as count-of-thm
-use Rattle.judge.proofs.Callable.{IsAtSpec, is-at-step}
-use Rattle.judge.proofs.row_parts.is_at.Symbol as is-at-def
-use Rattle.judge.proofs.row_parts.is_at.Symbol.{name as #judge·row-parts·is-at}
-use Rattle.judge.proofs.row_parts.is_at.Met as is-at-thm
+use Rattle.table.proofs.Callable.{IsAtSpec, is-at-step}
+use Rattle.table.proofs.row_parts.is_at.Symbol as is-at-def
+use Rattle.table.proofs.row_parts.is_at.Symbol.{name as #judge·row-parts·is-at}
+use Rattle.table.proofs.row_parts.is_at.Met as is-at-thm
 use Rattle.sweeping.specs.Visit.{chunkOf, askedAt, visited, Ranged, Sweepable}
 use Rattle.sweeping.proofs.VisitLaws.{visited-range}
 use Rattle.sweeping.proofs.SweepLaws.{ranged-put, ended, asked-turn, passed-turn, question-fits}
@@ -127,7 +111,6 @@ abbrev slice₁ : Ty
 slice₁ = sliceTy (tyRef (named 1) mut (pointee (u32 .written)))
 
 module _ {M : Type 1} (𝓤 : URA M) (H : Heap 𝓤) (A : Atoms 𝓤) (W : Given 𝓤 H A) (mem : Memory → SProp 𝓤) (run : Routine → Fun 𝓤) (𝓣 : Tables 𝓤 H)
-    (known-count-of : Triple 𝓤 (𝓣 .C #state·count-of) (CountOfSpec 𝓤 H A mem run))
     (known-visit : Triple 𝓤 (𝓣 .C #sweeping·visit) (VisitSpec 𝓤 H A mem run))
     (known-is-at : Triple 𝓤 (𝓣 .C #judge·row-parts·is-at) (IsAtSpec 𝓤 H A mem run))
     (known-chunk-of : Triple 𝓤 (𝓣 .C #sweeping·chunk-of) (ChunkOfSpec 𝓤 H A mem run))
@@ -146,7 +129,10 @@ module _ {M : Type 1} (𝓤 : URA M) (H : Heap 𝓤) (A : Atoms 𝓤) (W : Given
     abbrev n : ℕ
     n = state .count
 
-    module _ (v-state v-w : Val) (fl : L .n < 2 ^ 64) (fl′ : L′ .n < 2 ^ 64) (g-state : Is T-State.the-row state (v-state ∷ [])) (fb : begin < 2 ^ 64) (g-w : Is T-Sweep.the-row w (v-w ∷ [])) (need : Sweepable ys state × Stamped us) where
+    abbrev v-state : Val
+    v-state = LL.val T-State.the-type L-State.the-laws state
+
+    module _ (v-w : Val) (fl : L .n < 2 ^ 64) (fl′ : L′ .n < 2 ^ 64) (g-state : Is T-State.the-row state (v-state ∷ [])) (fb : begin < 2 ^ 64) (g-w : Is T-Sweep.the-row w (v-w ∷ [])) (need : Sweepable ys state × Stamped us) where
       module _ (bs : Blocks (code.function .locals)) where
         abbrev En : Env 𝓤 H
         En = envOf 𝓤 H (code.function .locals) bs
@@ -204,8 +190,8 @@ module _ {M : Type 1} (𝓤 : URA M) (H : Heap 𝓤) (A : Atoms 𝓤) (W : Given
           pass1 ! (init ! 3 refl (tt, (tt, (record { fits = fl }, tt)))) $ pass1 ! (init ! 5 refl (tt, (tt, (record { fits = fl′ }, tt)))) $
           pass1 ! (init ! 7 refl (LL.lawful T-State.the-type L-State.the-laws 𝓤 H A W .typed state (v-state ∷ []) g-state .0)) $ pass1 ! (init ! 9 refl (tt, record { fits = fb })) $
           pass1 ! (init ! 11 refl (LL.lawful T-Sweep.the-type L-Sweep.the-laws 𝓤 H A W .typed w (v-w ∷ []) g-w .0)) $ pass0 ! $
-          count-of-step ! (in-seq ! (fmOf 𝓤 H (W .laws) 𝓣)) mem run known-count-of state v-state g-state (λ _. and-then ! (load ! (from ! (stop !)) (look ! 7 refl)) (no-more !)) (λ f-n.
-          land ! (from ! (stop !)) (init ! 13 refl (tt, record { fits = f-n })) $
+          entry-fits ! 7 refl (λ of-state.
+          assigns ! (of-opd ! (load ! (from ! (fld ! refl (stop !))) (look-in ! 7 (sub ! 0 refl (whole !))))) (from ! (stop !)) (init ! 13 refl (tt, record { fits = of-state .0 .fits })) $
           assigns ! (of-opd ! (load ! (from ! (stop !)) (look ! 9 refl))) (from ! (stop !)) (init ! 15 refl (tt, record { fits = fb })) $
           whiles ! 𝓣 (I bs) (λ (s : At). n - s .i) (turn bs) (record { i = begin; zs = ys; fits = fb; long = refl; ranged = need .0 .2; goes = refl })))
 
@@ -216,7 +202,7 @@ module _ {M : Type 1} (𝓤 : URA M) (H : Heap 𝓤) (A : Atoms 𝓤) (W : Given
       (λ κs x g r zs ts. Leaves (sweepFrom (sizeOf (x .1 .1 .0)) (x .1 .0 .now) ((x .1 .1 .0) .count) ((x .1 .1 .0) .mark) (x .1 .1 .1 .1 .0) ((x .1 .1 .0) .count - x .1 .1 .1 .0) (x .1 .1 .1 .0) (x .0 .now)) r zs ts)
       (LL.makes T-Reply.the-type L-Reply.the-plain 𝓤 H A) ((λ κs x f. refl), ((λ κs x f. refl), ((λ κs x f. refl), tt))) (λ κs. (LL.tells T-State.the-type L-State.the-laws, (uint-tells w64, (LL.tells T-Sweep.the-type L-Sweep.the-laws, tt))))
       (λ κs x g. id⊢ 𝓤 _) (λ κs x g r zs ts e. factI 𝓤 _ (emp 𝓤) e) code.function 𝓣
-      (λ κs q q′ x g kn kn′ are l. walk _ _ (x .0 .now) (x .1 .0 .now) (x .1 .1 .0) (x .1 .1 .1 .0) (x .1 .1 .1 .1 .0) (LL.val T-State.the-type L-State.the-laws (x .1 .1 .0)) (LL.val T-Sweep.the-type L-Sweep.the-laws (x .1 .1 .1 .1 .0)) (kn .1 .0) (kn′ .1 .0) (are .0) (are .1 .0 .1) (are .1 .1 .0) l)
+      (λ κs q q′ x g kn kn′ are l. walk _ _ (x .0 .now) (x .1 .0 .now) (x .1 .1 .0) (x .1 .1 .1 .0) (x .1 .1 .1 .1 .0) (LL.val T-Sweep.the-type L-Sweep.the-laws (x .1 .1 .1 .1 .0)) (kn .1 .0) (kn′ .1 .0) (are .0) (are .1 .0 .1) (are .1 .1 .0) l)
 
 pub sweep-on-spec : {M : Type 1} → stated.statement M
 unfolding code.routine tablesOf
@@ -224,9 +210,8 @@ sweep-on-spec 𝓤 H 𝓜 𝓖 𝓡 =
     entered 𝓤 H (tripleOf 𝓤 H (𝓖 .A) sweep-on′.signature (sweep-on′.spec 𝓤 H (𝓖 .A) (𝓜 .mem) (𝓡 .run)))
     (tables 𝓤 H 𝓜 𝓡 code.env .C) (tables 𝓤 H 𝓜 𝓡 code.env .Λ) #sweeping·sweep-on code.function (code.unfolded 𝓤 H 𝓜 𝓡)
     (sweep-on-meets 𝓤 H (𝓖 .A) (givenOf 𝓤 H 𝓜 𝓖) (𝓜 .mem) (𝓡 .run) (tablesOf 𝓤 H 𝓜 (tables 𝓤 H 𝓜 𝓡 code.env))
-    (cited 𝓤 H (CountOfSpec 𝓤 H (𝓖 .A) (𝓜 .mem) (𝓡 .run)) 𝓜 𝓡 code.env #state·count-of count-of-def.routine code.calls-state·count-of (count-of-thm.met 𝓤 H 𝓜 𝓖 𝓡))
     (cited 𝓤 H (VisitSpec 𝓤 H (𝓖 .A) (𝓜 .mem) (𝓡 .run)) 𝓜 𝓡 code.env #sweeping·visit visit-def.routine code.calls-sweeping·visit (visit-thm.met 𝓤 H 𝓜 𝓖 𝓡))
-    (cited 𝓤 H (IsAtSpec 𝓤 H (𝓖 .A) (𝓜 .mem) (𝓡 .run)) 𝓜 𝓡 code.env #judge·row-parts·is-at is-at-def.routine code.calls-judge·row-parts·is-at (is-at-thm.met 𝓤 H 𝓜 𝓖 𝓡))
+    (cited 𝓤 H (IsAtSpec 𝓤 H (𝓖 .A) (𝓜 .mem) (𝓡 .run)) 𝓜 𝓡 code.env #judge·row-parts·is-at is-at-def.routine code.calls-table·row-parts·is-at (is-at-thm.met 𝓤 H 𝓜 𝓖 𝓡))
     (cited 𝓤 H (ChunkOfSpec 𝓤 H (𝓖 .A) (𝓜 .mem) (𝓡 .run)) 𝓜 𝓡 code.env #sweeping·chunk-of chunk-of-def.routine code.calls-sweeping·chunk-of (chunk-of-thm.met 𝓤 H 𝓜 𝓖 𝓡))
     (cited 𝓤 H (QuestionAtSpec 𝓤 H (𝓖 .A) (𝓜 .mem) (𝓡 .run)) 𝓜 𝓡 code.env #sweeping·question-at question-at-def.routine code.calls-sweeping·question-at (question-at-thm.met 𝓤 H 𝓜 𝓖 𝓡))
     (cited 𝓤 H (SweptSpec 𝓤 H (𝓖 .A) (𝓜 .mem) (𝓡 .run)) 𝓜 𝓡 code.env #sweeping·swept swept-def.routine code.calls-sweeping·swept (swept-thm.met 𝓤 H 𝓜 𝓖 𝓡)))

@@ -1,6 +1,5 @@
 -- `sweeping::swept` meets its contract. Assumes nothing.
-use borrow.Author.Needs.{needs}
-use Rattle.layer.specs.Sweeping.{sweptReply}
+use Rattle.state.proofs.Prelude.{needs, sweptReply}
 use Rattle.sweeping.proofs.swept.Statement.{statement}
 use Rattle.sweeping.proofs.swept.Tie as tie
 

@@ -6,50 +6,50 @@ use Rattle.layer.proofs.Sweep.Laws as L-Sweep
 use denote.Struct.Laws as LL
 use Rattle.arena.proofs.Arena as T-Arena
 use Rattle.arena.proofs.Arena.Laws as L-Arena
-use Rattle.runs.proofs.Found as T-Found
-use Rattle.runs.proofs.Found.Laws as L-Found
+use Rattle.bitmap.proofs.runs.Found as T-Found
+use Rattle.bitmap.proofs.runs.Found.Laws as L-Found
 use denote.Enum.Laws as EL
 use Rattle.layer.specs.declared.Sweep.{Sweep}
 use Rattle.arena.specs.declared.Arena.{Arena}
-use Rattle.runs.specs.declared.Found.{Found}
-use Rattle.purge.specs.Stamps.{stampsOf}
+use Rattle.bitmap.specs.declared.runs.Found.{Found}
+use Rattle.arena.specs.Stamps.{stampsOf}
 use Rattle.layer.specs.Table.{at, isAt}
 use Rattle.sweeping.specs.Visit.{askedAt, visited, chunkOf}
 use Rattle.state.specs.Ready.{Stamped}
 use Rattle.arena.specs.Sweeping.{sweepDue, nextAsked, disarm, borrowChunk}
-use Rattle.runs.specs.declared.Found.the-variants.{Nothing as Nothing-runs, At}
+use Rattle.bitmap.specs.declared.runs.Found.the-variants.{Nothing as Nothing-bitmap, At}
 use Rattle.layer.specs.World.{blank}
-use Rattle.purge.specs.Maps.{nextDeadline}
+use Rattle.arena.specs.Maps.{nextDeadline}
 use Rattle.arena.specs.Record.{withDeadline}
 use Rattle.sweeping.proofs.VisitLaws.{next-few, passed-by, borrowed, armed}
 use Rattle.walks.proofs.Frame.{Done2, finish2, mut2-meets}
 use Rattle.sweeping.proofs.is_due_at.Symbol as is-due-at-def
 use Rattle.sweeping.proofs.is_due_at.Symbol.{name as #sweeping·is-due-at}
 use Rattle.sweeping.proofs.is_due_at.Met as is-due-at-thm
-use Rattle.judge.proofs.row_parts.nothing.Symbol as nothing-def
-use Rattle.judge.proofs.row_parts.nothing.Symbol.{name as #judge·row-parts·nothing}
-use Rattle.judge.proofs.row_parts.nothing.Met as nothing-thm
-use Rattle.records.proofs.load.Symbol as load-def
-use Rattle.records.proofs.load.Symbol.{name as #records·load}
-use Rattle.records.proofs.load.Met as load-thm
+use Rattle.table.proofs.row_parts.nothing.Symbol as nothing-def
+use Rattle.table.proofs.row_parts.nothing.Symbol.{name as #table·row-parts·nothing}
+use Rattle.table.proofs.row_parts.nothing.Met as nothing-thm
+use Rattle.table.proofs.records.load.Symbol as load-def
+use Rattle.table.proofs.records.load.Symbol.{name as #table·records·load}
+use Rattle.table.proofs.records.load.Met as load-thm
 use Rattle.sweeping.proofs.next_chunk.Symbol as next-chunk-def
 use Rattle.sweeping.proofs.next_chunk.Symbol.{name as #sweeping·next-chunk}
 use Rattle.sweeping.proofs.next_chunk.Met as next-chunk-thm
-use Rattle.judge.proofs.row_parts.is_at.Symbol as is-at-def
-use Rattle.judge.proofs.row_parts.is_at.Symbol.{name as #judge·row-parts·is-at}
-use Rattle.judge.proofs.row_parts.is_at.Met as is-at-thm
+use Rattle.table.proofs.row_parts.is_at.Symbol as is-at-def
+use Rattle.table.proofs.row_parts.is_at.Symbol.{name as #table·row-parts·is-at}
+use Rattle.table.proofs.row_parts.is_at.Met as is-at-thm
 use Rattle.sweeping.proofs.chunk_of.Symbol as chunk-of-def
 use Rattle.sweeping.proofs.chunk_of.Symbol.{name as #sweeping·chunk-of}
 use Rattle.sweeping.proofs.chunk_of.Met as chunk-of-thm
 use Rattle.arena.proofs.arena_sweeps.first_borrowed.Symbol as first-borrowed-def
 use Rattle.arena.proofs.arena_sweeps.first_borrowed.Symbol.{name as #arena·arena-sweeps·first-borrowed}
 use Rattle.arena.proofs.arena_sweeps.first_borrowed.Met as first-borrowed-thm
-use Rattle.records.proofs.store.Symbol as store-def
-use Rattle.records.proofs.store.Symbol.{name as #records·store}
-use Rattle.records.proofs.store.Met as store-thm
-use Rattle.judge.proofs.row_parts.found.Symbol as found-def
-use Rattle.judge.proofs.row_parts.found.Symbol.{name as #judge·row-parts·found}
-use Rattle.judge.proofs.row_parts.found.Met as found-thm
+use Rattle.table.proofs.records.store.Symbol as store-def
+use Rattle.table.proofs.records.store.Symbol.{name as #table·records·store}
+use Rattle.table.proofs.records.store.Met as store-thm
+use Rattle.table.proofs.row_parts.found.Symbol as found-def
+use Rattle.table.proofs.row_parts.found.Symbol.{name as #table·row-parts·found}
+use Rattle.table.proofs.row_parts.found.Met as found-thm
 use Rattle.sweeping.proofs.deadline_anew.Symbol as deadline-anew-def
 use Rattle.sweeping.proofs.deadline_anew.Symbol.{name as #sweeping·deadline-anew}
 use Rattle.sweeping.proofs.deadline_anew.Met as deadline-anew-thm
@@ -57,8 +57,7 @@ use Rattle.arena.proofs.arena_sweeps.armed_anew.Symbol as armed-anew-def
 use Rattle.arena.proofs.arena_sweeps.armed_anew.Symbol.{name as #arena·arena-sweeps·armed-anew}
 use Rattle.arena.proofs.arena_sweeps.armed_anew.Met as armed-anew-thm
 use Rattle.sweeping.proofs.Callable.{IsDueAtSpec, NextChunkSpec, ChunkOfSpec, DeadlineAnewSpec, is-due-at-step, next-chunk-step, chunk-of-step, deadline-anew-step}
-use Rattle.judge.proofs.Callable.{NothingSpec, IsAtSpec, FoundSpec, nothing-step, is-at-step, found-step}
-use Rattle.records.proofs.Callable.{LoadSpec, StoreSpec, load-step, store-step}
+use Rattle.table.proofs.Callable.{NothingSpec, LoadSpec, IsAtSpec, StoreSpec, FoundSpec, nothing-step, load-step, is-at-step, store-step, found-step}
 use Rattle.arena.proofs.Callable.{FirstBorrowedSpec, ArmedAnewSpec, first-borrowed-step, armed-anew-step}
 use Rattle.sweeping.proofs.visit.Key.{name as #sweeping·visit}
 use Rattle.sweeping.proofs.visit as visit′
@@ -67,14 +66,14 @@ use Rattle.sweeping.proofs.visit.Code as code
 
 module _ {M : Type 1} (𝓤 : URA M) (H : Heap 𝓤) (A : Atoms 𝓤) (W : Given 𝓤 H A) (mem : Memory → SProp 𝓤) (run : Routine → Fun 𝓤) (𝓣 : Tables 𝓤 H)
     (known-is-due-at : Triple 𝓤 (𝓣 .C #sweeping·is-due-at) (IsDueAtSpec 𝓤 H A mem run))
-    (known-nothing : Triple 𝓤 (𝓣 .C #judge·row-parts·nothing) (NothingSpec 𝓤 H A mem run))
-    (known-load : Triple 𝓤 (𝓣 .C #records·load) (LoadSpec 𝓤 H A mem run))
+    (known-nothing : Triple 𝓤 (𝓣 .C #table·row-parts·nothing) (NothingSpec 𝓤 H A mem run))
+    (known-load : Triple 𝓤 (𝓣 .C #table·records·load) (LoadSpec 𝓤 H A mem run))
     (known-next-chunk : Triple 𝓤 (𝓣 .C #sweeping·next-chunk) (NextChunkSpec 𝓤 H A mem run))
-    (known-is-at : Triple 𝓤 (𝓣 .C #judge·row-parts·is-at) (IsAtSpec 𝓤 H A mem run))
+    (known-is-at : Triple 𝓤 (𝓣 .C #table·row-parts·is-at) (IsAtSpec 𝓤 H A mem run))
     (known-chunk-of : Triple 𝓤 (𝓣 .C #sweeping·chunk-of) (ChunkOfSpec 𝓤 H A mem run))
     (known-first-borrowed : Triple 𝓤 (𝓣 .C #arena·arena-sweeps·first-borrowed) (FirstBorrowedSpec 𝓤 H A mem run))
-    (known-store : Triple 𝓤 (𝓣 .C #records·store) (StoreSpec 𝓤 H A mem run))
-    (known-found : Triple 𝓤 (𝓣 .C #judge·row-parts·found) (FoundSpec 𝓤 H A mem run))
+    (known-store : Triple 𝓤 (𝓣 .C #table·records·store) (StoreSpec 𝓤 H A mem run))
+    (known-found : Triple 𝓤 (𝓣 .C #table·row-parts·found) (FoundSpec 𝓤 H A mem run))
     (known-deadline-anew : Triple 𝓤 (𝓣 .C #sweeping·deadline-anew) (DeadlineAnewSpec 𝓤 H A mem run))
     (known-armed-anew : Triple 𝓤 (𝓣 .C #arena·arena-sweeps·armed-anew) (ArmedAnewSpec 𝓤 H A mem run)) where
   module _ (κ-records κ-stamps : Lft) (q-records q-stamps : Share) (γ-records γ-stamps : GName) (b-records b-stamps : ℕ) (o-records o-stamps : ℕ) (records : List Arena) (stamps : List ℕ) (i : ℕ) (w : Sweep) where
@@ -100,7 +99,7 @@ module _ {M : Type 1} (𝓤 : URA M) (H : Heap 𝓤) (A : Atoms 𝓤) (W : Given
     t11 = sweepDue (at records i) (w .force) (w .now)
 
     abbrev result : Found
-    result = Nothing-runs
+    result = Nothing-bitmap
 
     abbrev a : Arena
     a = getD records i blank
@@ -204,7 +203,7 @@ module _ {M : Type 1} (𝓤 : URA M) (H : Heap 𝓤) (A : Atoms 𝓤) (W : Given
         (λ _. and-then ! (arg ! refl) (and-then ! (arg ! refl) (and-then ! (arg ! refl) (no-more !)))) (λ v-t25 g-t25 l-records-2.
         land ! (from ! (stop !)) (init ! 51 refl (nothing-lawful 𝓤 H A W .typed tt (v-t25 ∷ []) g-t25 .0)) $
         nothing-step ! (in-seq ! (fmOf 𝓤 H (W .laws) 𝓣)) mem run known-nothing
-        (λ _. no-more !) (λ v-result g-result. let result : Found = Nothing-runs in
+        (λ _. no-more !) (λ v-result g-result. let result : Found = Nothing-bitmap in
         land ! (from ! (stop !)) (init ! 1 refl (EL.lawful T-Found.the-type L-Found.the-laws 𝓤 H A W tt .typed result (v-result ∷ []) g-result .0)) $
         returns ! (look ! 1 refl) $ used ! $ used ! $ used ! $ used ! $ used ! $ used ! $ used ! $ room ! $ room ! $ used ! $ used ! $ used ! $ used ! $ used ! $ used ! $ used ! $ used ! $ used ! $ used ! $ used ! $ room ! $ room ! $ room ! $ used ! $ used ! $ used ! $ used ! $ used ! $ free0 ! $
         finish2 𝓤 H A T-Arena.the-row u32 L-records L-stamps T-Found.the-row records stamps χ W (‵ ftrue) v-result result records-2 stamps g-result l-records-2 refl (armed records stamps i w (is-true t11 (T-not-not t11 h1)) (is-false t19 h2))))))))))))))))))))
@@ -224,13 +223,13 @@ visit-spec 𝓤 H 𝓜 𝓖 𝓡 =
     (tables 𝓤 H 𝓜 𝓡 code.env .C) (tables 𝓤 H 𝓜 𝓡 code.env .Λ) #sweeping·visit code.function (code.unfolded 𝓤 H 𝓜 𝓡)
     (visit-meets 𝓤 H (𝓖 .A) (givenOf 𝓤 H 𝓜 𝓖) (𝓜 .mem) (𝓡 .run) (tablesOf 𝓤 H 𝓜 (tables 𝓤 H 𝓜 𝓡 code.env))
     (cited 𝓤 H (IsDueAtSpec 𝓤 H (𝓖 .A) (𝓜 .mem) (𝓡 .run)) 𝓜 𝓡 code.env #sweeping·is-due-at is-due-at-def.routine code.calls-sweeping·is-due-at (is-due-at-thm.met 𝓤 H 𝓜 𝓖 𝓡))
-    (cited 𝓤 H (NothingSpec 𝓤 H (𝓖 .A) (𝓜 .mem) (𝓡 .run)) 𝓜 𝓡 code.env #judge·row-parts·nothing nothing-def.routine code.calls-judge·row-parts·nothing (nothing-thm.met 𝓤 H 𝓜 𝓖 𝓡))
-    (cited 𝓤 H (LoadSpec 𝓤 H (𝓖 .A) (𝓜 .mem) (𝓡 .run)) 𝓜 𝓡 code.env #records·load load-def.routine code.calls-records·load (load-thm.met 𝓤 H 𝓜 𝓖 𝓡))
+    (cited 𝓤 H (NothingSpec 𝓤 H (𝓖 .A) (𝓜 .mem) (𝓡 .run)) 𝓜 𝓡 code.env #table·row-parts·nothing nothing-def.routine code.calls-table·row-parts·nothing (nothing-thm.met 𝓤 H 𝓜 𝓖 𝓡))
+    (cited 𝓤 H (LoadSpec 𝓤 H (𝓖 .A) (𝓜 .mem) (𝓡 .run)) 𝓜 𝓡 code.env #table·records·load load-def.routine code.calls-table·records·load (load-thm.met 𝓤 H 𝓜 𝓖 𝓡))
     (cited 𝓤 H (NextChunkSpec 𝓤 H (𝓖 .A) (𝓜 .mem) (𝓡 .run)) 𝓜 𝓡 code.env #sweeping·next-chunk next-chunk-def.routine code.calls-sweeping·next-chunk (next-chunk-thm.met 𝓤 H 𝓜 𝓖 𝓡))
-    (cited 𝓤 H (IsAtSpec 𝓤 H (𝓖 .A) (𝓜 .mem) (𝓡 .run)) 𝓜 𝓡 code.env #judge·row-parts·is-at is-at-def.routine code.calls-judge·row-parts·is-at (is-at-thm.met 𝓤 H 𝓜 𝓖 𝓡))
+    (cited 𝓤 H (IsAtSpec 𝓤 H (𝓖 .A) (𝓜 .mem) (𝓡 .run)) 𝓜 𝓡 code.env #table·row-parts·is-at is-at-def.routine code.calls-table·row-parts·is-at (is-at-thm.met 𝓤 H 𝓜 𝓖 𝓡))
     (cited 𝓤 H (ChunkOfSpec 𝓤 H (𝓖 .A) (𝓜 .mem) (𝓡 .run)) 𝓜 𝓡 code.env #sweeping·chunk-of chunk-of-def.routine code.calls-sweeping·chunk-of (chunk-of-thm.met 𝓤 H 𝓜 𝓖 𝓡))
     (cited 𝓤 H (FirstBorrowedSpec 𝓤 H (𝓖 .A) (𝓜 .mem) (𝓡 .run)) 𝓜 𝓡 code.env #arena·arena-sweeps·first-borrowed first-borrowed-def.routine code.calls-arena·arena-sweeps·first-borrowed (first-borrowed-thm.met 𝓤 H 𝓜 𝓖 𝓡))
-    (cited 𝓤 H (StoreSpec 𝓤 H (𝓖 .A) (𝓜 .mem) (𝓡 .run)) 𝓜 𝓡 code.env #records·store store-def.routine code.calls-records·store (store-thm.met 𝓤 H 𝓜 𝓖 𝓡))
-    (cited 𝓤 H (FoundSpec 𝓤 H (𝓖 .A) (𝓜 .mem) (𝓡 .run)) 𝓜 𝓡 code.env #judge·row-parts·found found-def.routine code.calls-judge·row-parts·found (found-thm.met 𝓤 H 𝓜 𝓖 𝓡))
+    (cited 𝓤 H (StoreSpec 𝓤 H (𝓖 .A) (𝓜 .mem) (𝓡 .run)) 𝓜 𝓡 code.env #table·records·store store-def.routine code.calls-table·records·store (store-thm.met 𝓤 H 𝓜 𝓖 𝓡))
+    (cited 𝓤 H (FoundSpec 𝓤 H (𝓖 .A) (𝓜 .mem) (𝓡 .run)) 𝓜 𝓡 code.env #table·row-parts·found found-def.routine code.calls-table·row-parts·found (found-thm.met 𝓤 H 𝓜 𝓖 𝓡))
     (cited 𝓤 H (DeadlineAnewSpec 𝓤 H (𝓖 .A) (𝓜 .mem) (𝓡 .run)) 𝓜 𝓡 code.env #sweeping·deadline-anew deadline-anew-def.routine code.calls-sweeping·deadline-anew (deadline-anew-thm.met 𝓤 H 𝓜 𝓖 𝓡))
     (cited 𝓤 H (ArmedAnewSpec 𝓤 H (𝓖 .A) (𝓜 .mem) (𝓡 .run)) 𝓜 𝓡 code.env #arena·arena-sweeps·armed-anew armed-anew-def.routine code.calls-arena·arena-sweeps·armed-anew (armed-anew-thm.met 𝓤 H 𝓜 𝓖 𝓡)))

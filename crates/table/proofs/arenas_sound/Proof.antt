@@ -3,27 +3,27 @@
 use Rattle.walks.proofs.Walking.{_≡_, refl, subst, Bool, true, false, not, ℕ, _<_, _≤_, _+_, _*_, _^_, List, [], _∷_, lit<, length, getD, w64, Val, vint, vbool, T-not-not, is-true, is-false, URA, fullShare, SProp, emp, id⊢, Lft, GName, Share, ftrue, Memory, Routine, Heap, Env, WpFn, Tables, Atoms, fmOf, Given, Item, Sq, prop, !, ‵, _⊛_, _$_, look, init, store, stop, from, load, lit, true-lit, false-lit, of-opd, un, bin, and-then, no-more, assigns, land, returns, returns-within, params1, pass1, pass0, free0, Fun, factI, givenOf, tables, tablesOf, bool, u64, usize, yes, Is, uint-vals, uint-tells, bool-makes, plain, Meets, tripleOf, Triple, entered, cited, Loan, Known, shared, sliceOf, enters, used, room, if-else, arg, arg-fits, in-seq}
 use Rattle.arena.proofs.Arena as T-Arena
 use denote.Struct.Laws as LL
-use Rattle.judge.proofs.spans.Span as T-Span
-use Rattle.judge.proofs.spans.Span.Laws as L-Span
-use Rattle.judge.proofs.Head as T-Head
-use Rattle.judge.proofs.Head.Laws as L-Head
+use Rattle.table.proofs.spans.Span as T-Span
+use Rattle.table.proofs.spans.Span.Laws as L-Span
+use Rattle.table.proofs.heads.Head as T-Head
+use Rattle.table.proofs.heads.Head.Laws as L-Head
 use Rattle.arena.specs.declared.Arena.{Arena}
 use mathlib.Core.Bool.{_&&_}
-use Rattle.runs.specs.Lowest.{all}
-use Rattle.lookup.specs.Soundness.{soundArena}
+use Rattle.bitmap.specs.Lowest.{all}
+use Rattle.arena.specs.Soundness.{soundArena}
 use Rattle.layer.specs.Table.{at, apart, overlaps}
 use Rattle.arena.specs.ChunkSize.{ChunkSize}
-use Rattle.judge.specs.declared.spans.Span.{Span}
+use Rattle.table.specs.declared.spans.Span.{Span}
 use Rattle.layer.specs.World.{blank}
-use Rattle.judge.specs.Heads.{headOf}
-use Rattle.judge.specs.declared.Head.{Head}
-use Rattle.judge.specs.Spans.{Covers}
+use Rattle.table.specs.Heads.{headOf}
+use Rattle.table.specs.declared.heads.Head.{Head}
+use Rattle.table.specs.Spans.{CoversAll}
 use Rattle.table.proofs.TurnLaws.{Passed, passed-none, passed-more}
 use Rattle.table.proofs.TableLaws.{is-lent, sound, alone, range-of, covers-none, covers-more, passed-sound, one-unsound, one-overlaps, all-sound}
 use Rattle.walks.proofs.Frame.{DoneS, finishS, shr-meets}
-use Rattle.judge.proofs.spans.no_span.Symbol as no-span-def
-use Rattle.judge.proofs.spans.no_span.Symbol.{name as #judge·spans·no-span}
-use Rattle.judge.proofs.spans.no_span.Met as no-span-thm
+use Rattle.table.proofs.spans.no_span.Symbol as no-span-def
+use Rattle.table.proofs.spans.no_span.Symbol.{name as #table·spans·no-span}
+use Rattle.table.proofs.spans.no_span.Met as no-span-thm
 use Rattle.table.proofs.head_at.Symbol as head-at-def
 use Rattle.table.proofs.head_at.Symbol.{name as #table·head-at}
 use Rattle.table.proofs.head_at.Met as head-at-thm
@@ -33,11 +33,10 @@ use Rattle.table.proofs.sound_at.Met as sound-at-thm
 use Rattle.table.proofs.meets_none.Symbol as meets-none-def
 use Rattle.table.proofs.meets_none.Symbol.{name as #table·meets-none}
 use Rattle.table.proofs.meets_none.Met as meets-none-thm
-use Rattle.judge.proofs.spans.span_with.Symbol as span-with-def
-use Rattle.judge.proofs.spans.span_with.Symbol.{name as #judge·spans·span-with}
-use Rattle.judge.proofs.spans.span_with.Met as span-with-thm
-use Rattle.judge.proofs.Callable.{NoSpanSpec, SpanWithSpec, no-span-step, span-with-step}
-use Rattle.table.proofs.Callable.{HeadAtSpec, SoundAtSpec, MeetsNoneSpec, head-at-pass, sound-at-pass, meets-none-pass}
+use Rattle.table.proofs.spans.span_with.Symbol as span-with-def
+use Rattle.table.proofs.spans.span_with.Symbol.{name as #table·spans·span-with}
+use Rattle.table.proofs.spans.span_with.Met as span-with-thm
+use Rattle.table.proofs.Callable.{NoSpanSpec, HeadAtSpec, SoundAtSpec, MeetsNoneSpec, SpanWithSpec, no-span-step, head-at-pass, sound-at-pass, meets-none-pass, span-with-step}
 use Rattle.table.proofs.arenas_sound.Key.{name as #table·arenas-sound}
 use Rattle.table.proofs.arenas_sound as arenas-sound′
 use Rattle.table.proofs.arenas_sound.Statement as stated
@@ -56,11 +55,11 @@ use Rattle.walks.proofs.Locals.{Blocks, envOf, rooms, tests, whiles}
 use Rattle.table.proofs.arenas_sound.Code.Mir.{turn-1, t-4}
 
 module _ {M : Type 1} (𝓤 : URA M) (H : Heap 𝓤) (A : Atoms 𝓤) (W : Given 𝓤 H A) (mem : Memory → SProp 𝓤) (run : Routine → Fun 𝓤) (𝓣 : Tables 𝓤 H)
-    (known-no-span : Triple 𝓤 (𝓣 .C #judge·spans·no-span) (NoSpanSpec 𝓤 H A mem run))
+    (known-no-span : Triple 𝓤 (𝓣 .C #table·spans·no-span) (NoSpanSpec 𝓤 H A mem run))
     (known-head-at : Triple 𝓤 (𝓣 .C #table·head-at) (HeadAtSpec 𝓤 H A mem run))
     (known-sound-at : Triple 𝓤 (𝓣 .C #table·sound-at) (SoundAtSpec 𝓤 H A mem run))
     (known-meets-none : Triple 𝓤 (𝓣 .C #table·meets-none) (MeetsNoneSpec 𝓤 H A mem run))
-    (known-span-with : Triple 𝓤 (𝓣 .C #judge·spans·span-with) (SpanWithSpec 𝓤 H A mem run)) where
+    (known-span-with : Triple 𝓤 (𝓣 .C #table·spans·span-with) (SpanWithSpec 𝓤 H A mem run)) where
   module _ (κ-records : Lft) (q-records : Share) (γ-records : GName) (b-records : ℕ) (o-records : ℕ) (records : List Arena) (k : ℕ) (chunk-size : ℕ) where
     abbrev L-records : Loan
     L-records = record { κ = κ-records; q = q-records; γ = γ-records; b = b-records; o = o-records; n = length records }
@@ -80,7 +79,7 @@ module _ {M : Type 1} (𝓤 : URA M) (H : Heap 𝓤) (A : Atoms 𝓤) (W : Given
       pub v-s : Val
       pub g-s : Is T-Span.the-row s (v-s ∷ [])
       pub below : i ≤ k
-      pub inv : Passed true (sound chunk-size records) i × Passed true (alone chunk-size records) i × Covers chunk-size s records i
+      pub inv : Passed true (sound chunk-size records) i × Passed true (alone chunk-size records) i × CoversAll chunk-size s records i
 
     module _ (known-records : Known T-Arena.the-row L-records records) (f-k : k < 2 ^ 64) (f-chunk-size : chunk-size < 2 ^ 64) (need : (ChunkSize chunk-size × (k ≤ length records))) (bs : Blocks (code.function .locals)) where
       abbrev En : Env 𝓤 H
@@ -130,7 +129,7 @@ module _ {M : Type 1} (𝓤 : URA M) (H : Heap 𝓤) (A : Atoms 𝓤) (W : Given
           forget ! 13 refl $ forget ! 15 refl $ forget ! 17 refl $
           again ! (λ (u v : St). k - u .i < k - v .i) I st (record { i = i + 1; s = s-next; v-s = v-s-next; g-s = g-s-next; below = omega (arith, lt); inv = (passed-more true (sound chunk-size records) i (inv .0) (is-true t7 (T-not-not t7 h1)), passed-more true (alone chunk-size records) i (inv .1) (is-true t7-2 (T-not-not t7-2 h2)), covers-more chunk-size records s s-next i (inv .2) s-next-says) }) (omega (arith, lt)))))))))))))))
           (λ more. let ended : i ≡ k = omega (arith, st .below, nltb→le i k more) in
-          let inv-end : Passed true (sound chunk-size records) k × Passed true (alone chunk-size records) k × Covers chunk-size s records k = subst (λ (x : ℕ). Passed true (sound chunk-size records) x × Passed true (alone chunk-size records) x × Covers chunk-size s records x) ended inv in
+          let inv-end : Passed true (sound chunk-size records) k × Passed true (alone chunk-size records) k × CoversAll chunk-size s records k = subst (λ (x : ℕ). Passed true (sound chunk-size records) x × Passed true (alone chunk-size records) x × CoversAll chunk-size s records x) ended inv in
           exec ! (𝓣 .C) (𝓣 .Λ) En t-4 (atRet En Post) $
           assigns ! (of-opd ! (true-lit !)) (from ! (stop !)) (init ! 1 refl (tt, tt)) $
           returns ! (look ! 1 refl) $ used ! $ used ! $ used ! $ used ! $ used ! $ used ! $ room ! $ used ! $ room ! $ free0 ! $
@@ -160,8 +159,8 @@ arenas-sound-spec 𝓤 H 𝓜 𝓖 𝓡 =
     entered 𝓤 H (tripleOf 𝓤 H (𝓖 .A) arenas-sound′.signature (arenas-sound′.spec 𝓤 H (𝓖 .A) (𝓜 .mem) (𝓡 .run)))
     (tables 𝓤 H 𝓜 𝓡 code.env .C) (tables 𝓤 H 𝓜 𝓡 code.env .Λ) #table·arenas-sound code.function (code.unfolded 𝓤 H 𝓜 𝓡)
     (arenas-sound-meets 𝓤 H (𝓖 .A) (givenOf 𝓤 H 𝓜 𝓖) (𝓜 .mem) (𝓡 .run) (tablesOf 𝓤 H 𝓜 (tables 𝓤 H 𝓜 𝓡 code.env))
-    (cited 𝓤 H (NoSpanSpec 𝓤 H (𝓖 .A) (𝓜 .mem) (𝓡 .run)) 𝓜 𝓡 code.env #judge·spans·no-span no-span-def.routine code.calls-judge·spans·no-span (no-span-thm.met 𝓤 H 𝓜 𝓖 𝓡))
+    (cited 𝓤 H (NoSpanSpec 𝓤 H (𝓖 .A) (𝓜 .mem) (𝓡 .run)) 𝓜 𝓡 code.env #table·spans·no-span no-span-def.routine code.calls-table·spans·no-span (no-span-thm.met 𝓤 H 𝓜 𝓖 𝓡))
     (cited 𝓤 H (HeadAtSpec 𝓤 H (𝓖 .A) (𝓜 .mem) (𝓡 .run)) 𝓜 𝓡 code.env #table·head-at head-at-def.routine code.calls-table·head-at (head-at-thm.met 𝓤 H 𝓜 𝓖 𝓡))
     (cited 𝓤 H (SoundAtSpec 𝓤 H (𝓖 .A) (𝓜 .mem) (𝓡 .run)) 𝓜 𝓡 code.env #table·sound-at sound-at-def.routine code.calls-table·sound-at (sound-at-thm.met 𝓤 H 𝓜 𝓖 𝓡))
     (cited 𝓤 H (MeetsNoneSpec 𝓤 H (𝓖 .A) (𝓜 .mem) (𝓡 .run)) 𝓜 𝓡 code.env #table·meets-none meets-none-def.routine code.calls-table·meets-none (meets-none-thm.met 𝓤 H 𝓜 𝓖 𝓡))
-    (cited 𝓤 H (SpanWithSpec 𝓤 H (𝓖 .A) (𝓜 .mem) (𝓡 .run)) 𝓜 𝓡 code.env #judge·spans·span-with span-with-def.routine code.calls-judge·spans·span-with (span-with-thm.met 𝓤 H 𝓜 𝓖 𝓡)))
+    (cited 𝓤 H (SpanWithSpec 𝓤 H (𝓖 .A) (𝓜 .mem) (𝓡 .run)) 𝓜 𝓡 code.env #table·spans·span-with span-with-def.routine code.calls-table·spans·span-with (span-with-thm.met 𝓤 H 𝓜 𝓖 𝓡)))

@@ -3,38 +3,37 @@
 use Rattle.walks.proofs.Walking.{_≡_, refl, subst, Bool, true, false, ℕ, _<_, _≤_, _+_, _^_, List, [], _∷_, lit<, length, getD, w64, Val, vint, is-true, is-false, URA, fullShare, SProp, emp, id⊢, Lft, GName, Share, ftrue, Memory, Routine, Heap, Env, WpFn, Tables, Atoms, fmOf, Given, Item, Sq, prop, !, ‵, _⊛_, _$_, look, init, store, stop, from, load, lit, of-opd, bin, and-then, no-more, assigns, land, returns, returns-within, params1, pass1, pass0, free0, Fun, factI, givenOf, tables, tablesOf, u64, usize, yes, uint-vals, uint-tells, plain, Meets, tripleOf, Triple, entered, cited, Loan, Known, shared, sliceOf, enters, used, room, if-else, arg, arg-fits, in-seq}
 use Rattle.arena.proofs.Arena as T-Arena
 use denote.Struct.Laws as LL
-use Rattle.runs.proofs.Found as T-Found
-use Rattle.runs.proofs.Found.Laws as L-Found
+use Rattle.bitmap.proofs.runs.Found as T-Found
+use Rattle.bitmap.proofs.runs.Found.Laws as L-Found
 use denote.Enum.Laws as EL
-use Rattle.judge.proofs.Head as T-Head
-use Rattle.judge.proofs.Head.Laws as L-Head
+use Rattle.table.proofs.heads.Head as T-Head
+use Rattle.table.proofs.heads.Head.Laws as L-Head
 use Rattle.arena.specs.declared.Arena.{Arena}
-use Rattle.runs.specs.declared.Found.{Found}
+use Rattle.bitmap.specs.declared.runs.Found.{Found}
 use Rattle.layer.specs.Table.{findArena}
 use Rattle.arena.specs.ChunkSize.{ChunkSize}
 use Rattle.state.specs.Ready.{SoundArenas}
 use Rattle.layer.specs.World.{blank}
-use Rattle.judge.specs.Heads.{headOf, headed}
-use Rattle.lookup.specs.Place.{isInside}
-use Rattle.runs.specs.declared.Found.the-variants.{At, Nothing as Nothing-runs}
-use Rattle.judge.specs.declared.Head.{Head}
+use Rattle.table.specs.Heads.{headOf, headed}
+use Rattle.arena.specs.Place.{isInside}
+use Rattle.bitmap.specs.declared.runs.Found.the-variants.{At, Nothing as Nothing-bitmap}
+use Rattle.table.specs.declared.heads.Head.{Head}
 use Rattle.table.proofs.TurnLaws.{Passed, passed-none, passed-more}
 use Rattle.table.proofs.TableLaws.{is-lent, range-at, inside, inside-by-head, arena-at, no-arena}
 use Rattle.walks.proofs.Frame.{DoneS, finishS, shr-meets}
 use Rattle.table.proofs.head_at.Symbol as head-at-def
 use Rattle.table.proofs.head_at.Symbol.{name as #table·head-at}
 use Rattle.table.proofs.head_at.Met as head-at-thm
-use Rattle.judge.proofs.ranges.holds.Symbol as holds-def
-use Rattle.judge.proofs.ranges.holds.Symbol.{name as #judge·ranges·holds}
-use Rattle.judge.proofs.ranges.holds.Met as holds-thm
-use Rattle.judge.proofs.row_parts.found.Symbol as found-def
-use Rattle.judge.proofs.row_parts.found.Symbol.{name as #judge·row-parts·found}
-use Rattle.judge.proofs.row_parts.found.Met as found-thm
-use Rattle.judge.proofs.row_parts.nothing.Symbol as nothing-def
-use Rattle.judge.proofs.row_parts.nothing.Symbol.{name as #judge·row-parts·nothing}
-use Rattle.judge.proofs.row_parts.nothing.Met as nothing-thm
-use Rattle.table.proofs.Callable.{HeadAtSpec, head-at-pass}
-use Rattle.judge.proofs.Callable.{HoldsSpec, FoundSpec, NothingSpec, holds-step, found-step, nothing-step}
+use Rattle.table.proofs.ranges.holds.Symbol as holds-def
+use Rattle.table.proofs.ranges.holds.Symbol.{name as #table·ranges·holds}
+use Rattle.table.proofs.ranges.holds.Met as holds-thm
+use Rattle.table.proofs.row_parts.found.Symbol as found-def
+use Rattle.table.proofs.row_parts.found.Symbol.{name as #table·row-parts·found}
+use Rattle.table.proofs.row_parts.found.Met as found-thm
+use Rattle.table.proofs.row_parts.nothing.Symbol as nothing-def
+use Rattle.table.proofs.row_parts.nothing.Symbol.{name as #table·row-parts·nothing}
+use Rattle.table.proofs.row_parts.nothing.Met as nothing-thm
+use Rattle.table.proofs.Callable.{HeadAtSpec, HoldsSpec, FoundSpec, NothingSpec, head-at-pass, holds-step, found-step, nothing-step}
 use Rattle.table.proofs.find_arena.Key.{name as #table·find-arena}
 use Rattle.table.proofs.find_arena as find-arena′
 use Rattle.table.proofs.find_arena.Statement as stated
@@ -54,9 +53,9 @@ use Rattle.table.proofs.find_arena.Code.Mir.{turn-1, t-3}
 
 module _ {M : Type 1} (𝓤 : URA M) (H : Heap 𝓤) (A : Atoms 𝓤) (W : Given 𝓤 H A) (mem : Memory → SProp 𝓤) (run : Routine → Fun 𝓤) (𝓣 : Tables 𝓤 H)
     (known-head-at : Triple 𝓤 (𝓣 .C #table·head-at) (HeadAtSpec 𝓤 H A mem run))
-    (known-holds : Triple 𝓤 (𝓣 .C #judge·ranges·holds) (HoldsSpec 𝓤 H A mem run))
-    (known-found : Triple 𝓤 (𝓣 .C #judge·row-parts·found) (FoundSpec 𝓤 H A mem run))
-    (known-nothing : Triple 𝓤 (𝓣 .C #judge·row-parts·nothing) (NothingSpec 𝓤 H A mem run)) where
+    (known-holds : Triple 𝓤 (𝓣 .C #table·ranges·holds) (HoldsSpec 𝓤 H A mem run))
+    (known-found : Triple 𝓤 (𝓣 .C #table·row-parts·found) (FoundSpec 𝓤 H A mem run))
+    (known-nothing : Triple 𝓤 (𝓣 .C #table·row-parts·nothing) (NothingSpec 𝓤 H A mem run)) where
   module _ (κ-records : Lft) (q-records : Share) (γ-records : GName) (b-records : ℕ) (o-records : ℕ) (records : List Arena) (k : ℕ) (chunk-size : ℕ) (address : ℕ) where
     abbrev L-records : Loan
     L-records = record { κ = κ-records; q = q-records; γ = γ-records; b = b-records; o = o-records; n = length records }
@@ -71,7 +70,7 @@ module _ {M : Type 1} (𝓤 : URA M) (H : Heap 𝓤) (A : Atoms 𝓤) (W : Given
     Post = DoneS 𝓤 H A T-Arena.the-row L-records T-Found.the-row records χ
 
     abbrev result : Found
-    result = Nothing-runs
+    result = Nothing-bitmap
 
     record St : Type 0 where
       pub i : ℕ
@@ -143,6 +142,6 @@ find-arena-spec 𝓤 H 𝓜 𝓖 𝓡 =
     (tables 𝓤 H 𝓜 𝓡 code.env .C) (tables 𝓤 H 𝓜 𝓡 code.env .Λ) #table·find-arena code.function (code.unfolded 𝓤 H 𝓜 𝓡)
     (find-arena-meets 𝓤 H (𝓖 .A) (givenOf 𝓤 H 𝓜 𝓖) (𝓜 .mem) (𝓡 .run) (tablesOf 𝓤 H 𝓜 (tables 𝓤 H 𝓜 𝓡 code.env))
     (cited 𝓤 H (HeadAtSpec 𝓤 H (𝓖 .A) (𝓜 .mem) (𝓡 .run)) 𝓜 𝓡 code.env #table·head-at head-at-def.routine code.calls-table·head-at (head-at-thm.met 𝓤 H 𝓜 𝓖 𝓡))
-    (cited 𝓤 H (HoldsSpec 𝓤 H (𝓖 .A) (𝓜 .mem) (𝓡 .run)) 𝓜 𝓡 code.env #judge·ranges·holds holds-def.routine code.calls-judge·ranges·holds (holds-thm.met 𝓤 H 𝓜 𝓖 𝓡))
-    (cited 𝓤 H (FoundSpec 𝓤 H (𝓖 .A) (𝓜 .mem) (𝓡 .run)) 𝓜 𝓡 code.env #judge·row-parts·found found-def.routine code.calls-judge·row-parts·found (found-thm.met 𝓤 H 𝓜 𝓖 𝓡))
-    (cited 𝓤 H (NothingSpec 𝓤 H (𝓖 .A) (𝓜 .mem) (𝓡 .run)) 𝓜 𝓡 code.env #judge·row-parts·nothing nothing-def.routine code.calls-judge·row-parts·nothing (nothing-thm.met 𝓤 H 𝓜 𝓖 𝓡)))
+    (cited 𝓤 H (HoldsSpec 𝓤 H (𝓖 .A) (𝓜 .mem) (𝓡 .run)) 𝓜 𝓡 code.env #table·ranges·holds holds-def.routine code.calls-table·ranges·holds (holds-thm.met 𝓤 H 𝓜 𝓖 𝓡))
+    (cited 𝓤 H (FoundSpec 𝓤 H (𝓖 .A) (𝓜 .mem) (𝓡 .run)) 𝓜 𝓡 code.env #table·row-parts·found found-def.routine code.calls-table·row-parts·found (found-thm.met 𝓤 H 𝓜 𝓖 𝓡))
+    (cited 𝓤 H (NothingSpec 𝓤 H (𝓖 .A) (𝓜 .mem) (𝓡 .run)) 𝓜 𝓡 code.env #table·row-parts·nothing nothing-def.routine code.calls-table·row-parts·nothing (nothing-thm.met 𝓤 H 𝓜 𝓖 𝓡)))

@@ -3,26 +3,25 @@
 use Rattle.walks.proofs.Walking.{_≡_, refl, subst, Bool, true, false, ℕ, _<_, _≤_, _+_, _^_, List, [], _∷_, lit<, length, getD, w64, Val, vint, vbool, is-true, is-false, URA, fullShare, SProp, emp, id⊢, Lft, GName, Share, ftrue, Memory, Routine, Heap, Env, WpFn, Tables, Atoms, fmOf, Given, Item, Sq, prop, !, ‵, _⊛_, _$_, look, init, store, stop, from, load, lit, true-lit, false-lit, of-opd, bin, and-then, no-more, assigns, land, returns, returns-within, params1, pass1, pass0, free0, Fun, factI, givenOf, tables, tablesOf, bool, u64, usize, yes, uint-vals, uint-tells, bool-makes, plain, Meets, tripleOf, Triple, entered, cited, Loan, Known, shared, sliceOf, enters, used, room, if-else, arg, arg-fits, in-seq}
 use Rattle.arena.proofs.Arena as T-Arena
 use denote.Struct.Laws as LL
-use Rattle.judge.proofs.Head as T-Head
-use Rattle.judge.proofs.Head.Laws as L-Head
+use Rattle.table.proofs.heads.Head as T-Head
+use Rattle.table.proofs.heads.Head.Laws as L-Head
 use Rattle.arena.specs.declared.Arena.{Arena}
 use Rattle.layer.specs.Table.{overlaps, meets}
 use Rattle.arena.specs.ChunkSize.{ChunkSize}
 use Rattle.state.specs.Ready.{SoundArenas}
 use Rattle.layer.specs.World.{blank}
-use Rattle.judge.specs.Heads.{headOf, headed}
-use Rattle.judge.specs.declared.Head.{Head}
+use Rattle.table.specs.Heads.{headOf, headed}
+use Rattle.table.specs.declared.heads.Head.{Head}
 use Rattle.table.proofs.TurnLaws.{Passed, passed-none, passed-more}
 use Rattle.table.proofs.TableLaws.{is-lent, range-at, met, met-by-head, overlap-at, no-overlap}
 use Rattle.walks.proofs.Frame.{DoneS, finishS, shr-meets}
 use Rattle.table.proofs.head_at.Symbol as head-at-def
 use Rattle.table.proofs.head_at.Symbol.{name as #table·head-at}
 use Rattle.table.proofs.head_at.Met as head-at-thm
-use Rattle.judge.proofs.ranges.meets_range.Symbol as meets-range-def
-use Rattle.judge.proofs.ranges.meets_range.Symbol.{name as #judge·ranges·meets-range}
-use Rattle.judge.proofs.ranges.meets_range.Met as meets-range-thm
-use Rattle.table.proofs.Callable.{HeadAtSpec, head-at-pass}
-use Rattle.judge.proofs.Callable.{MeetsRangeSpec, meets-range-step}
+use Rattle.table.proofs.ranges.meets_range.Symbol as meets-range-def
+use Rattle.table.proofs.ranges.meets_range.Symbol.{name as #table·ranges·meets-range}
+use Rattle.table.proofs.ranges.meets_range.Met as meets-range-thm
+use Rattle.table.proofs.Callable.{HeadAtSpec, MeetsRangeSpec, head-at-pass, meets-range-step}
 use Rattle.table.proofs.overlaps_one.Key.{name as #table·overlaps-one}
 use Rattle.table.proofs.overlaps_one as overlaps-one′
 use Rattle.table.proofs.overlaps_one.Statement as stated
@@ -42,7 +41,7 @@ use Rattle.table.proofs.overlaps_one.Code.Mir.{turn-1, t-3}
 
 module _ {M : Type 1} (𝓤 : URA M) (H : Heap 𝓤) (A : Atoms 𝓤) (W : Given 𝓤 H A) (mem : Memory → SProp 𝓤) (run : Routine → Fun 𝓤) (𝓣 : Tables 𝓤 H)
     (known-head-at : Triple 𝓤 (𝓣 .C #table·head-at) (HeadAtSpec 𝓤 H A mem run))
-    (known-meets-range : Triple 𝓤 (𝓣 .C #judge·ranges·meets-range) (MeetsRangeSpec 𝓤 H A mem run)) where
+    (known-meets-range : Triple 𝓤 (𝓣 .C #table·ranges·meets-range) (MeetsRangeSpec 𝓤 H A mem run)) where
   module _ (κ-records : Lft) (q-records : Share) (γ-records : GName) (b-records : ℕ) (o-records : ℕ) (records : List Arena) (k : ℕ) (chunk-size : ℕ) (base : ℕ) (bytes : ℕ) where
     abbrev L-records : Loan
     L-records = record { κ = κ-records; q = q-records; γ = γ-records; b = b-records; o = o-records; n = length records }
@@ -121,4 +120,4 @@ overlaps-one-spec 𝓤 H 𝓜 𝓖 𝓡 =
     (tables 𝓤 H 𝓜 𝓡 code.env .C) (tables 𝓤 H 𝓜 𝓡 code.env .Λ) #table·overlaps-one code.function (code.unfolded 𝓤 H 𝓜 𝓡)
     (overlaps-one-meets 𝓤 H (𝓖 .A) (givenOf 𝓤 H 𝓜 𝓖) (𝓜 .mem) (𝓡 .run) (tablesOf 𝓤 H 𝓜 (tables 𝓤 H 𝓜 𝓡 code.env))
     (cited 𝓤 H (HeadAtSpec 𝓤 H (𝓖 .A) (𝓜 .mem) (𝓡 .run)) 𝓜 𝓡 code.env #table·head-at head-at-def.routine code.calls-table·head-at (head-at-thm.met 𝓤 H 𝓜 𝓖 𝓡))
-    (cited 𝓤 H (MeetsRangeSpec 𝓤 H (𝓖 .A) (𝓜 .mem) (𝓡 .run)) 𝓜 𝓡 code.env #judge·ranges·meets-range meets-range-def.routine code.calls-judge·ranges·meets-range (meets-range-thm.met 𝓤 H 𝓜 𝓖 𝓡)))
+    (cited 𝓤 H (MeetsRangeSpec 𝓤 H (𝓖 .A) (𝓜 .mem) (𝓡 .run)) 𝓜 𝓡 code.env #table·ranges·meets-range meets-range-def.routine code.calls-table·ranges·meets-range (meets-range-thm.met 𝓤 H 𝓜 𝓖 𝓡)))

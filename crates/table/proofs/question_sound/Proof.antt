@@ -6,66 +6,64 @@ use Rattle.layer.proofs.Question.Laws as L-Question
 use denote.Enum.Laws as EL
 use Rattle.arena.proofs.Arena as T-Arena
 use denote.Struct.Laws as LL
-use Rattle.judge.proofs.Head as T-Head
-use Rattle.judge.proofs.Head.Laws as L-Head
+use Rattle.table.proofs.heads.Head as T-Head
+use Rattle.table.proofs.heads.Head.Laws as L-Head
 use Rattle.layer.specs.declared.Question.{Question}
 use Rattle.arena.specs.declared.Arena.{Arena}
 use Rattle.layer.specs.Table.{at, askedId, soundQuestion}
-use Rattle.judge.specs.Questions.{aboutNone, firstAsked, lengthAsked, soundCount}
+use Rattle.table.specs.Questions.{aboutNone, firstAsked, lengthAsked, soundCount}
 use Rattle.layer.specs.World.{blank}
-use Rattle.judge.specs.Heads.{headOf}
-use Rattle.words.specs.Bits.{bitAt}
-use Rattle.runs.specs.Lowest.{all}
-use Rattle.judge.specs.declared.Head.{Head}
+use Rattle.table.specs.Heads.{headOf}
+use Rattle.bitmap.specs.Bits.{bitAt}
+use Rattle.bitmap.specs.Lowest.{all}
+use Rattle.table.specs.declared.heads.Head.{Head}
 use borrow.Author.Tests.{ltb-true}
-use Rattle.judge.proofs.open_question.QuestionLaws.{none-sound}
+use Rattle.table.proofs.open_question.QuestionLaws.{none-sound}
 use Rattle.table.proofs.TableLaws.{is-lent, not-registered, not-within, not-used, count-decides, run-within, asked-low, first-low}
 use Rattle.walks.proofs.Frame.{DoneS, finishS, shr-meets}
-use Rattle.judge.proofs.open_question.is_about_none.Symbol as is-about-none-def
-use Rattle.judge.proofs.open_question.is_about_none.Symbol.{name as #judge·open-question·is-about-none}
-use Rattle.judge.proofs.open_question.is_about_none.Met as is-about-none-thm
-use Rattle.judge.proofs.open_question.asked_id.Symbol as asked-id-def
-use Rattle.judge.proofs.open_question.asked_id.Symbol.{name as #judge·open-question·asked-id}
-use Rattle.judge.proofs.open_question.asked_id.Met as asked-id-thm
-use Rattle.judge.proofs.open_question.is_registered.Symbol as is-registered-def
-use Rattle.judge.proofs.open_question.is_registered.Symbol.{name as #judge·open-question·is-registered}
-use Rattle.judge.proofs.open_question.is_registered.Met as is-registered-thm
+use Rattle.table.proofs.open_question.is_about_none.Symbol as is-about-none-def
+use Rattle.table.proofs.open_question.is_about_none.Symbol.{name as #table·open-question·is-about-none}
+use Rattle.table.proofs.open_question.is_about_none.Met as is-about-none-thm
+use Rattle.table.proofs.open_question.asked_id.Symbol as asked-id-def
+use Rattle.table.proofs.open_question.asked_id.Symbol.{name as #table·open-question·asked-id}
+use Rattle.table.proofs.open_question.asked_id.Met as asked-id-thm
+use Rattle.table.proofs.open_question.is_registered.Symbol as is-registered-def
+use Rattle.table.proofs.open_question.is_registered.Symbol.{name as #table·open-question·is-registered}
+use Rattle.table.proofs.open_question.is_registered.Met as is-registered-thm
 use Rattle.table.proofs.head_at.Symbol as head-at-def
 use Rattle.table.proofs.head_at.Symbol.{name as #table·head-at}
 use Rattle.table.proofs.head_at.Met as head-at-thm
-use Rattle.judge.proofs.open_question.first_asked.Symbol as first-asked-def
-use Rattle.judge.proofs.open_question.first_asked.Symbol.{name as #judge·open-question·first-asked}
-use Rattle.judge.proofs.open_question.first_asked.Met as first-asked-thm
-use Rattle.judge.proofs.open_question.length_asked.Symbol as length-asked-def
-use Rattle.judge.proofs.open_question.length_asked.Symbol.{name as #judge·open-question·length-asked}
-use Rattle.judge.proofs.open_question.length_asked.Met as length-asked-thm
-use Rattle.judge.proofs.open_question.is_within.Symbol as is-within-def
-use Rattle.judge.proofs.open_question.is_within.Symbol.{name as #judge·open-question·is-within}
-use Rattle.judge.proofs.open_question.is_within.Met as is-within-thm
-use Rattle.records.proofs.run_maps.used_at.Symbol as used-at-def
-use Rattle.records.proofs.run_maps.used_at.Symbol.{name as #records·run-maps·used-at}
-use Rattle.records.proofs.run_maps.used_at.Met as used-at-thm
-use Rattle.judge.proofs.open_question.count_is_sound.Symbol as count-is-sound-def
-use Rattle.judge.proofs.open_question.count_is_sound.Symbol.{name as #judge·open-question·count-is-sound}
-use Rattle.judge.proofs.open_question.count_is_sound.Met as count-is-sound-thm
-use Rattle.judge.proofs.Callable.{IsAboutNoneSpec, AskedIdSpec, IsRegisteredSpec, FirstAskedSpec, LengthAskedSpec, IsWithinSpec, CountIsSoundSpec, is-about-none-step, asked-id-step, is-registered-step, first-asked-step, length-asked-step, is-within-step, count-is-sound-step}
-use Rattle.table.proofs.Callable.{HeadAtSpec, head-at-pass}
-use Rattle.records.proofs.Callable.{UsedAtSpec, used-at-pass}
+use Rattle.table.proofs.open_question.first_asked.Symbol as first-asked-def
+use Rattle.table.proofs.open_question.first_asked.Symbol.{name as #table·open-question·first-asked}
+use Rattle.table.proofs.open_question.first_asked.Met as first-asked-thm
+use Rattle.table.proofs.open_question.length_asked.Symbol as length-asked-def
+use Rattle.table.proofs.open_question.length_asked.Symbol.{name as #table·open-question·length-asked}
+use Rattle.table.proofs.open_question.length_asked.Met as length-asked-thm
+use Rattle.table.proofs.open_question.is_within.Symbol as is-within-def
+use Rattle.table.proofs.open_question.is_within.Symbol.{name as #table·open-question·is-within}
+use Rattle.table.proofs.open_question.is_within.Met as is-within-thm
+use Rattle.table.proofs.run_maps.used_at.Symbol as used-at-def
+use Rattle.table.proofs.run_maps.used_at.Symbol.{name as #table·run-maps·used-at}
+use Rattle.table.proofs.run_maps.used_at.Met as used-at-thm
+use Rattle.table.proofs.open_question.count_is_sound.Symbol as count-is-sound-def
+use Rattle.table.proofs.open_question.count_is_sound.Symbol.{name as #table·open-question·count-is-sound}
+use Rattle.table.proofs.open_question.count_is_sound.Met as count-is-sound-thm
+use Rattle.table.proofs.Callable.{IsAboutNoneSpec, AskedIdSpec, IsRegisteredSpec, HeadAtSpec, FirstAskedSpec, LengthAskedSpec, IsWithinSpec, UsedAtSpec, CountIsSoundSpec, is-about-none-step, asked-id-step, is-registered-step, head-at-pass, first-asked-step, length-asked-step, is-within-step, used-at-pass, count-is-sound-step}
 use Rattle.table.proofs.question_sound.Key.{name as #table·question-sound}
 use Rattle.table.proofs.question_sound as question-sound′
 use Rattle.table.proofs.question_sound.Statement as stated
 use Rattle.table.proofs.question_sound.Code as code
 
 module _ {M : Type 1} (𝓤 : URA M) (H : Heap 𝓤) (A : Atoms 𝓤) (W : Given 𝓤 H A) (mem : Memory → SProp 𝓤) (run : Routine → Fun 𝓤) (𝓣 : Tables 𝓤 H)
-    (known-is-about-none : Triple 𝓤 (𝓣 .C #judge·open-question·is-about-none) (IsAboutNoneSpec 𝓤 H A mem run))
-    (known-asked-id : Triple 𝓤 (𝓣 .C #judge·open-question·asked-id) (AskedIdSpec 𝓤 H A mem run))
-    (known-is-registered : Triple 𝓤 (𝓣 .C #judge·open-question·is-registered) (IsRegisteredSpec 𝓤 H A mem run))
+    (known-is-about-none : Triple 𝓤 (𝓣 .C #table·open-question·is-about-none) (IsAboutNoneSpec 𝓤 H A mem run))
+    (known-asked-id : Triple 𝓤 (𝓣 .C #table·open-question·asked-id) (AskedIdSpec 𝓤 H A mem run))
+    (known-is-registered : Triple 𝓤 (𝓣 .C #table·open-question·is-registered) (IsRegisteredSpec 𝓤 H A mem run))
     (known-head-at : Triple 𝓤 (𝓣 .C #table·head-at) (HeadAtSpec 𝓤 H A mem run))
-    (known-first-asked : Triple 𝓤 (𝓣 .C #judge·open-question·first-asked) (FirstAskedSpec 𝓤 H A mem run))
-    (known-length-asked : Triple 𝓤 (𝓣 .C #judge·open-question·length-asked) (LengthAskedSpec 𝓤 H A mem run))
-    (known-is-within : Triple 𝓤 (𝓣 .C #judge·open-question·is-within) (IsWithinSpec 𝓤 H A mem run))
-    (known-used-at : Triple 𝓤 (𝓣 .C #records·run-maps·used-at) (UsedAtSpec 𝓤 H A mem run))
-    (known-count-is-sound : Triple 𝓤 (𝓣 .C #judge·open-question·count-is-sound) (CountIsSoundSpec 𝓤 H A mem run)) where
+    (known-first-asked : Triple 𝓤 (𝓣 .C #table·open-question·first-asked) (FirstAskedSpec 𝓤 H A mem run))
+    (known-length-asked : Triple 𝓤 (𝓣 .C #table·open-question·length-asked) (LengthAskedSpec 𝓤 H A mem run))
+    (known-is-within : Triple 𝓤 (𝓣 .C #table·open-question·is-within) (IsWithinSpec 𝓤 H A mem run))
+    (known-used-at : Triple 𝓤 (𝓣 .C #table·run-maps·used-at) (UsedAtSpec 𝓤 H A mem run))
+    (known-count-is-sound : Triple 𝓤 (𝓣 .C #table·open-question·count-is-sound) (CountIsSoundSpec 𝓤 H A mem run)) where
   module _ (κ-records : Lft) (q-records : Share) (γ-records : GName) (b-records : ℕ) (o-records : ℕ) (records : List Arena) (count : ℕ) (question : Question) where
     abbrev L-records : Loan
     L-records = record { κ = κ-records; q = q-records; γ = γ-records; b = b-records; o = o-records; n = length records }
@@ -188,12 +186,12 @@ question-sound-spec 𝓤 H 𝓜 𝓖 𝓡 =
     entered 𝓤 H (tripleOf 𝓤 H (𝓖 .A) question-sound′.signature (question-sound′.spec 𝓤 H (𝓖 .A) (𝓜 .mem) (𝓡 .run)))
     (tables 𝓤 H 𝓜 𝓡 code.env .C) (tables 𝓤 H 𝓜 𝓡 code.env .Λ) #table·question-sound code.function (code.unfolded 𝓤 H 𝓜 𝓡)
     (question-sound-meets 𝓤 H (𝓖 .A) (givenOf 𝓤 H 𝓜 𝓖) (𝓜 .mem) (𝓡 .run) (tablesOf 𝓤 H 𝓜 (tables 𝓤 H 𝓜 𝓡 code.env))
-    (cited 𝓤 H (IsAboutNoneSpec 𝓤 H (𝓖 .A) (𝓜 .mem) (𝓡 .run)) 𝓜 𝓡 code.env #judge·open-question·is-about-none is-about-none-def.routine code.calls-judge·open-question·is-about-none (is-about-none-thm.met 𝓤 H 𝓜 𝓖 𝓡))
-    (cited 𝓤 H (AskedIdSpec 𝓤 H (𝓖 .A) (𝓜 .mem) (𝓡 .run)) 𝓜 𝓡 code.env #judge·open-question·asked-id asked-id-def.routine code.calls-judge·open-question·asked-id (asked-id-thm.met 𝓤 H 𝓜 𝓖 𝓡))
-    (cited 𝓤 H (IsRegisteredSpec 𝓤 H (𝓖 .A) (𝓜 .mem) (𝓡 .run)) 𝓜 𝓡 code.env #judge·open-question·is-registered is-registered-def.routine code.calls-judge·open-question·is-registered (is-registered-thm.met 𝓤 H 𝓜 𝓖 𝓡))
+    (cited 𝓤 H (IsAboutNoneSpec 𝓤 H (𝓖 .A) (𝓜 .mem) (𝓡 .run)) 𝓜 𝓡 code.env #table·open-question·is-about-none is-about-none-def.routine code.calls-table·open-question·is-about-none (is-about-none-thm.met 𝓤 H 𝓜 𝓖 𝓡))
+    (cited 𝓤 H (AskedIdSpec 𝓤 H (𝓖 .A) (𝓜 .mem) (𝓡 .run)) 𝓜 𝓡 code.env #table·open-question·asked-id asked-id-def.routine code.calls-table·open-question·asked-id (asked-id-thm.met 𝓤 H 𝓜 𝓖 𝓡))
+    (cited 𝓤 H (IsRegisteredSpec 𝓤 H (𝓖 .A) (𝓜 .mem) (𝓡 .run)) 𝓜 𝓡 code.env #table·open-question·is-registered is-registered-def.routine code.calls-table·open-question·is-registered (is-registered-thm.met 𝓤 H 𝓜 𝓖 𝓡))
     (cited 𝓤 H (HeadAtSpec 𝓤 H (𝓖 .A) (𝓜 .mem) (𝓡 .run)) 𝓜 𝓡 code.env #table·head-at head-at-def.routine code.calls-table·head-at (head-at-thm.met 𝓤 H 𝓜 𝓖 𝓡))
-    (cited 𝓤 H (FirstAskedSpec 𝓤 H (𝓖 .A) (𝓜 .mem) (𝓡 .run)) 𝓜 𝓡 code.env #judge·open-question·first-asked first-asked-def.routine code.calls-judge·open-question·first-asked (first-asked-thm.met 𝓤 H 𝓜 𝓖 𝓡))
-    (cited 𝓤 H (LengthAskedSpec 𝓤 H (𝓖 .A) (𝓜 .mem) (𝓡 .run)) 𝓜 𝓡 code.env #judge·open-question·length-asked length-asked-def.routine code.calls-judge·open-question·length-asked (length-asked-thm.met 𝓤 H 𝓜 𝓖 𝓡))
-    (cited 𝓤 H (IsWithinSpec 𝓤 H (𝓖 .A) (𝓜 .mem) (𝓡 .run)) 𝓜 𝓡 code.env #judge·open-question·is-within is-within-def.routine code.calls-judge·open-question·is-within (is-within-thm.met 𝓤 H 𝓜 𝓖 𝓡))
-    (cited 𝓤 H (UsedAtSpec 𝓤 H (𝓖 .A) (𝓜 .mem) (𝓡 .run)) 𝓜 𝓡 code.env #records·run-maps·used-at used-at-def.routine code.calls-records·run-maps·used-at (used-at-thm.met 𝓤 H 𝓜 𝓖 𝓡))
-    (cited 𝓤 H (CountIsSoundSpec 𝓤 H (𝓖 .A) (𝓜 .mem) (𝓡 .run)) 𝓜 𝓡 code.env #judge·open-question·count-is-sound count-is-sound-def.routine code.calls-judge·open-question·count-is-sound (count-is-sound-thm.met 𝓤 H 𝓜 𝓖 𝓡)))
+    (cited 𝓤 H (FirstAskedSpec 𝓤 H (𝓖 .A) (𝓜 .mem) (𝓡 .run)) 𝓜 𝓡 code.env #table·open-question·first-asked first-asked-def.routine code.calls-table·open-question·first-asked (first-asked-thm.met 𝓤 H 𝓜 𝓖 𝓡))
+    (cited 𝓤 H (LengthAskedSpec 𝓤 H (𝓖 .A) (𝓜 .mem) (𝓡 .run)) 𝓜 𝓡 code.env #table·open-question·length-asked length-asked-def.routine code.calls-table·open-question·length-asked (length-asked-thm.met 𝓤 H 𝓜 𝓖 𝓡))
+    (cited 𝓤 H (IsWithinSpec 𝓤 H (𝓖 .A) (𝓜 .mem) (𝓡 .run)) 𝓜 𝓡 code.env #table·open-question·is-within is-within-def.routine code.calls-table·open-question·is-within (is-within-thm.met 𝓤 H 𝓜 𝓖 𝓡))
+    (cited 𝓤 H (UsedAtSpec 𝓤 H (𝓖 .A) (𝓜 .mem) (𝓡 .run)) 𝓜 𝓡 code.env #table·run-maps·used-at used-at-def.routine code.calls-table·run-maps·used-at (used-at-thm.met 𝓤 H 𝓜 𝓖 𝓡))
+    (cited 𝓤 H (CountIsSoundSpec 𝓤 H (𝓖 .A) (𝓜 .mem) (𝓡 .run)) 𝓜 𝓡 code.env #table·open-question·count-is-sound count-is-sound-def.routine code.calls-table·open-question·count-is-sound (count-is-sound-thm.met 𝓤 H 𝓜 𝓖 𝓡)))

@@ -1,6 +1,6 @@
 -- `table::row_one` meets its contract: a walk of its MIR. Lengths, page and count; the arenas; the open question.
 -- Written by tools/walks. Assumes nothing.
-use Rattle.walks.proofs.Walking.{_≡_, refl, Bool, false, ℕ, _<_, _^_, List, [], _∷_, eqb, leb, length, w64, Val, vint, vbool, T-not-not, is-true, is-false, URA, SProp, emp, id⊢, Lft, GName, Share, ftrue, Memory, Routine, Heap, WpFn, Tables, Atoms, fmOf, Given, Sq, prop, !, ‵, _⊛_, _$_, whole, sub, look-in, look, init, store, stop, fld, from, load, false-lit, of-opd, un, and-then, no-more, assigns, land, returns, returns-within, params1, pass1, pass0, free0, Fun, factI, givenOf, tables, tablesOf, bool, u64, usize, yes, Is, uint-vals, uint-tells, bool-makes, plain, Meets, tripleOf, Triple, entered, cited, Loan, Known, shared, sliceOf, enters, used, room, if-else, arg, arg-fits, in-seq}
+use Rattle.walks.proofs.Walking.{_≡_, refl, Bool, false, ℕ, _<_, _^_, List, [], _∷_, eqb, leb, length, w64, Val, vint, vbool, T-not-not, is-true, is-false, URA, SProp, emp, id⊢, Lft, GName, Share, ftrue, Memory, Routine, Heap, WpFn, Tables, Atoms, fmOf, Given, Sq, prop, !, ‵, _⊛_, _$_, whole, sub, look-in, look, init, store, stop, fld, from, load, false-lit, of-opd, un, and-then, no-more, assigns, land, returns, returns-within, params1, pass1, pass0, free0, Fun, factI, givenOf, tables, tablesOf, bool, u64, usize, yes, Is, uint-vals, uint-tells, bool-makes, plain, Meets, tripleOf, Triple, entered, cited, Loan, Known, shared, sliceOf, enters, used, room, if-else, arg, arg-fits, entry-fits, in-seq}
 use Rattle.layer.proofs.State as T-State
 use Rattle.layer.proofs.State.Laws as L-State
 use denote.Struct.Laws as LL
@@ -14,17 +14,14 @@ use Rattle.layer.specs.Table.{soundLent, at, apart, askedId, soundQuestion}
 use Rattle.arena.specs.ChunkSize.{ChunkSize}
 use mathlib.Core.Bool.{_&&_}
 use Rattle.options.specs.Options.{pageSizeSound}
-use Rattle.runs.specs.Lowest.{all}
-use Rattle.lookup.specs.Soundness.{soundArena}
+use Rattle.bitmap.specs.Lowest.{all}
+use Rattle.arena.specs.Soundness.{soundArena}
 use Rattle.layer.specs.declared.Question.{Question}
 use Rattle.table.proofs.TableLaws.{lengths-wrong, lent-32, all-lent, arenas-wrong, question-decides, few-each}
 use Rattle.walks.proofs.Frame.{DoneS, finishS, shr-meets}
-use Rattle.state.proofs.count_of.Symbol as count-of-def
-use Rattle.state.proofs.count_of.Symbol.{name as #state·count-of}
-use Rattle.state.proofs.count_of.Met as count-of-thm
-use Rattle.judge.proofs.row_parts.lent_sound.Symbol as lent-sound-def
-use Rattle.judge.proofs.row_parts.lent_sound.Symbol.{name as #judge·row-parts·lent-sound}
-use Rattle.judge.proofs.row_parts.lent_sound.Met as lent-sound-thm
+use Rattle.table.proofs.row_parts.lent_sound.Symbol as lent-sound-def
+use Rattle.table.proofs.row_parts.lent_sound.Symbol.{name as #table·row-parts·lent-sound}
+use Rattle.table.proofs.row_parts.lent_sound.Met as lent-sound-thm
 use Rattle.table.proofs.arenas_sound.Symbol as arenas-sound-def
 use Rattle.table.proofs.arenas_sound.Symbol.{name as #table·arenas-sound}
 use Rattle.table.proofs.arenas_sound.Met as arenas-sound-thm
@@ -34,17 +31,15 @@ use Rattle.state.proofs.question_of.Met as question-of-thm
 use Rattle.table.proofs.question_sound.Symbol as question-sound-def
 use Rattle.table.proofs.question_sound.Symbol.{name as #table·question-sound}
 use Rattle.table.proofs.question_sound.Met as question-sound-thm
-use Rattle.state.proofs.Callable.{CountOfSpec, QuestionOfSpec, count-of-step, question-of-step}
-use Rattle.judge.proofs.Callable.{LentSoundSpec, lent-sound-step}
-use Rattle.table.proofs.Callable.{ArenasSoundSpec, QuestionSoundSpec, arenas-sound-pass, question-sound-pass}
+use Rattle.table.proofs.Callable.{LentSoundSpec, ArenasSoundSpec, QuestionSoundSpec, lent-sound-step, arenas-sound-pass, question-sound-pass}
+use Rattle.state.proofs.Callable.{QuestionOfSpec, question-of-step}
 use Rattle.table.proofs.row_one.Key.{name as #table·row-one}
 use Rattle.table.proofs.row_one as row-one′
 use Rattle.table.proofs.row_one.Statement as stated
 use Rattle.table.proofs.row_one.Code as code
 
 module _ {M : Type 1} (𝓤 : URA M) (H : Heap 𝓤) (A : Atoms 𝓤) (W : Given 𝓤 H A) (mem : Memory → SProp 𝓤) (run : Routine → Fun 𝓤) (𝓣 : Tables 𝓤 H)
-    (known-count-of : Triple 𝓤 (𝓣 .C #state·count-of) (CountOfSpec 𝓤 H A mem run))
-    (known-lent-sound : Triple 𝓤 (𝓣 .C #judge·row-parts·lent-sound) (LentSoundSpec 𝓤 H A mem run))
+    (known-lent-sound : Triple 𝓤 (𝓣 .C #table·row-parts·lent-sound) (LentSoundSpec 𝓤 H A mem run))
     (known-arenas-sound : Triple 𝓤 (𝓣 .C #table·arenas-sound) (ArenasSoundSpec 𝓤 H A mem run))
     (known-question-of : Triple 𝓤 (𝓣 .C #state·question-of) (QuestionOfSpec 𝓤 H A mem run))
     (known-question-sound : Triple 𝓤 (𝓣 .C #table·question-sound) (QuestionSoundSpec 𝓤 H A mem run)) where
@@ -65,7 +60,7 @@ module _ {M : Type 1} (𝓤 : URA M) (H : Heap 𝓤) (A : Atoms 𝓤) (W : Given
     Post = DoneS 𝓤 H A T-Arena.the-row L-records bool records χ
 
     abbrev count : ℕ
-    count = state .count
+    count = (state .count)
 
     abbrev t8 : Bool
     t8 = (eqb (length records) 32 && (eqb stamps 32768 && (pageSizeSound page && leb count 32)))
@@ -83,9 +78,8 @@ module _ {M : Type 1} (𝓤 : URA M) (H : Heap 𝓤) (A : Atoms 𝓤) (W : Given
     walk known-records f-stamps g-state f-page f-chunk-size need =
         enters ! code.function (λ bs. params1 ! $
         pass1 ! (init ! 3 refl (tt, (tt, (record { fits = known-records .1 .0 }, tt)))) $ pass1 ! (init ! 5 refl (tt, record { fits = f-stamps })) $ pass1 ! (init ! 7 refl (LL.lawful T-State.the-type L-State.the-laws 𝓤 H A W .typed state (v-state ∷ []) g-state .0)) $ pass1 ! (init ! 9 refl (tt, record { fits = f-page })) $ pass1 ! (init ! 11 refl (tt, record { fits = f-chunk-size })) $ pass0 ! $
-        count-of-step ! (in-seq ! (fmOf 𝓤 H (W .laws) 𝓣)) mem run known-count-of state v-state g-state
-        (λ _. and-then ! (arg ! refl) (no-more !)) (λ f-count.
-        land ! (from ! (stop !)) (init ! 13 refl (tt, record { fits = f-count })) $
+        entry-fits ! 7 refl (λ w6. let f-count : (state .count) < 2 ^ 64 = (w6 .0 .fits) in
+        assigns ! (of-opd ! (load ! (from ! (fld ! refl (stop !))) (look-in ! 7 (sub ! 0 refl (whole !))))) (from ! (stop !)) (init ! 13 refl (tt, record { fits = f-count })) $
         assigns ! (of-opd ! (load ! (from ! (fld ! refl (stop !))) (look-in ! 3 (sub ! 1 refl (whole !))))) (from ! (stop !)) (init ! 19 refl (tt, record { fits = known-records .1 .0 })) $
         arg-fits ! 0 refl (λ f8-1. arg-fits ! 1 refl (λ f8-2. arg-fits ! 2 refl (λ f8-3. arg-fits ! 3 refl (λ f8-4.
         lent-sound-step ! (in-seq ! (fmOf 𝓤 H (W .laws) 𝓣)) mem run known-lent-sound _ (f8-1 .fits) _ (f8-2 .fits) _ (f8-3 .fits) _ (f8-4 .fits)
@@ -133,8 +127,7 @@ row-one-spec 𝓤 H 𝓜 𝓖 𝓡 =
     entered 𝓤 H (tripleOf 𝓤 H (𝓖 .A) row-one′.signature (row-one′.spec 𝓤 H (𝓖 .A) (𝓜 .mem) (𝓡 .run)))
     (tables 𝓤 H 𝓜 𝓡 code.env .C) (tables 𝓤 H 𝓜 𝓡 code.env .Λ) #table·row-one code.function (code.unfolded 𝓤 H 𝓜 𝓡)
     (row-one-meets 𝓤 H (𝓖 .A) (givenOf 𝓤 H 𝓜 𝓖) (𝓜 .mem) (𝓡 .run) (tablesOf 𝓤 H 𝓜 (tables 𝓤 H 𝓜 𝓡 code.env))
-    (cited 𝓤 H (CountOfSpec 𝓤 H (𝓖 .A) (𝓜 .mem) (𝓡 .run)) 𝓜 𝓡 code.env #state·count-of count-of-def.routine code.calls-state·count-of (count-of-thm.met 𝓤 H 𝓜 𝓖 𝓡))
-    (cited 𝓤 H (LentSoundSpec 𝓤 H (𝓖 .A) (𝓜 .mem) (𝓡 .run)) 𝓜 𝓡 code.env #judge·row-parts·lent-sound lent-sound-def.routine code.calls-judge·row-parts·lent-sound (lent-sound-thm.met 𝓤 H 𝓜 𝓖 𝓡))
+    (cited 𝓤 H (LentSoundSpec 𝓤 H (𝓖 .A) (𝓜 .mem) (𝓡 .run)) 𝓜 𝓡 code.env #table·row-parts·lent-sound lent-sound-def.routine code.calls-table·row-parts·lent-sound (lent-sound-thm.met 𝓤 H 𝓜 𝓖 𝓡))
     (cited 𝓤 H (ArenasSoundSpec 𝓤 H (𝓖 .A) (𝓜 .mem) (𝓡 .run)) 𝓜 𝓡 code.env #table·arenas-sound arenas-sound-def.routine code.calls-table·arenas-sound (arenas-sound-thm.met 𝓤 H 𝓜 𝓖 𝓡))
     (cited 𝓤 H (QuestionOfSpec 𝓤 H (𝓖 .A) (𝓜 .mem) (𝓡 .run)) 𝓜 𝓡 code.env #state·question-of question-of-def.routine code.calls-state·question-of (question-of-thm.met 𝓤 H 𝓜 𝓖 𝓡))
     (cited 𝓤 H (QuestionSoundSpec 𝓤 H (𝓖 .A) (𝓜 .mem) (𝓡 .run)) 𝓜 𝓡 code.env #table·question-sound question-sound-def.routine code.calls-table·question-sound (question-sound-thm.met 𝓤 H 𝓜 𝓖 𝓡)))

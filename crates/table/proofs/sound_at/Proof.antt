@@ -1,43 +1,42 @@
 -- `table::sound_at` meets its contract: a walk of its MIR. By the range that the head has, and by the maps where they have a tail.
 -- Written by tools/walks. Assumes nothing.
 use Rattle.walks.proofs.Walking.{_≡_, refl, Bool, true, false, ℕ, _<_, _^_, List, [], _∷_, leb, length, getD, w64, Val, vint, vbool, T-not-not, is-true, is-false, URA, SProp, emp, id⊢, Lft, GName, Share, ftrue, Memory, Routine, Heap, WpFn, Tables, Atoms, fmOf, Given, Sq, prop, !, ‵, _⊛_, _$_, look, init, stop, from, true-lit, false-lit, of-opd, un, and-then, no-more, assigns, land, returns, returns-within, params1, pass1, pass0, free0, Fun, factI, givenOf, tables, tablesOf, bool, u64, usize, yes, Is, uint-vals, uint-tells, bool-makes, plain, Meets, tripleOf, Triple, entered, cited, Loan, Known, shared, sliceOf, enters, used, room, if-else, arg, arg-fits, in-seq}
-use Rattle.judge.proofs.Head as T-Head
-use Rattle.judge.proofs.Head.Laws as L-Head
+use Rattle.table.proofs.heads.Head as T-Head
+use Rattle.table.proofs.heads.Head.Laws as L-Head
 use denote.Struct.Laws as LL
 use Rattle.arena.proofs.Arena as T-Arena
-use Rattle.judge.specs.declared.Head.{Head}
+use Rattle.table.specs.declared.heads.Head.{Head}
 use Rattle.arena.specs.declared.Arena.{Arena}
-use Rattle.lookup.specs.Soundness.{soundArena, soundRange, clearPastAll}
+use Rattle.arena.specs.Soundness.{soundArena, soundRange, clearPastAll}
 use Rattle.layer.specs.Table.{at}
 use Rattle.arena.specs.ChunkSize.{ChunkSize}
-use Rattle.judge.specs.Heads.{headOf}
+use Rattle.table.specs.Heads.{headOf}
 use Rattle.layer.specs.World.{blank}
 use Rattle.table.proofs.TableLaws.{no-range, full-sound, has-tail, chunks-too, tails-decide}
 use Rattle.walks.proofs.Frame.{DoneS, finishS, shr-meets}
-use Rattle.judge.proofs.ranges.is_sound.Symbol as is-sound-def
-use Rattle.judge.proofs.ranges.is_sound.Symbol.{name as #judge·ranges·is-sound}
-use Rattle.judge.proofs.ranges.is_sound.Met as is-sound-thm
-use Rattle.judge.proofs.ranges.is_full.Symbol as is-full-def
-use Rattle.judge.proofs.ranges.is_full.Symbol.{name as #judge·ranges·is-full}
-use Rattle.judge.proofs.ranges.is_full.Met as is-full-thm
-use Rattle.judge.proofs.chunks_of.Symbol as chunks-of-def
-use Rattle.judge.proofs.chunks_of.Symbol.{name as #judge·chunks-of}
-use Rattle.judge.proofs.chunks_of.Met as chunks-of-thm
-use Rattle.records.proofs.maps.tails_clear_at.Symbol as tails-clear-at-def
-use Rattle.records.proofs.maps.tails_clear_at.Symbol.{name as #records·maps·tails-clear-at}
-use Rattle.records.proofs.maps.tails_clear_at.Met as tails-clear-at-thm
-use Rattle.judge.proofs.Callable.{IsSoundSpec, IsFullSpec, ChunksOfSpec, is-sound-step, is-full-step, chunks-of-step}
-use Rattle.records.proofs.Callable.{TailsClearAtSpec, tails-clear-at-pass}
+use Rattle.table.proofs.ranges.is_sound.Symbol as is-sound-def
+use Rattle.table.proofs.ranges.is_sound.Symbol.{name as #table·ranges·is-sound}
+use Rattle.table.proofs.ranges.is_sound.Met as is-sound-thm
+use Rattle.table.proofs.ranges.is_full.Symbol as is-full-def
+use Rattle.table.proofs.ranges.is_full.Symbol.{name as #table·ranges·is-full}
+use Rattle.table.proofs.ranges.is_full.Met as is-full-thm
+use Rattle.table.proofs.heads.chunks_of.Symbol as chunks-of-def
+use Rattle.table.proofs.heads.chunks_of.Symbol.{name as #table·heads·chunks-of}
+use Rattle.table.proofs.heads.chunks_of.Met as chunks-of-thm
+use Rattle.table.proofs.maps.tails_clear_at.Symbol as tails-clear-at-def
+use Rattle.table.proofs.maps.tails_clear_at.Symbol.{name as #table·maps·tails-clear-at}
+use Rattle.table.proofs.maps.tails_clear_at.Met as tails-clear-at-thm
+use Rattle.table.proofs.Callable.{IsSoundSpec, IsFullSpec, ChunksOfSpec, TailsClearAtSpec, is-sound-step, is-full-step, chunks-of-step, tails-clear-at-pass}
 use Rattle.table.proofs.sound_at.Key.{name as #table·sound-at}
 use Rattle.table.proofs.sound_at as sound-at′
 use Rattle.table.proofs.sound_at.Statement as stated
 use Rattle.table.proofs.sound_at.Code as code
 
 module _ {M : Type 1} (𝓤 : URA M) (H : Heap 𝓤) (A : Atoms 𝓤) (W : Given 𝓤 H A) (mem : Memory → SProp 𝓤) (run : Routine → Fun 𝓤) (𝓣 : Tables 𝓤 H)
-    (known-is-sound : Triple 𝓤 (𝓣 .C #judge·ranges·is-sound) (IsSoundSpec 𝓤 H A mem run))
-    (known-is-full : Triple 𝓤 (𝓣 .C #judge·ranges·is-full) (IsFullSpec 𝓤 H A mem run))
-    (known-chunks-of : Triple 𝓤 (𝓣 .C #judge·chunks-of) (ChunksOfSpec 𝓤 H A mem run))
-    (known-tails-clear-at : Triple 𝓤 (𝓣 .C #records·maps·tails-clear-at) (TailsClearAtSpec 𝓤 H A mem run)) where
+    (known-is-sound : Triple 𝓤 (𝓣 .C #table·ranges·is-sound) (IsSoundSpec 𝓤 H A mem run))
+    (known-is-full : Triple 𝓤 (𝓣 .C #table·ranges·is-full) (IsFullSpec 𝓤 H A mem run))
+    (known-chunks-of : Triple 𝓤 (𝓣 .C #table·heads·chunks-of) (ChunksOfSpec 𝓤 H A mem run))
+    (known-tails-clear-at : Triple 𝓤 (𝓣 .C #table·maps·tails-clear-at) (TailsClearAtSpec 𝓤 H A mem run)) where
   module _ (κ-records : Lft) (q-records : Share) (γ-records : GName) (b-records : ℕ) (o-records : ℕ) (records : List Arena) (i : ℕ) (h : Head) (chunk-size : ℕ) where
     abbrev L-records : Loan
     L-records = record { κ = κ-records; q = q-records; γ = γ-records; b = b-records; o = o-records; n = length records }
@@ -114,7 +113,7 @@ sound-at-spec 𝓤 H 𝓜 𝓖 𝓡 =
     entered 𝓤 H (tripleOf 𝓤 H (𝓖 .A) sound-at′.signature (sound-at′.spec 𝓤 H (𝓖 .A) (𝓜 .mem) (𝓡 .run)))
     (tables 𝓤 H 𝓜 𝓡 code.env .C) (tables 𝓤 H 𝓜 𝓡 code.env .Λ) #table·sound-at code.function (code.unfolded 𝓤 H 𝓜 𝓡)
     (sound-at-meets 𝓤 H (𝓖 .A) (givenOf 𝓤 H 𝓜 𝓖) (𝓜 .mem) (𝓡 .run) (tablesOf 𝓤 H 𝓜 (tables 𝓤 H 𝓜 𝓡 code.env))
-    (cited 𝓤 H (IsSoundSpec 𝓤 H (𝓖 .A) (𝓜 .mem) (𝓡 .run)) 𝓜 𝓡 code.env #judge·ranges·is-sound is-sound-def.routine code.calls-judge·ranges·is-sound (is-sound-thm.met 𝓤 H 𝓜 𝓖 𝓡))
-    (cited 𝓤 H (IsFullSpec 𝓤 H (𝓖 .A) (𝓜 .mem) (𝓡 .run)) 𝓜 𝓡 code.env #judge·ranges·is-full is-full-def.routine code.calls-judge·ranges·is-full (is-full-thm.met 𝓤 H 𝓜 𝓖 𝓡))
-    (cited 𝓤 H (ChunksOfSpec 𝓤 H (𝓖 .A) (𝓜 .mem) (𝓡 .run)) 𝓜 𝓡 code.env #judge·chunks-of chunks-of-def.routine code.calls-judge·chunks-of (chunks-of-thm.met 𝓤 H 𝓜 𝓖 𝓡))
-    (cited 𝓤 H (TailsClearAtSpec 𝓤 H (𝓖 .A) (𝓜 .mem) (𝓡 .run)) 𝓜 𝓡 code.env #records·maps·tails-clear-at tails-clear-at-def.routine code.calls-records·maps·tails-clear-at (tails-clear-at-thm.met 𝓤 H 𝓜 𝓖 𝓡)))
+    (cited 𝓤 H (IsSoundSpec 𝓤 H (𝓖 .A) (𝓜 .mem) (𝓡 .run)) 𝓜 𝓡 code.env #table·ranges·is-sound is-sound-def.routine code.calls-table·ranges·is-sound (is-sound-thm.met 𝓤 H 𝓜 𝓖 𝓡))
+    (cited 𝓤 H (IsFullSpec 𝓤 H (𝓖 .A) (𝓜 .mem) (𝓡 .run)) 𝓜 𝓡 code.env #table·ranges·is-full is-full-def.routine code.calls-table·ranges·is-full (is-full-thm.met 𝓤 H 𝓜 𝓖 𝓡))
+    (cited 𝓤 H (ChunksOfSpec 𝓤 H (𝓖 .A) (𝓜 .mem) (𝓡 .run)) 𝓜 𝓡 code.env #table·heads·chunks-of chunks-of-def.routine code.calls-table·heads·chunks-of (chunks-of-thm.met 𝓤 H 𝓜 𝓖 𝓡))
+    (cited 𝓤 H (TailsClearAtSpec 𝓤 H (𝓖 .A) (𝓜 .mem) (𝓡 .run)) 𝓜 𝓡 code.env #table·maps·tails-clear-at tails-clear-at-def.routine code.calls-table·maps·tails-clear-at (tails-clear-at-thm.met 𝓤 H 𝓜 𝓖 𝓡)))

@@ -1,6 +1,6 @@
 -- `answering::memory::bytes_fit` meets its contract. Assumes nothing.
 use Rattle.answering.proofs.MemoryLaws.{bytes-test}
-use borrow.Author.Needs.{needs}
+use Rattle.state.proofs.Prelude.{needs}
 use Rattle.answering.proofs.memory.bytes_fit.Statement.{statement}
 use Rattle.answering.proofs.memory.bytes_fit.Tie as tie
 

@@ -1,8 +1,5 @@
 -- `answering::open_question::is_for` meets its contract. Assumes nothing.
-use mathlib.Core.Path.{ap₂}
-use lib.Dec.{eqb}
-use Rattle.layer.specs.Answering.{isFor}
-use borrow.Author.Needs.{needs}
+use Rattle.state.proofs.Prelude.{ap₂, eqb, isFor, needs}
 use Rattle.answering.proofs.open_question.is_for.Statement.{statement}
 use Rattle.answering.proofs.open_question.is_for.Tie as tie
 

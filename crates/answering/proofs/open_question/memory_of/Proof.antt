@@ -1,7 +1,6 @@
 -- `answering::open_question::memory_of` meets its contract. Assumes nothing.
-use mathlib.Core.Path.{sym, ap}
+use Rattle.state.proofs.Prelude.{sym, ap, needs}
 use Rattle.answering.specs.Opened.{memoryOf}
-use borrow.Author.Needs.{needs}
 use Rattle.answering.proofs.open_question.memory_of.Statement.{statement}
 use Rattle.answering.proofs.open_question.memory_of.Tie as tie
 

@@ -1,7 +1,6 @@
 -- `answering::open_question::purge_sweep` meets its contract. Assumes nothing.
-use mathlib.Core.Path.{sym, ap}
+use Rattle.state.proofs.Prelude.{sym, ap, needs}
 use Rattle.answering.specs.Opened.{purgeSweep}
-use borrow.Author.Needs.{needs}
 use Rattle.answering.proofs.open_question.purge_sweep.Statement.{statement}
 use Rattle.answering.proofs.open_question.purge_sweep.Tie as tie
 

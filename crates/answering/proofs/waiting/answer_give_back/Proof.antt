@@ -1,7 +1,5 @@
 -- `answering::waiting::answer_give_back` meets its contract. Assumes nothing.
-use mathlib.Core.Path.{ap, ap₂, _∙_}
-use Rattle.layer.specs.Answering.{causeRefusal, failReply}
-use borrow.Author.Needs.{needs}
+use Rattle.state.proofs.Prelude.{ap, ap₂, _∙_, causeRefusal, failReply, needs}
 use Rattle.answering.proofs.waiting.answer_give_back.Statement.{statement}
 use Rattle.answering.proofs.waiting.answer_give_back.Tie as tie
 

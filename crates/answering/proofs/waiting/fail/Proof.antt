@@ -1,7 +1,5 @@
 -- `answering::waiting::fail` meets its contract. Assumes nothing.
-use mathlib.Core.Path.{sym, ap, _∙_}
-use Rattle.layer.specs.Answering.{failReply}
-use borrow.Author.Needs.{needs}
+use Rattle.state.proofs.Prelude.{sym, ap, _∙_, failReply, needs}
 use Rattle.answering.proofs.waiting.fail.Statement.{statement}
 use Rattle.answering.proofs.waiting.fail.Tie as tie
 

@@ -1,9 +1,5 @@
 -- `answering::waiting::one_more` meets its contract. Assumes nothing.
-use mathlib.Core.Path.{ap}
-use Prim.Native.Nat.{ℕ}
-use native.Mathlib.Numerals.{add-one}
-use Rattle.layer.specs.World.{calm}
-use borrow.Author.Needs.{needs}
+use Rattle.state.proofs.Prelude.{ap, ℕ, add-one, calm, needs}
 use Rattle.answering.proofs.waiting.one_more.Statement.{statement}
 use Rattle.answering.proofs.waiting.one_more.Tie as tie
 

@@ -18,9 +18,9 @@ use Rattle.answering.specs.declared.open_question.MemoryQuestion.{Memory
 use Rattle.arena.specs.declared.Arena.{Arena}
 use Rattle.layer.specs.declared.Reply.{Reply}
 use Rattle.arena.specs.Registering.{reservedArena}
-use Rattle.layer.specs.World.{sizeOf, Leaves, reply, calm}
+use Rattle.layer.specs.World.{sizeOf, Leaves, calm, reply}
 use Rattle.layer.specs.Answering.{resume}
-use Rattle.lookup.specs.Soundness.{soundArena}
+use Rattle.arena.specs.Soundness.{soundArena}
 use Rattle.state.specs.Ready.{Standing, Stamped}
 use Rattle.layer.specs.Registering.{withRecord, withStamps}
 use Rattle.answering.specs.Opened.{isClaim}
@@ -42,13 +42,16 @@ use Rattle.answering.proofs.waiting.waiting_of.Met as waiting-of-thm
 use Rattle.answering.proofs.waiting.is_claim.Symbol as is-claim-def
 use Rattle.answering.proofs.waiting.is_claim.Symbol.{name as #answering·waiting·is-claim}
 use Rattle.answering.proofs.waiting.is_claim.Met as is-claim-thm
+use Rattle.answering.proofs.waiting.one_more.Symbol as one-more-def
+use Rattle.answering.proofs.waiting.one_more.Symbol.{name as #answering·waiting·one-more}
+use Rattle.answering.proofs.waiting.one_more.Met as one-more-thm
 use Rattle.answering.proofs.waiting.search_again.Symbol as search-again-def
 use Rattle.answering.proofs.waiting.search_again.Symbol.{name as #answering·waiting·search-again}
 use Rattle.answering.proofs.waiting.search_again.Met as search-again-thm
 use Rattle.registering.proofs.writing.registered.Symbol as registered-def
 use Rattle.registering.proofs.writing.registered.Symbol.{name as #registering·writing·registered}
 use Rattle.registering.proofs.writing.registered.Met as registered-thm
-use Rattle.answering.proofs.waiting.Callable.{ArenaOfSpec, WaitingOfSpec, IsClaimSpec, SearchAgainSpec, arena-of-step, waiting-of-step, is-claim-step, search-again-step}
+use Rattle.answering.proofs.waiting.Callable.{ArenaOfSpec, WaitingOfSpec, IsClaimSpec, OneMoreSpec, SearchAgainSpec, arena-of-step, waiting-of-step, is-claim-step, one-more-step, search-again-step}
 use Rattle.registering.proofs.Callable.{WriteNewSpec, RegisteredSpec, write-new-step, registered-step}
 use Rattle.answering.proofs.waiting.register.Key.{name as #answering·waiting·register}
 use Rattle.answering.proofs.waiting.register as register′
@@ -60,6 +63,7 @@ module _ {M : Type 1} (𝓤 : URA M) (H : Heap 𝓤) (A : Atoms 𝓤) (W : Given
     (known-write-new : Triple 𝓤 (𝓣 .C #registering·writing·write-new) (WriteNewSpec 𝓤 H A mem run))
     (known-waiting-of : Triple 𝓤 (𝓣 .C #answering·waiting·waiting-of) (WaitingOfSpec 𝓤 H A mem run))
     (known-is-claim : Triple 𝓤 (𝓣 .C #answering·waiting·is-claim) (IsClaimSpec 𝓤 H A mem run))
+    (known-one-more : Triple 𝓤 (𝓣 .C #answering·waiting·one-more) (OneMoreSpec 𝓤 H A mem run))
     (known-search-again : Triple 𝓤 (𝓣 .C #answering·waiting·search-again) (SearchAgainSpec 𝓤 H A mem run))
     (known-registered : Triple 𝓤 (𝓣 .C #registering·writing·registered) (RegisteredSpec 𝓤 H A mem run)) where
   module _ (κ-records κ-stamps : Lft) (q-records q-stamps : Share) (γ-records γ-stamps : GName) (b-records b-stamps : ℕ) (o-records o-stamps : ℕ) (records : List Arena) (stamps : List ℕ) (state : State) (m : MemoryQuestion) (base : ℕ) where
@@ -99,8 +103,11 @@ module _ {M : Type 1} (𝓤 : URA M) (H : Heap 𝓤) (A : Atoms 𝓤) (W : Given
     abbrev waiting : Waiting
     waiting = m .waiting
 
-    abbrev t14 : Bool
-    t14 = isClaim waiting
+    abbrev t15 : Bool
+    t15 = isClaim waiting
+
+    abbrev left : State
+    left = calm (suc (state .count)) (state .mark)
 
     abbrev result : Reply
     result = reply (Registered (state .count)) (calm (suc (state .count)) (state .mark))
@@ -115,35 +122,38 @@ module _ {M : Type 1} (𝓤 : URA M) (H : Heap 𝓤) (A : Atoms 𝓤) (W : Given
         arena-of-step ! (in-seq ! (fmOf 𝓤 H (W .laws) 𝓣)) mem run known-arena-of m v-m g-m _ (f7-2 .fits) (need .3)
         (λ _. and-then ! (arg ! refl) (and-then ! (arg ! refl) (no-more !))) (λ v-a g-a.
         land ! (from ! (stop !)) (init ! 15 refl (LL.lawful T-Arena.the-type L-Arena.the-laws 𝓤 H A W .typed a (v-a ∷ []) g-a .0)) $
-        assigns ! (addr ! (from ! (fld ! refl (hop ! (look-in ! 3 (sub ! 0 refl (whole !))) (stop !))))) (from ! (stop !)) (init ! 21 refl (tt, tt)) $
-        assigns ! (agg ! (and-then ! (in-local ! refl) (and-then ! (load ! (from ! (fld ! refl (stop !))) (look-in ! 3 (sub ! 1 refl (whole !)))) (no-more !)))) (from ! (stop !)) (init ! 23 refl (tt, (tt, (record { fits = known-records .1 .0 }, tt)))) $
-        assigns ! (addr ! (from ! (fld ! refl (hop ! (look-in ! 5 (sub ! 0 refl (whole !))) (stop !))))) (from ! (stop !)) (init ! 25 refl (tt, tt)) $
-        assigns ! (agg ! (and-then ! (in-local ! refl) (and-then ! (load ! (from ! (fld ! refl (stop !))) (look-in ! 5 (sub ! 1 refl (whole !)))) (no-more !)))) (from ! (stop !)) (init ! 27 refl (tt, (tt, (record { fits = known-stamps .1 .0 }, tt)))) $
-        arg-fits ! 2 refl (λ f9-1.
-        write-new-step ! (in-seq ! (fmOf 𝓤 H (W .laws) 𝓣)) mem run known-write-new L-records records L-stamps stamps _ (f9-1 .fits) a v-a g-a ((let h : length records ≡ 32 = need .0 .lent in omega (arith, h, need .2), need .2, need .1))
-        (λ _. and-then ! (arg ! refl) (and-then ! (arg ! refl) (and-then ! (arg ! refl) (and-then ! (arg ! refl) (no-more !))))) (λ v-t9 g-t9 l-records-1 l-stamps-1.
-        land ! (from ! (stop !)) (init ! 19 refl (nothing-lawful 𝓤 H A W .typed tt (v-t9 ∷ []) g-t9 .0)) $
+        assigns ! (addr ! (from ! (fld ! refl (hop ! (look-in ! 3 (sub ! 0 refl (whole !))) (stop !))))) (from ! (stop !)) (init ! 23 refl (tt, tt)) $
+        assigns ! (agg ! (and-then ! (in-local ! refl) (and-then ! (load ! (from ! (fld ! refl (stop !))) (look-in ! 3 (sub ! 1 refl (whole !)))) (no-more !)))) (from ! (stop !)) (init ! 25 refl (tt, (tt, (record { fits = known-records .1 .0 }, tt)))) $
+        assigns ! (addr ! (from ! (fld ! refl (hop ! (look-in ! 5 (sub ! 0 refl (whole !))) (stop !))))) (from ! (stop !)) (init ! 27 refl (tt, tt)) $
+        assigns ! (agg ! (and-then ! (in-local ! refl) (and-then ! (load ! (from ! (fld ! refl (stop !))) (look-in ! 5 (sub ! 1 refl (whole !)))) (no-more !)))) (from ! (stop !)) (init ! 29 refl (tt, (tt, (record { fits = known-stamps .1 .0 }, tt)))) $
+        arg-fits ! 2 refl (λ f10-1.
+        write-new-step ! (in-seq ! (fmOf 𝓤 H (W .laws) 𝓣)) mem run known-write-new L-records records L-stamps stamps _ (f10-1 .fits) a v-a g-a ((let h : length records ≡ 32 = need .0 .lent in omega (arith, h, need .2), need .2, need .1))
+        (λ _. and-then ! (arg ! refl) (and-then ! (arg ! refl) (and-then ! (arg ! refl) (and-then ! (arg ! refl) (no-more !))))) (λ v-t10 g-t10 l-records-1 l-stamps-1.
+        land ! (from ! (stop !)) (init ! 21 refl (nothing-lawful 𝓤 H A W .typed tt (v-t10 ∷ []) g-t10 .0)) $
         waiting-of-step ! (in-seq ! (fmOf 𝓤 H (W .laws) 𝓣)) mem run known-waiting-of m v-m g-m
         (λ _. and-then ! (arg ! refl) (no-more !)) (λ v-waiting g-waiting.
         land ! (from ! (stop !)) (init ! 17 refl (EL.lawful T-Waiting.the-type L-Waiting.the-laws 𝓤 H A W tt .typed waiting (v-waiting ∷ []) g-waiting .0)) $
         is-claim-step ! (in-seq ! (fmOf 𝓤 H (W .laws) 𝓣)) mem run known-is-claim waiting v-waiting g-waiting
         (λ _. and-then ! (arg ! refl) (no-more !)) (
-        land ! (from ! (stop !)) (init ! 29 refl (tt, tt)) $
+        land ! (from ! (stop !)) (init ! 31 refl (tt, tt)) $
         if-else ! (arg ! refl)
         (λ h1.
-        assigns ! (addr ! (from ! (fld ! refl (hop ! (look-in ! 3 (sub ! 0 refl (whole !))) (stop !))))) (from ! (stop !)) (init ! 31 refl (tt, tt)) $
-        assigns ! (agg ! (and-then ! (in-local ! refl) (and-then ! (load ! (from ! (fld ! refl (stop !))) (look-in ! 3 (sub ! 1 refl (whole !)))) (no-more !)))) (from ! (stop !)) (init ! 33 refl (tt, (tt, (record { fits = known-records .1 .0 }, tt)))) $
-        search-again-step ! (in-seq ! (fmOf 𝓤 H (W .laws) 𝓣)) mem run known-search-again L-records records-1 state v-state g-state waiting v-waiting g-waiting (((is-true t14 h1), need .2, one-more records state a (need .0) (need .2) (need .4)))
+        one-more-step ! (in-seq ! (fmOf 𝓤 H (W .laws) 𝓣)) mem run known-one-more state v-state g-state (need .2)
+        (λ _. and-then ! (arg ! refl) (no-more !)) (λ v-left g-left.
+        land ! (from ! (stop !)) (init ! 19 refl (LL.lawful T-State.the-type L-State.the-laws 𝓤 H A W .typed left (v-left ∷ []) g-left .0)) $
+        assigns ! (addr ! (from ! (fld ! refl (hop ! (look-in ! 3 (sub ! 0 refl (whole !))) (stop !))))) (from ! (stop !)) (init ! 33 refl (tt, tt)) $
+        assigns ! (agg ! (and-then ! (in-local ! refl) (and-then ! (load ! (from ! (fld ! refl (stop !))) (look-in ! 3 (sub ! 1 refl (whole !)))) (no-more !)))) (from ! (stop !)) (init ! 35 refl (tt, (tt, (record { fits = known-records .1 .0 }, tt)))) $
+        search-again-step ! (in-seq ! (fmOf 𝓤 H (W .laws) 𝓣)) mem run known-search-again L-records records-1 left v-left g-left waiting v-waiting g-waiting (((is-true t15 h1), one-more records state a (need .0) (need .2) (need .4)))
         (λ _. and-then ! (arg ! refl) (and-then ! (arg ! refl) (and-then ! (arg ! refl) (no-more !)))) (λ v-result result records-2 g-result result-says l-records-2.
         land ! (from ! (stop !)) (init ! 1 refl (LL.lawful T-Reply.the-type L-Reply.the-laws 𝓤 H A W .typed result (v-result ∷ []) g-result .0)) $
-        returns-within ! Post refl (look ! 1 refl) $ used ! $ used ! $ used ! $ used ! $ used ! $ used ! $ used ! $ used ! $ used ! $ used ! $ used ! $ used ! $ used ! $ used ! $ used ! $ used ! $ used ! $ free0 ! $
-        finish2 𝓤 H A T-Arena.the-row u32 L-records L-stamps T-Reply.the-row records stamps χ W (‵ ftrue) v-result result records-2 stamps-1 g-result (l-records-2 ∙ l-records-1) l-stamps-1 (claim-goes-on (sizeOf state) records stamps k (state .mark) a waiting (is-true t14 h1) result records-2 stamps-1 (result-says stamps-1))))
+        returns-within ! Post refl (look ! 1 refl) $ used ! $ used ! $ used ! $ used ! $ used ! $ used ! $ used ! $ used ! $ used ! $ used ! $ used ! $ used ! $ used ! $ used ! $ used ! $ used ! $ used ! $ used ! $ free0 ! $
+        finish2 𝓤 H A T-Arena.the-row u32 L-records L-stamps T-Reply.the-row records stamps χ W (‵ ftrue) v-result result records-2 stamps-1 g-result (l-records-2 ∙ l-records-1) l-stamps-1 (claim-goes-on (sizeOf state) records stamps k (state .mark) a waiting (is-true t15 h1) result records-2 stamps-1 (result-says stamps-1)))))
         (λ h1.
         registered-step ! (in-seq ! (fmOf 𝓤 H (W .laws) 𝓣)) mem run known-registered state v-state g-state (need .2)
         (λ _. and-then ! (arg ! refl) (no-more !)) (λ v-result g-result.
         land ! (from ! (stop !)) (init ! 1 refl (LL.lawful T-Reply.the-type L-Reply.the-laws 𝓤 H A W .typed result (v-result ∷ []) g-result .0)) $
-        returns ! (look ! 1 refl) $ used ! $ used ! $ used ! $ used ! $ used ! $ used ! $ used ! $ used ! $ used ! $ used ! $ used ! $ used ! $ used ! $ used ! $ used ! $ room ! $ room ! $ free0 ! $
-        finish2 𝓤 H A T-Arena.the-row u32 L-records L-stamps T-Reply.the-row records stamps χ W (‵ ftrue) v-result result records-1 stamps-1 g-result l-records-1 l-stamps-1 (reserve-told (sizeOf state) records stamps k (state .mark) a waiting (is-false t14 h1))))))))))))
+        returns ! (look ! 1 refl) $ used ! $ used ! $ used ! $ used ! $ used ! $ used ! $ used ! $ used ! $ used ! $ room ! $ used ! $ used ! $ used ! $ used ! $ used ! $ used ! $ room ! $ room ! $ free0 ! $
+        finish2 𝓤 H A T-Arena.the-row u32 L-records L-stamps T-Reply.the-row records stamps χ W (‵ ftrue) v-result result records-1 stamps-1 g-result l-records-1 l-stamps-1 (reserve-told (sizeOf state) records stamps k (state .mark) a waiting (is-false t15 h1))))))))))))
 
   register-meets : Meets 𝓤 H A register′.signature (WpFn 𝓤 H (𝓣 .C) (𝓣 .Λ) code.function) (register′.spec 𝓤 H A mem run)
   register-meets = mut2-meets 𝓤 H A W T-Arena.the-row u32 T-Reply.the-row (plain (λ _. T-State.the-row) ∷ plain (λ _. T-MemoryQuestion.the-row) ∷ plain (λ _. u64) ∷ []) (yes, (yes, (yes, tt))) (register′.clauses 𝓤 H A mem run)
@@ -163,5 +173,6 @@ register-spec 𝓤 H 𝓜 𝓖 𝓡 =
     (cited 𝓤 H (WriteNewSpec 𝓤 H (𝓖 .A) (𝓜 .mem) (𝓡 .run)) 𝓜 𝓡 code.env #registering·writing·write-new write-new-def.routine code.calls-registering·writing·write-new (write-new-thm.met 𝓤 H 𝓜 𝓖 𝓡))
     (cited 𝓤 H (WaitingOfSpec 𝓤 H (𝓖 .A) (𝓜 .mem) (𝓡 .run)) 𝓜 𝓡 code.env #answering·waiting·waiting-of waiting-of-def.routine code.calls-answering·waiting·waiting-of (waiting-of-thm.met 𝓤 H 𝓜 𝓖 𝓡))
     (cited 𝓤 H (IsClaimSpec 𝓤 H (𝓖 .A) (𝓜 .mem) (𝓡 .run)) 𝓜 𝓡 code.env #answering·waiting·is-claim is-claim-def.routine code.calls-answering·waiting·is-claim (is-claim-thm.met 𝓤 H 𝓜 𝓖 𝓡))
+    (cited 𝓤 H (OneMoreSpec 𝓤 H (𝓖 .A) (𝓜 .mem) (𝓡 .run)) 𝓜 𝓡 code.env #answering·waiting·one-more one-more-def.routine code.calls-answering·waiting·one-more (one-more-thm.met 𝓤 H 𝓜 𝓖 𝓡))
     (cited 𝓤 H (SearchAgainSpec 𝓤 H (𝓖 .A) (𝓜 .mem) (𝓡 .run)) 𝓜 𝓡 code.env #answering·waiting·search-again search-again-def.routine code.calls-answering·waiting·search-again (search-again-thm.met 𝓤 H 𝓜 𝓖 𝓡))
     (cited 𝓤 H (RegisteredSpec 𝓤 H (𝓖 .A) (𝓜 .mem) (𝓡 .run)) 𝓜 𝓡 code.env #registering·writing·registered registered-def.routine code.calls-registering·writing·registered (registered-thm.met 𝓤 H 𝓜 𝓖 𝓡)))

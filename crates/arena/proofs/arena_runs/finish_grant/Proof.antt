@@ -1,6 +1,5 @@
 -- `arena::arena_runs::finish_grant` meets its contract. Assumes nothing.
-use borrow.Author.Needs.{needs}
-use Rattle.arena.specs.Claiming.{commitRun, dirtyRun, finishGrant}
+use Rattle.arena.proofs.Prelude.{needs, commitRun, dirtyRun, finishGrant}
 use Rattle.arena.proofs.Remade.{remade, read-back}
 use Rattle.arena.proofs.arena_runs.finish_grant.Statement.{statement}
 use Rattle.arena.proofs.arena_runs.finish_grant.Tie as tie

@@ -1,6 +1,5 @@
 -- `arena::arena_runs::grant_run` meets its contract. Assumes nothing.
-use borrow.Author.Needs.{needs}
-use Rattle.arena.specs.Claiming.{takeRun, dirtyRun}
+use Rattle.arena.proofs.Prelude.{needs, takeRun, dirtyRun}
 use Rattle.arena.proofs.Remade.{remade, read-back}
 use Rattle.arena.proofs.arena_runs.grant_run.Statement.{statement}
 use Rattle.arena.proofs.arena_runs.grant_run.Tie as tie

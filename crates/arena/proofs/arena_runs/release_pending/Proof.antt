@@ -1,10 +1,5 @@
 -- `arena::arena_runs::release_pending` meets its contract. Assumes nothing.
-use mathlib.Core.Path.{ap, _∙_}
-use borrow.Author.Needs.{needs}
-use Rattle.clock.specs.Clock.{armed}
-use Rattle.arena.specs.declared.Arena.{Arena}
-use Rattle.arena.specs.Claiming.{giveBackRun}
-use Rattle.arena.specs.Releasing.{pendRun}
+use Rattle.arena.proofs.Prelude.{ap, _∙_, needs, armed, Arena, giveBackRun, pendRun}
 use Rattle.arena.proofs.Remade.{remade, read-back, told-row}
 use Rattle.arena.proofs.arena_runs.release_pending.Statement.{statement}
 use Rattle.arena.proofs.arena_runs.release_pending.Tie as tie

@@ -1,7 +1,5 @@
 -- `arena::arena_runs::release_run` meets its contract. Assumes nothing.
-use mathlib.Core.Path.{_∙_}
-use borrow.Author.Needs.{needs}
-use Rattle.arena.specs.Claiming.{giveBackRun}
+use Rattle.arena.proofs.Prelude.{_∙_, needs, giveBackRun}
 use Rattle.arena.proofs.Remade.{remade, read-back, told-row}
 use Rattle.arena.proofs.arena_runs.release_run.Statement.{statement}
 use Rattle.arena.proofs.arena_runs.release_run.Tie as tie

@@ -1,7 +1,5 @@
 -- `arena::arena_runs::row_told` meets its contract. Assumes nothing.
-use mathlib.Core.Path.{sym, ap, _∙_}
-use borrow.Author.Needs.{needs}
-use Rattle.arena.specs.Releasing.{toldRow}
+use Rattle.arena.proofs.Prelude.{sym, ap, _∙_, needs, toldRow}
 use Rattle.arena.proofs.arena_runs.row_told.Statement.{statement}
 use Rattle.arena.proofs.arena_runs.row_told.Tie as tie
 

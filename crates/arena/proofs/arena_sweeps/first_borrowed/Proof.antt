@@ -1,7 +1,5 @@
 -- `arena::arena_sweeps::first_borrowed` meets its contract. Assumes nothing.
-use borrow.Author.Needs.{needs}
-use Rattle.arena.specs.Claiming.{takeRun}
-use Rattle.arena.specs.Sweeping.{disarm, borrowChunk}
+use Rattle.arena.proofs.Prelude.{needs, takeRun, disarm, borrowChunk}
 use Rattle.arena.proofs.Remade.{remade, read-back}
 use Rattle.arena.proofs.arena_sweeps.first_borrowed.Statement.{statement}
 use Rattle.arena.proofs.arena_sweeps.first_borrowed.Tie as tie

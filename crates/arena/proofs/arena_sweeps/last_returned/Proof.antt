@@ -1,10 +1,5 @@
 -- `arena::arena_sweeps::last_returned` meets its contract. Assumes nothing.
-use mathlib.Core.Path.{ap, _∙_}
-use borrow.Author.Needs.{needs}
-use Rattle.arena.specs.declared.Arena.{Arena}
-use Rattle.arena.specs.Record.{withDeadline}
-use Rattle.arena.specs.Claiming.{giveBackRun}
-use Rattle.arena.specs.Sweeping.{unpendChunk}
+use Rattle.arena.proofs.Prelude.{ap, _∙_, needs, Arena, withDeadline, giveBackRun, unpendChunk}
 use Rattle.arena.proofs.Remade.{remade, read-back, purged-row}
 use Rattle.arena.proofs.arena_sweeps.last_returned.Statement.{statement}
 use Rattle.arena.proofs.arena_sweeps.last_returned.Tie as tie

@@ -1,12 +1,5 @@
 -- `arena::arena_sweeps::next_borrowed` meets its contract. Assumes nothing.
-use mathlib.Core.Path.{ap, _∙_}
-use mathlib.Core.List.{List}
-use Prim.Native.Nat.{ℕ}
-use borrow.Author.Needs.{needs}
-use Rattle.words.specs.Rows.{setRun}
-use Rattle.arena.specs.declared.Arena.{Arena}
-use Rattle.arena.specs.Claiming.{takeRun, giveBackRun}
-use Rattle.arena.specs.Sweeping.{borrowChunk, unpendChunk}
+use Rattle.arena.proofs.Prelude.{ap, _∙_, List, ℕ, needs, setRun, Arena, takeRun, giveBackRun, borrowChunk, unpendChunk}
 use Rattle.arena.proofs.Remade.{remade, read-back, purged-row}
 use Rattle.arena.proofs.arena_sweeps.next_borrowed.Statement.{statement}
 use Rattle.arena.proofs.arena_sweeps.next_borrowed.Tie as tie

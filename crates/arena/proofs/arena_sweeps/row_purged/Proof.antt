@@ -1,8 +1,5 @@
 -- `arena::arena_sweeps::row_purged` meets its contract. Assumes nothing.
-use mathlib.Core.Path.{sym, ap₂, _∙_}
-use mathlib.Core.Bool.{Bool, cond, _&&_}
-use borrow.Author.Needs.{needs}
-use Rattle.words.specs.Rows.{clearRun}
+use Rattle.arena.proofs.Prelude.{sym, ap₂, _∙_, Bool, cond, _&&_, needs, clearRun}
 use Rattle.arena.proofs.arena_sweeps.row_purged.Statement.{statement}
 use Rattle.arena.proofs.arena_sweeps.row_purged.Tie as tie
 

@@ -1,6 +1,5 @@
 -- `claiming::grants::asks_commit` meets its contract. Assumes nothing.
-use mathlib.Core.Path.{sym, ap}
-use mathlib.Core.Bool.{Bool, not, _&&_}
+use Rattle.state.proofs.Prelude.{sym, ap, Bool, not, _&&_}
 use Rattle.claiming.proofs.grants.asks_commit.Statement.{statement}
 use Rattle.claiming.proofs.grants.asks_commit.Tie as tie
 

@@ -8,22 +8,22 @@ use Rattle.arena.proofs.Arena as T-Arena
 use Rattle.arena.proofs.Arena.Laws as L-Arena
 use Rattle.layer.proofs.Reply as T-Reply
 use Rattle.layer.proofs.Reply.Laws as L-Reply
-use Rattle.judge.proofs.Head as T-Head
-use Rattle.judge.proofs.Head.Laws as L-Head
+use Rattle.table.proofs.heads.Head as T-Head
+use Rattle.table.proofs.heads.Head.Laws as L-Head
 use Rattle.layer.specs.declared.State.{State}
 use Rattle.arena.specs.declared.Arena.{Arena}
 use Rattle.layer.specs.declared.Reply.{Reply}
-use Rattle.layer.specs.World.{sizeOf, blank, stateOf, reply, calm}
+use Rattle.layer.specs.World.{sizeOf, blank, stateWith, reply, calm}
 use Rattle.layer.specs.Table.{at}
 use Rattle.layer.specs.Claiming.{grantArena, grantReply}
 use Rattle.claiming.specs.Search.{RunAt}
-use Rattle.judge.specs.Heads.{headOf}
+use Rattle.table.specs.Heads.{headOf}
 use Rattle.arena.specs.Claiming.{runCommitted, takeRun, runFresh, dirtyRun}
 use mathlib.Core.Bool.{_&&_}
 use Rattle.layer.specs.declared.Ask.the-variants.{AskCommit}
 use Rattle.layer.specs.declared.Answer.the-variants.{Asks, Claimed}
 use Rattle.layer.specs.declared.Question.the-variants.{Committing}
-use Rattle.judge.specs.declared.Head.{Head}
+use Rattle.table.specs.declared.heads.Head.{Head}
 use Rattle.claiming.proofs.GrantLaws.{run-fits, start-fits, length-fits, asks, grants}
 use Rattle.walks.proofs.Frame.{Done, finish, mut-meets}
 use Rattle.state.proofs.chunk_size.Symbol as chunk-size-def
@@ -32,27 +32,27 @@ use Rattle.state.proofs.chunk_size.Met as chunk-size-thm
 use Rattle.table.proofs.head_at.Symbol as head-at-def
 use Rattle.table.proofs.head_at.Symbol.{name as #table·head-at}
 use Rattle.table.proofs.head_at.Met as head-at-thm
-use Rattle.records.proofs.run_maps.committed_at.Symbol as committed-at-def
-use Rattle.records.proofs.run_maps.committed_at.Symbol.{name as #records·run-maps·committed-at}
-use Rattle.records.proofs.run_maps.committed_at.Met as committed-at-thm
-use Rattle.records.proofs.load.Symbol as load-def
-use Rattle.records.proofs.load.Symbol.{name as #records·load}
-use Rattle.records.proofs.load.Met as load-thm
+use Rattle.table.proofs.run_maps.committed_at.Symbol as committed-at-def
+use Rattle.table.proofs.run_maps.committed_at.Symbol.{name as #table·run-maps·committed-at}
+use Rattle.table.proofs.run_maps.committed_at.Met as committed-at-thm
+use Rattle.table.proofs.records.load.Symbol as load-def
+use Rattle.table.proofs.records.load.Symbol.{name as #table·records·load}
+use Rattle.table.proofs.records.load.Met as load-thm
 use Rattle.claiming.proofs.grants.asks_commit.Symbol as asks-commit-def
 use Rattle.claiming.proofs.grants.asks_commit.Symbol.{name as #claiming·grants·asks-commit}
 use Rattle.claiming.proofs.grants.asks_commit.Met as asks-commit-thm
 use Rattle.arena.proofs.arena_runs.take_run.Symbol as take-run-def
 use Rattle.arena.proofs.arena_runs.take_run.Symbol.{name as #arena·arena-runs·take-run}
 use Rattle.arena.proofs.arena_runs.take_run.Met as take-run-thm
-use Rattle.records.proofs.store.Symbol as store-def
-use Rattle.records.proofs.store.Symbol.{name as #records·store}
-use Rattle.records.proofs.store.Met as store-thm
+use Rattle.table.proofs.records.store.Symbol as store-def
+use Rattle.table.proofs.records.store.Symbol.{name as #table·records·store}
+use Rattle.table.proofs.records.store.Met as store-thm
 use Rattle.claiming.proofs.grants.commit_question.Symbol as commit-question-def
 use Rattle.claiming.proofs.grants.commit_question.Symbol.{name as #claiming·grants·commit-question}
 use Rattle.claiming.proofs.grants.commit_question.Met as commit-question-thm
-use Rattle.records.proofs.run_maps.fresh_at.Symbol as fresh-at-def
-use Rattle.records.proofs.run_maps.fresh_at.Symbol.{name as #records·run-maps·fresh-at}
-use Rattle.records.proofs.run_maps.fresh_at.Met as fresh-at-thm
+use Rattle.table.proofs.run_maps.fresh_at.Symbol as fresh-at-def
+use Rattle.table.proofs.run_maps.fresh_at.Symbol.{name as #table·run-maps·fresh-at}
+use Rattle.table.proofs.run_maps.fresh_at.Met as fresh-at-thm
 use Rattle.arena.proofs.arena_runs.grant_run.Symbol as grant-run-def
 use Rattle.arena.proofs.arena_runs.grant_run.Symbol.{name as #arena·arena-runs·grant-run}
 use Rattle.arena.proofs.arena_runs.grant_run.Met as grant-run-thm
@@ -60,8 +60,7 @@ use Rattle.claiming.proofs.grants.granted.Symbol as granted-def
 use Rattle.claiming.proofs.grants.granted.Symbol.{name as #claiming·grants·granted}
 use Rattle.claiming.proofs.grants.granted.Met as granted-thm
 use Rattle.state.proofs.Callable.{ChunkSizeSpec, chunk-size-step}
-use Rattle.table.proofs.Callable.{HeadAtSpec, head-at-step}
-use Rattle.records.proofs.Callable.{CommittedAtSpec, LoadSpec, StoreSpec, FreshAtSpec, committed-at-step, load-step, store-step, fresh-at-step}
+use Rattle.table.proofs.Callable.{HeadAtSpec, CommittedAtSpec, LoadSpec, StoreSpec, FreshAtSpec, head-at-step, committed-at-step, load-step, store-step, fresh-at-step}
 use Rattle.claiming.proofs.grants.Callable.{AsksCommitSpec, CommitQuestionSpec, asks-commit-step, commit-question-step}
 use Rattle.arena.proofs.Callable.{TakeRunSpec, GrantRunSpec, take-run-step, grant-run-step}
 use Rattle.claiming.proofs.Callable.{GrantedSpec, granted-step}
@@ -73,13 +72,13 @@ use Rattle.claiming.proofs.grants.grant.Code as code
 module _ {M : Type 1} (𝓤 : URA M) (H : Heap 𝓤) (A : Atoms 𝓤) (W : Given 𝓤 H A) (mem : Memory → SProp 𝓤) (run : Routine → Fun 𝓤) (𝓣 : Tables 𝓤 H)
     (known-chunk-size : Triple 𝓤 (𝓣 .C #state·chunk-size) (ChunkSizeSpec 𝓤 H A mem run))
     (known-head-at : Triple 𝓤 (𝓣 .C #table·head-at) (HeadAtSpec 𝓤 H A mem run))
-    (known-committed-at : Triple 𝓤 (𝓣 .C #records·run-maps·committed-at) (CommittedAtSpec 𝓤 H A mem run))
-    (known-load : Triple 𝓤 (𝓣 .C #records·load) (LoadSpec 𝓤 H A mem run))
+    (known-committed-at : Triple 𝓤 (𝓣 .C #table·run-maps·committed-at) (CommittedAtSpec 𝓤 H A mem run))
+    (known-load : Triple 𝓤 (𝓣 .C #table·records·load) (LoadSpec 𝓤 H A mem run))
     (known-asks-commit : Triple 𝓤 (𝓣 .C #claiming·grants·asks-commit) (AsksCommitSpec 𝓤 H A mem run))
     (known-take-run : Triple 𝓤 (𝓣 .C #arena·arena-runs·take-run) (TakeRunSpec 𝓤 H A mem run))
-    (known-store : Triple 𝓤 (𝓣 .C #records·store) (StoreSpec 𝓤 H A mem run))
+    (known-store : Triple 𝓤 (𝓣 .C #table·records·store) (StoreSpec 𝓤 H A mem run))
     (known-commit-question : Triple 𝓤 (𝓣 .C #claiming·grants·commit-question) (CommitQuestionSpec 𝓤 H A mem run))
-    (known-fresh-at : Triple 𝓤 (𝓣 .C #records·run-maps·fresh-at) (FreshAtSpec 𝓤 H A mem run))
+    (known-fresh-at : Triple 𝓤 (𝓣 .C #table·run-maps·fresh-at) (FreshAtSpec 𝓤 H A mem run))
     (known-grant-run : Triple 𝓤 (𝓣 .C #arena·arena-runs·grant-run) (GrantRunSpec 𝓤 H A mem run))
     (known-granted : Triple 𝓤 (𝓣 .C #claiming·grants·granted) (GrantedSpec 𝓤 H A mem run)) where
   module _ (κ-records : Lft) (q-records : Share) (γ-records : GName) (b-records : ℕ) (o-records : ℕ) (records : List Arena) (state : State) (i : ℕ) (s : ℕ) (n : ℕ) (commits : Bool) where
@@ -120,7 +119,7 @@ module _ {M : Type 1} (𝓤 : URA M) (H : Heap 𝓤) (A : Atoms 𝓤) (W : Given
     records-1 = set records i taken
 
     abbrev result : Reply
-    result = reply (Asks (AskCommit (h .base + s * size) (n * size))) (stateOf (state .count) (state .mark) (Committing i s n))
+    result = reply (Asks (AskCommit (h .base + s * size) (n * size))) (stateWith (state .count) (state .mark) (Committing i s n))
 
     abbrev fresh : Bool
     fresh = runFresh (getD records i blank) s n
@@ -217,12 +216,12 @@ grant-spec 𝓤 H 𝓜 𝓖 𝓡 =
     (grant-meets 𝓤 H (𝓖 .A) (givenOf 𝓤 H 𝓜 𝓖) (𝓜 .mem) (𝓡 .run) (tablesOf 𝓤 H 𝓜 (tables 𝓤 H 𝓜 𝓡 code.env))
     (cited 𝓤 H (ChunkSizeSpec 𝓤 H (𝓖 .A) (𝓜 .mem) (𝓡 .run)) 𝓜 𝓡 code.env #state·chunk-size chunk-size-def.routine code.calls-state·chunk-size (chunk-size-thm.met 𝓤 H 𝓜 𝓖 𝓡))
     (cited 𝓤 H (HeadAtSpec 𝓤 H (𝓖 .A) (𝓜 .mem) (𝓡 .run)) 𝓜 𝓡 code.env #table·head-at head-at-def.routine code.calls-table·head-at (head-at-thm.met 𝓤 H 𝓜 𝓖 𝓡))
-    (cited 𝓤 H (CommittedAtSpec 𝓤 H (𝓖 .A) (𝓜 .mem) (𝓡 .run)) 𝓜 𝓡 code.env #records·run-maps·committed-at committed-at-def.routine code.calls-records·run-maps·committed-at (committed-at-thm.met 𝓤 H 𝓜 𝓖 𝓡))
-    (cited 𝓤 H (LoadSpec 𝓤 H (𝓖 .A) (𝓜 .mem) (𝓡 .run)) 𝓜 𝓡 code.env #records·load load-def.routine code.calls-records·load (load-thm.met 𝓤 H 𝓜 𝓖 𝓡))
+    (cited 𝓤 H (CommittedAtSpec 𝓤 H (𝓖 .A) (𝓜 .mem) (𝓡 .run)) 𝓜 𝓡 code.env #table·run-maps·committed-at committed-at-def.routine code.calls-table·run-maps·committed-at (committed-at-thm.met 𝓤 H 𝓜 𝓖 𝓡))
+    (cited 𝓤 H (LoadSpec 𝓤 H (𝓖 .A) (𝓜 .mem) (𝓡 .run)) 𝓜 𝓡 code.env #table·records·load load-def.routine code.calls-table·records·load (load-thm.met 𝓤 H 𝓜 𝓖 𝓡))
     (cited 𝓤 H (AsksCommitSpec 𝓤 H (𝓖 .A) (𝓜 .mem) (𝓡 .run)) 𝓜 𝓡 code.env #claiming·grants·asks-commit asks-commit-def.routine code.calls-claiming·grants·asks-commit (asks-commit-thm.met 𝓤 H 𝓜 𝓖 𝓡))
     (cited 𝓤 H (TakeRunSpec 𝓤 H (𝓖 .A) (𝓜 .mem) (𝓡 .run)) 𝓜 𝓡 code.env #arena·arena-runs·take-run take-run-def.routine code.calls-arena·arena-runs·take-run (take-run-thm.met 𝓤 H 𝓜 𝓖 𝓡))
-    (cited 𝓤 H (StoreSpec 𝓤 H (𝓖 .A) (𝓜 .mem) (𝓡 .run)) 𝓜 𝓡 code.env #records·store store-def.routine code.calls-records·store (store-thm.met 𝓤 H 𝓜 𝓖 𝓡))
+    (cited 𝓤 H (StoreSpec 𝓤 H (𝓖 .A) (𝓜 .mem) (𝓡 .run)) 𝓜 𝓡 code.env #table·records·store store-def.routine code.calls-table·records·store (store-thm.met 𝓤 H 𝓜 𝓖 𝓡))
     (cited 𝓤 H (CommitQuestionSpec 𝓤 H (𝓖 .A) (𝓜 .mem) (𝓡 .run)) 𝓜 𝓡 code.env #claiming·grants·commit-question commit-question-def.routine code.calls-claiming·grants·commit-question (commit-question-thm.met 𝓤 H 𝓜 𝓖 𝓡))
-    (cited 𝓤 H (FreshAtSpec 𝓤 H (𝓖 .A) (𝓜 .mem) (𝓡 .run)) 𝓜 𝓡 code.env #records·run-maps·fresh-at fresh-at-def.routine code.calls-records·run-maps·fresh-at (fresh-at-thm.met 𝓤 H 𝓜 𝓖 𝓡))
+    (cited 𝓤 H (FreshAtSpec 𝓤 H (𝓖 .A) (𝓜 .mem) (𝓡 .run)) 𝓜 𝓡 code.env #table·run-maps·fresh-at fresh-at-def.routine code.calls-table·run-maps·fresh-at (fresh-at-thm.met 𝓤 H 𝓜 𝓖 𝓡))
     (cited 𝓤 H (GrantRunSpec 𝓤 H (𝓖 .A) (𝓜 .mem) (𝓡 .run)) 𝓜 𝓡 code.env #arena·arena-runs·grant-run grant-run-def.routine code.calls-arena·arena-runs·grant-run (grant-run-thm.met 𝓤 H 𝓜 𝓖 𝓡))
     (cited 𝓤 H (GrantedSpec 𝓤 H (𝓖 .A) (𝓜 .mem) (𝓡 .run)) 𝓜 𝓡 code.env #claiming·grants·granted granted-def.routine code.calls-claiming·grants·granted (granted-thm.met 𝓤 H 𝓜 𝓖 𝓡)))

@@ -1,10 +1,6 @@
 -- `claiming::misses::may_reserve` meets its contract. The machine holds the id's bits, and reads back the id that came in. Assumes nothing.
-use mathlib.Core.Path.{_≡_, sym, ap, _∙_}
-use mathlib.Core.Bool.{true}
-use lib.IntN.{pos}
-use lib.Signed.{leZ}
+use Rattle.state.proofs.Prelude.{_≡_, sym, ap, _∙_, true, pos, leZ, isNegative}
 use mir.Facts.{toZ-ofZ}
-use Rattle.layer.specs.Claiming.{isNegative}
 use Rattle.claiming.proofs.MissLaws.{named, unnamed, reserve-not-named, reserve-small, reserve-mark}
 use Rattle.claiming.proofs.misses.may_reserve.Statement.{statement}
 use Rattle.claiming.proofs.misses.may_reserve.Tie as tie

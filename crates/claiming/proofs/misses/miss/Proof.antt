@@ -1,12 +1,6 @@
 -- `claiming::misses::miss` meets its contract. Assumes nothing.
-use mathlib.Core.Path.{_≡_, sym, ap, _∙_}
-use mathlib.Core.Bool.{true, false, not, _&&_}
-use borrow.Author.Needs.{needs}
-use borrow.Author.Tests.{not-true, not-false}
-use lib.Dec.{leb}
-use lib.IntN.{ℤ}
+use Rattle.state.proofs.Prelude.{_≡_, sym, ap, _∙_, true, not, _&&_, needs, not-true, not-false, leb, ℤ, isNegative}
 use mir.Facts.{toZ-ofZ}
-use Rattle.layer.specs.Claiming.{isNegative}
 use Rattle.claiming.proofs.MissLaws.{miss-plain, miss-gives-up, miss-asks}
 use Rattle.claiming.proofs.misses.miss.Statement.{statement}
 use Rattle.claiming.proofs.misses.miss.Tie as tie

@@ -1,14 +1,10 @@
 -- `claiming::searching::is_eligible` meets its contract. The machine holds the id's bits, and reads back the id that came in. Assumes nothing.
-use mathlib.Core.Path.{_≡_, sym, ap, _∙_, subst}
-use mathlib.Core.Bool.{false, not}
-use lib.Dec.{T, eqb}
-use lib.IntN.{ℤ, pos, natAbs}
-use lib.Signed.{ltZ, nonNeg}
+use Rattle.state.proofs.Prelude.{_≡_, sym, ap, _∙_, subst, false, not, T, eqb, ℤ, pos, natAbs, ltZ, nonNeg}
 use mir.Syntax.{w64}
 use mir.Val.{Fits}
 use mir.Facts.{toZ-ofZ}
-use Rattle.judge.specs.Heads.{headed}
-use Rattle.judge.proofs.ClaimLaws.{negative-id, named-id, named-fits}
+use Rattle.table.specs.Heads.{headed}
+use Rattle.table.proofs.heads.ClaimLaws.{negative-id, named-id, named-fits}
 use Rattle.claiming.proofs.searching.is_eligible.Statement.{statement}
 use Rattle.claiming.proofs.searching.is_eligible.Tie as tie
 

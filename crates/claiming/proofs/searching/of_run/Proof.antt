@@ -1,6 +1,5 @@
 -- `claiming::searching::of_run` meets its contract. Assumes nothing.
-use mathlib.Core.Path.{sym, ap}
-use borrow.Author.Needs.{needs}
+use Rattle.state.proofs.Prelude.{sym, ap, needs}
 use Rattle.claiming.specs.Search.{runVerdict}
 use Rattle.claiming.proofs.searching.of_run.Statement.{statement}
 use Rattle.claiming.proofs.searching.of_run.Tie as tie

@@ -70,7 +70,7 @@ module _ {M : Type 1} (𝓤 : URA M) (H : Heap 𝓤) (A : Atoms 𝓤) (W : Given
       pub below : i ≤ k
       pub inv : Passed false (has-run records id n) i
 
-    module _ (known-records : Known T-Arena.the-row L-records records) (f-k : k < 2 ^ 64) (f-id : Fits w32 bits-id) (f-n : n < 2 ^ 64) (need : (Searchable records k)) (bs : Blocks (code.function .locals)) where
+    module _ (known-records : Known T-Arena.the-row L-records records) (f-k : k < 2 ^ 64) (f-id : Fits w32 bits-id) (f-n : n < 2 ^ 64) (need : (Searchable records k × (0 < n))) (bs : Blocks (code.function .locals)) where
       abbrev En : Env 𝓤 H
       En = envOf 𝓤 H (code.function .locals) bs
 
@@ -85,7 +85,7 @@ module _ {M : Type 1} (𝓤 : URA M) (H : Heap 𝓤) (A : Atoms 𝓤) (W : Given
           tests ! (load ! (from ! (stop !)) (look ! 15 refl))
           (λ more. let lt : i < k = ltb→lt i k more in let f-i : i < 2 ^ 64 = omega (arith, lt, f-k) in
           arg-fits ! 1 refl (λ f6-1. arg-fits ! 2 refl (λ f6-2. arg-fits ! 3 refl (λ f6-3.
-          verdict-at-pass ! (in-seq ! (fmOf 𝓤 H (W .laws) 𝓣)) mem run known-verdict-at L-records records _ (f6-1 .fits) _ f6-2 _ (f6-3 .fits) ((is-lent records k i (need .0) lt, need .1 i lt))
+          verdict-at-pass ! (in-seq ! (fmOf 𝓤 H (W .laws) 𝓣)) mem run known-verdict-at L-records records _ (f6-1 .fits) _ f6-2 _ (f6-3 .fits) ((is-lent records k i (need .0 .0) lt, need .0 .1 i lt, need .1))
           (λ _. and-then ! (arg ! refl) (and-then ! (arg ! refl) (and-then ! (arg ! refl) (and-then ! (arg ! refl) (no-more !))))) (λ v-v g-v. let v : Verdict = verdictOf id n i (at records i) in
           land ! (from ! (stop !)) (init ! 13 refl (EL.lawful T-Verdict.the-type L-Verdict.the-laws 𝓤 H A W tt .typed v (v-v ∷ []) g-v .0)) $
           is-run-step ! (in-seq ! (fmOf 𝓤 H (W .laws) 𝓣)) mem run known-is-run v v-v g-v
@@ -109,7 +109,7 @@ module _ {M : Type 1} (𝓤 : URA M) (H : Heap 𝓤) (A : Atoms 𝓤) (W : Given
           returns ! (look ! 1 refl) $ used ! $ used ! $ used ! $ used ! $ used ! $ used ! $ room ! $ used ! $ room ! $ free0 ! $
           finishS 𝓤 H A T-Arena.the-row L-records T-Verdict.the-row records χ W (‵ ftrue) v-result result g-result (none-found records id n k inv-end)))
 
-    walk : Known T-Arena.the-row L-records records → k < 2 ^ 64 → Fits w32 bits-id → n < 2 ^ 64 → (Searchable records k) → Shown χ
+    walk : Known T-Arena.the-row L-records records → k < 2 ^ 64 → Fits w32 bits-id → n < 2 ^ 64 → (Searchable records k × (0 < n)) → Shown χ
     walk known-records f-k f-id f-n need =
         enters ! code.function (λ bs. params1 ! $
         pass1 ! (init ! 3 refl (tt, (tt, (record { fits = known-records .1 .0 }, tt)))) $ pass1 ! (init ! 5 refl (tt, record { fits = f-k })) $ pass1 ! (init ! 7 refl (tt, f-id)) $ pass1 ! (init ! 9 refl (tt, record { fits = f-n })) $ pass0 ! $
@@ -119,7 +119,7 @@ module _ {M : Type 1} (𝓤 : URA M) (H : Heap 𝓤) (A : Atoms 𝓤) (W : Given
   search-meets : Meets 𝓤 H A search′.signature (WpFn 𝓤 H (𝓣 .C) (𝓣 .Λ) code.function) (search′.spec 𝓤 H A mem run)
   search-meets = shr-meets 𝓤 H A W T-Arena.the-row T-Verdict.the-row (plain (λ _. usize) ∷ plain (λ _. i32) ∷ plain (λ _. usize) ∷ []) (yes, (yes, (yes, tt))) (search′.clauses 𝓤 H A mem run)
       (λ κs. (uint-vals w64, (sint-vals w32, (uint-vals w64, tt)))) (λ κs a. (tt, (tt, (tt, tt))))
-      (λ κs x g. Searchable (x .0 .now) (x .1 .0)) (λ κs x g out. out ≡ searchFrom (x .0 .now) (x .1 .1 .0) (x .1 .1 .1 .0) 0 (x .1 .0))
+      (λ κs x g. Searchable (x .0 .now) (x .1 .0) × (0 < (x .1 .1 .1 .0))) (λ κs x g out. out ≡ searchFrom (x .0 .now) (x .1 .1 .0) (x .1 .1 .1 .0) 0 (x .1 .0))
       (EL.makes T-Verdict.the-type L-Verdict.the-plain 𝓤 H A) ((λ κs x f. refl), ((λ κs x f. refl), ((λ κs x f. refl), tt))) (λ κs. (uint-tells w64, (sint-tells w32, (uint-tells w64, tt))))
       (λ κs x g. id⊢ 𝓤 _) (λ κs x g out e. factI 𝓤 _ (emp 𝓤) e) code.function 𝓣
       (λ κ q0 x g known0 are l. subst (λ (z : ℤ). Shown κ q0 (x .0 .name) (x .0 .ptr .0) (x .0 .ptr .1) (x .0 .now) (x .1 .0) (ofZ w32 (x .1 .1 .0)) (x .1 .1 .1 .0) (λ out. out ≡ searchFrom (x .0 .now) z (x .1 .1 .1 .0) 0 (x .1 .0))) (toZ-ofZ w32 (x .1 .1 .0) (record { sfits = (are .1 .0 .1) })) (walk κ q0 (x .0 .name) (x .0 .ptr .0) (x .0 .ptr .1) (x .0 .now) (x .1 .0) (ofZ w32 (x .1 .1 .0)) (x .1 .1 .1 .0) known0 (are .0 .1) (ofZ-fits w32 (x .1 .1 .0) (record { sfits = (are .1 .0 .1) })) (are .1 .1 .0 .1) l))

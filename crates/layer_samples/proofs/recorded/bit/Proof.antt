@@ -1,7 +1,6 @@
 -- `layer_samples::recorded::bit` meets its contract. Assumes nothing.
-use Rattle.words.specs.Bits.{bit}
-use mathlib.Core.Path.{refl}
-use borrow.Author.Needs.{needs}
+use Rattle.bitmap.specs.Bits.{bit}
+use Rattle.state.proofs.Prelude.{refl, needs}
 use Rattle.layer_samples.proofs.recorded.bit.Statement.{statement}
 use Rattle.layer_samples.proofs.recorded.bit.Tie as tie
 

@@ -1,9 +1,6 @@
 -- `layer_samples::recorded::free_of` meets its contract. Assumes nothing.
-use mathlib.Core.Path.{sym, ap, _∙_}
-use borrow.Author.Tests.{eq-eqb, ne-eqb}
-use Rattle.words.proofs.Tests.{when, unless}
+use Rattle.state.proofs.Prelude.{sym, ap, _∙_, eq-eqb, ne-eqb, when, unless, needs}
 use Rattle.calls.specs.declared.kinds.FreeCall.the-variants.{PurgeDue}
-use borrow.Author.Needs.{needs}
 use Rattle.layer_samples.proofs.recorded.free_of.Statement.{statement}
 use Rattle.layer_samples.proofs.recorded.free_of.Tie as tie
 

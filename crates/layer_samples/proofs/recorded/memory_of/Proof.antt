@@ -1,8 +1,5 @@
 -- `layer_samples::recorded::memory_of` meets its contract. Assumes nothing.
-use mathlib.Core.Path.{sym, _∙_}
-use borrow.Author.Tests.{eq-eqb, ne-eqb}
-use Rattle.words.proofs.Tests.{when, unless}
-use borrow.Author.Needs.{needs}
+use Rattle.state.proofs.Prelude.{sym, _∙_, eq-eqb, ne-eqb, when, unless, needs}
 use Rattle.layer_samples.proofs.recorded.memory_of.Statement.{statement}
 use Rattle.layer_samples.proofs.recorded.memory_of.Tie as tie
 

@@ -1,14 +1,11 @@
 -- `layer_samples::recorded::recorded` meets its contract. Assumes nothing.
-use mathlib.Core.Path.{sym, ap, _∙_}
-use borrow.Author.Tests.{lt-ltb, le-ltb, eq-eqb, ne-eqb}
-use Rattle.words.proofs.Tests.{when, unless}
+use Rattle.state.proofs.Prelude.{sym, ap, _∙_, lt-ltb, le-ltb, eq-eqb, ne-eqb, when, unless, needs}
 use Rattle.calls.specs.declared.kinds.MemoryCall.{MemoryCall}
 use Rattle.calls.specs.declared.kinds.ClaimCall.{ClaimCall}
 use Rattle.calls.specs.declared.kinds.FreeCall.{FreeCall}
 use Rattle.calls.specs.declared.kinds.ActCall.the-variants.{Memory, Claim, Free}
 use Rattle.calls.specs.declared.kinds.Call.the-variants.{Act, Query}
 use Rattle.layer_samples.specs.Recorded.{recordedOf}
-use borrow.Author.Needs.{needs}
 use Rattle.layer_samples.proofs.recorded.recorded.Statement.{statement}
 use Rattle.layer_samples.proofs.recorded.recorded.Tie as tie
 

@@ -1,12 +1,5 @@
 -- `layer_samples::state_hash::node_word` meets its contract. The machine holds the node's bits, and reads back the node that came in. Assumes nothing.
-use mathlib.Core.Path.{_≡_, refl, sym, ap, _∙_, subst}
-use mathlib.Core.Bool.{true, false, true≢false}
-use Prim.Native.Nat.{ℕ, suc, _-_, _≤_, _^_}
-use native.Mathlib.Omega.{arith}
-use borrow.Author.Tests.{ltb-true}
-use lib.Dec.{T}
-use lib.IntN.{ℤ, pos, negsuc, natAbs}
-use lib.Signed.{ltZ, nonNeg}
+use Rattle.state.proofs.Prelude.{_≡_, refl, sym, ap, _∙_, subst, true, false, true≢false, suc, _-_, _≤_, _^_, arith, ltb-true, T, ℤ, pos, negsuc, natAbs, ltZ, nonNeg}
 use mir.Syntax.{w32}
 use mir.Val.{Fits, SFits, toZ, ofZ}
 use mir.Facts.{toZ-ofZ}

@@ -1,6 +1,5 @@
 -- `layer_samples::state_hash::of_state` meets its contract. Assumes nothing.
-use mathlib.Core.Path.{ap, _∙_}
-use Prim.Native.Nat.{ℕ, _%_}
+use Rattle.state.proofs.Prelude.{ap, _∙_, ℕ, _%_}
 use Rattle.surface.specs.declared.StateNumbers.{StateNumbers}
 use Rattle.samples.specs.Hash.{withWord}
 use Rattle.layer_samples.specs.StateHash.{ofState}

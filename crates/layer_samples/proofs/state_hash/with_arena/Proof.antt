@@ -1,6 +1,5 @@
 -- `layer_samples::state_hash::with_arena` meets its contract. Assumes nothing.
-use mathlib.Core.Path.{ap, _∙_}
-use Prim.Native.Nat.{ℕ}
+use Rattle.state.proofs.Prelude.{ap, _∙_, ℕ}
 use Rattle.layer_samples.specs.StateHash.{withMaps}
 use Rattle.layer_samples.proofs.state_hash.with_arena.Statement.{statement}
 use Rattle.layer_samples.proofs.state_hash.with_arena.Tie as tie

@@ -1,11 +1,9 @@
 -- `layer_samples::state_hash::with_head` meets its contract. Assumes nothing.
-use mathlib.Core.Path.{ap, ap₂, _∙_}
-use Prim.Native.Nat.{ℕ}
+use Rattle.state.proofs.Prelude.{ap, ap₂, _∙_, ℕ}
 use mir.Syntax.{w32}
 use mir.Val.{SFits}
 use mir.Facts.{toZ-ofZ}
 use Rattle.layer_samples.specs.StateHash.{owner, nodeWord, withNumbers, withHead}
-use borrow.Author.Needs.{needs}
 use Rattle.layer_samples.proofs.state_hash.with_head.Statement.{statement}
 use Rattle.layer_samples.proofs.state_hash.with_head.Tie as tie
 

@@ -1,7 +1,5 @@
 -- `layer_samples::state_hash::with_maps` meets its contract. Assumes nothing.
-use borrow.Author.Needs.{needs}
-use mathlib.Core.Path.{ap, _∙_}
-use Prim.Native.Nat.{ℕ}
+use Rattle.state.proofs.Prelude.{needs, ap, _∙_, ℕ}
 use Rattle.samples.specs.Hash.{withWords}
 use Rattle.layer_samples.specs.StateHash.{withMaps}
 use Rattle.layer_samples.proofs.state_hash.with_maps.Statement.{statement}

@@ -1,6 +1,5 @@
 -- `layer_samples::state_hash::with_numbers` meets its contract. Assumes nothing.
-use mathlib.Core.Path.{ap, ap₂, _∙_}
-use Prim.Native.Nat.{ℕ}
+use Rattle.state.proofs.Prelude.{ap, ap₂, _∙_, ℕ}
 use Rattle.samples.specs.Hash.{withWord}
 use Rattle.layer_samples.specs.StateHash.{withNumbers}
 use Rattle.layer_samples.proofs.state_hash.with_numbers.Statement.{statement}

@@ -1,9 +1,6 @@
 -- `layer_samples::state_hash::with_stamps` meets its contract. Assumes nothing.
 use Rattle.layer_samples.specs.StateHash.{withStamps}
-use borrow.Author.Tests.{lt-ltb, le-ltb}
-use mathlib.Core.Path.{sym, _∙_}
-use Rattle.words.proofs.Tests.{when, unless}
-use borrow.Author.Needs.{needs}
+use Rattle.state.proofs.Prelude.{lt-ltb, le-ltb, sym, _∙_, when, unless, needs}
 use Rattle.layer_samples.proofs.state_hash.with_stamps.Statement.{statement}
 use Rattle.layer_samples.proofs.state_hash.with_stamps.Tie as tie
 

@@ -10,8 +10,8 @@ use Rattle.layer.proofs.Reply.Laws as L-Reply
 use Rattle.refusals.proofs.Refusal as T-Refusal
 use Rattle.refusals.proofs.Refusal.Laws as L-Refusal
 use denote.Enum.Laws as EL
-use Rattle.runs.proofs.Found as T-Found
-use Rattle.runs.proofs.Found.Laws as L-Found
+use Rattle.bitmap.proofs.runs.Found as T-Found
+use Rattle.bitmap.proofs.runs.Found.Laws as L-Found
 use Rattle.layer.specs.declared.State.{State}
 use Rattle.arena.specs.declared.Arena.{Arena}
 use Rattle.layer.specs.declared.Reply.{Reply}
@@ -24,7 +24,7 @@ use Prim.Native.Nat.{_%_, _/_}
 use Rattle.layer.specs.Table.{badRange, isAt, at}
 use Rattle.layer.specs.declared.Answer.the-variants.{Registered}
 use Rattle.arena.specs.Registering.{grownArena}
-use Rattle.runs.specs.declared.Found.{Found}
+use Rattle.bitmap.specs.declared.runs.Found.{Found}
 use Rattle.state.proofs.Entry.{size-fits, arenas}
 use Rattle.registering.proofs.AdoptLaws.{growable, zero-row, part-row, range-row, grown-row, adopted}
 use Rattle.walks.proofs.Frame.{Done2, finish2, mut2-meets}
@@ -46,12 +46,12 @@ use Rattle.registering.proofs.counts.whole_chunks.Met as whole-chunks-t
 use Rattle.table.proofs.find_growing.Symbol as find-growing-def
 use Rattle.table.proofs.find_growing.Symbol.{name as #table·find-growing}
 use Rattle.table.proofs.find_growing.Met as find-growing-thm
-use Rattle.judge.proofs.row_parts.is_at.Symbol as is-at-def
-use Rattle.judge.proofs.row_parts.is_at.Symbol.{name as #judge·row-parts·is-at}
-use Rattle.judge.proofs.row_parts.is_at.Met as is-at-thm
-use Rattle.judge.proofs.row_parts.id_of.Symbol as id-of-def
-use Rattle.judge.proofs.row_parts.id_of.Symbol.{name as #judge·row-parts·id-of}
-use Rattle.judge.proofs.row_parts.id_of.Met as id-of-thm
+use Rattle.table.proofs.row_parts.is_at.Symbol as is-at-def
+use Rattle.table.proofs.row_parts.is_at.Symbol.{name as #table·row-parts·is-at}
+use Rattle.table.proofs.row_parts.is_at.Met as is-at-thm
+use Rattle.table.proofs.row_parts.id_of.Symbol as id-of-def
+use Rattle.table.proofs.row_parts.id_of.Symbol.{name as #table·row-parts·id-of}
+use Rattle.table.proofs.row_parts.id_of.Met as id-of-thm
 use Rattle.registering.proofs.adopting.grow_at.Symbol as grow-at-def
 use Rattle.registering.proofs.adopting.grow_at.Symbol.{name as #registering·adopting·grow-at}
 use Rattle.registering.proofs.adopting.grow_at.Met as grow-at-thm
@@ -61,8 +61,7 @@ use Rattle.registering.proofs.adopting.adopt_new.Met as adopt-new-thm
 use Rattle.state.proofs.Callable.{RefuseSpec, ChunkSizeSpec, refuse-step, chunk-size-step}
 use Rattle.registering.proofs.adopting.Callable.{IsWholeSpec, GrowAtSpec, AdoptNewSpec, is-whole-step, grow-at-step, adopt-new-step}
 use Rattle.registering.proofs.Callable.{RangeBadSpec, WholeChunksSpec, range-bad-step, whole-chunks-step}
-use Rattle.table.proofs.Callable.{FindGrowingSpec, find-growing-step}
-use Rattle.judge.proofs.Callable.{IsAtSpec, IdOfSpec, is-at-step, id-of-step}
+use Rattle.table.proofs.Callable.{FindGrowingSpec, IsAtSpec, IdOfSpec, find-growing-step, is-at-step, id-of-step}
 use Rattle.registering.proofs.adopting.adopt.Key.{name as #registering·adopting·adopt}
 use Rattle.registering.proofs.adopting.adopt as adopt′
 use Rattle.registering.proofs.adopting.adopt.Statement as stated
@@ -75,8 +74,8 @@ module _ {M : Type 1} (𝓤 : URA M) (H : Heap 𝓤) (A : Atoms 𝓤) (W : Given
     (known-range-bad : Triple 𝓤 (𝓣 .C #registering·ranges·range-bad) (RangeBadSpec 𝓤 H A mem run))
     (known-whole-chunks : Triple 𝓤 (𝓣 .C #registering·counts·whole-chunks) (WholeChunksSpec 𝓤 H A mem run))
     (known-find-growing : Triple 𝓤 (𝓣 .C #table·find-growing) (FindGrowingSpec 𝓤 H A mem run))
-    (known-is-at : Triple 𝓤 (𝓣 .C #judge·row-parts·is-at) (IsAtSpec 𝓤 H A mem run))
-    (known-id-of : Triple 𝓤 (𝓣 .C #judge·row-parts·id-of) (IdOfSpec 𝓤 H A mem run))
+    (known-is-at : Triple 𝓤 (𝓣 .C #table·row-parts·is-at) (IsAtSpec 𝓤 H A mem run))
+    (known-id-of : Triple 𝓤 (𝓣 .C #table·row-parts·id-of) (IdOfSpec 𝓤 H A mem run))
     (known-grow-at : Triple 𝓤 (𝓣 .C #registering·adopting·grow-at) (GrowAtSpec 𝓤 H A mem run))
     (known-adopt-new : Triple 𝓤 (𝓣 .C #registering·adopting·adopt-new) (AdoptNewSpec 𝓤 H A mem run)) where
   module _ (κ-records κ-stamps : Lft) (q-records q-stamps : Share) (γ-records γ-stamps : GName) (b-records b-stamps : ℕ) (o-records o-stamps : ℕ) (records : List Arena) (stamps : List ℕ) (state : State) (address : ℕ) (size : ℕ) where
@@ -228,7 +227,7 @@ adopt-spec 𝓤 H 𝓜 𝓖 𝓡 =
     (cited 𝓤 H (RangeBadSpec 𝓤 H (𝓖 .A) (𝓜 .mem) (𝓡 .run)) 𝓜 𝓡 code.env #registering·ranges·range-bad range-bad-def.routine code.calls-registering·ranges·range-bad (range-bad-thm.met 𝓤 H 𝓜 𝓖 𝓡))
     (cited 𝓤 H (WholeChunksSpec 𝓤 H (𝓖 .A) (𝓜 .mem) (𝓡 .run)) 𝓜 𝓡 code.env #registering·counts·whole-chunks whole-chunks-def.routine code.calls-registering·counts·whole-chunks (whole-chunks-thm.met 𝓤 H 𝓜 𝓖 𝓡))
     (cited 𝓤 H (FindGrowingSpec 𝓤 H (𝓖 .A) (𝓜 .mem) (𝓡 .run)) 𝓜 𝓡 code.env #table·find-growing find-growing-def.routine code.calls-table·find-growing (find-growing-thm.met 𝓤 H 𝓜 𝓖 𝓡))
-    (cited 𝓤 H (IsAtSpec 𝓤 H (𝓖 .A) (𝓜 .mem) (𝓡 .run)) 𝓜 𝓡 code.env #judge·row-parts·is-at is-at-def.routine code.calls-judge·row-parts·is-at (is-at-thm.met 𝓤 H 𝓜 𝓖 𝓡))
-    (cited 𝓤 H (IdOfSpec 𝓤 H (𝓖 .A) (𝓜 .mem) (𝓡 .run)) 𝓜 𝓡 code.env #judge·row-parts·id-of id-of-def.routine code.calls-judge·row-parts·id-of (id-of-thm.met 𝓤 H 𝓜 𝓖 𝓡))
+    (cited 𝓤 H (IsAtSpec 𝓤 H (𝓖 .A) (𝓜 .mem) (𝓡 .run)) 𝓜 𝓡 code.env #table·row-parts·is-at is-at-def.routine code.calls-table·row-parts·is-at (is-at-thm.met 𝓤 H 𝓜 𝓖 𝓡))
+    (cited 𝓤 H (IdOfSpec 𝓤 H (𝓖 .A) (𝓜 .mem) (𝓡 .run)) 𝓜 𝓡 code.env #table·row-parts·id-of id-of-def.routine code.calls-table·row-parts·id-of (id-of-thm.met 𝓤 H 𝓜 𝓖 𝓡))
     (cited 𝓤 H (GrowAtSpec 𝓤 H (𝓖 .A) (𝓜 .mem) (𝓡 .run)) 𝓜 𝓡 code.env #registering·adopting·grow-at grow-at-def.routine code.calls-registering·adopting·grow-at (grow-at-thm.met 𝓤 H 𝓜 𝓖 𝓡))
     (cited 𝓤 H (AdoptNewSpec 𝓤 H (𝓖 .A) (𝓜 .mem) (𝓡 .run)) 𝓜 𝓡 code.env #registering·adopting·adopt-new adopt-new-def.routine code.calls-registering·adopting·adopt-new (adopt-new-thm.met 𝓤 H 𝓜 𝓖 𝓡)))

@@ -19,20 +19,20 @@ use Rattle.walks.proofs.Frame.{Done, finish, mut-meets}
 use Rattle.registering.proofs.counts.as_recorded.Symbol as as-recorded-def
 use Rattle.registering.proofs.counts.as_recorded.Symbol.{name as #registering·counts·as-recorded}
 use Rattle.registering.proofs.counts.as_recorded.Met as as-recorded-thm
-use Rattle.records.proofs.load.Symbol as load-def
-use Rattle.records.proofs.load.Symbol.{name as #records·load}
-use Rattle.records.proofs.load.Met as load-thm
+use Rattle.table.proofs.records.load.Symbol as load-def
+use Rattle.table.proofs.records.load.Symbol.{name as #table·records·load}
+use Rattle.table.proofs.records.load.Met as load-thm
 use Rattle.arena.proofs.grow.Symbol as grow-def
 use Rattle.arena.proofs.grow.Symbol.{name as #arena·grow}
 use Rattle.arena.proofs.grow.Met as grow-thm
-use Rattle.records.proofs.store.Symbol as store-def
-use Rattle.records.proofs.store.Symbol.{name as #records·store}
-use Rattle.records.proofs.store.Met as store-thm
+use Rattle.table.proofs.records.store.Symbol as store-def
+use Rattle.table.proofs.records.store.Symbol.{name as #table·records·store}
+use Rattle.table.proofs.records.store.Met as store-thm
 use Rattle.registering.proofs.adopting.grown.Symbol as grown-def
 use Rattle.registering.proofs.adopting.grown.Symbol.{name as #registering·adopting·grown}
 use Rattle.registering.proofs.adopting.grown.Met as grown-thm
 use Rattle.registering.proofs.Callable.{AsRecordedSpec, as-recorded-step}
-use Rattle.records.proofs.Callable.{LoadSpec, StoreSpec, load-step, store-step}
+use Rattle.table.proofs.Callable.{LoadSpec, StoreSpec, load-step, store-step}
 use Rattle.arena.proofs.Callable.{GrowSpec, grow-step}
 use Rattle.registering.proofs.adopting.Callable.{GrownSpec, grown-step}
 use Rattle.registering.proofs.adopting.grow_at.Key.{name as #registering·adopting·grow-at}
@@ -42,9 +42,9 @@ use Rattle.registering.proofs.adopting.grow_at.Code as code
 
 module _ {M : Type 1} (𝓤 : URA M) (H : Heap 𝓤) (A : Atoms 𝓤) (W : Given 𝓤 H A) (mem : Memory → SProp 𝓤) (run : Routine → Fun 𝓤) (𝓣 : Tables 𝓤 H)
     (known-as-recorded : Triple 𝓤 (𝓣 .C #registering·counts·as-recorded) (AsRecordedSpec 𝓤 H A mem run))
-    (known-load : Triple 𝓤 (𝓣 .C #records·load) (LoadSpec 𝓤 H A mem run))
+    (known-load : Triple 𝓤 (𝓣 .C #table·records·load) (LoadSpec 𝓤 H A mem run))
     (known-grow : Triple 𝓤 (𝓣 .C #arena·grow) (GrowSpec 𝓤 H A mem run))
-    (known-store : Triple 𝓤 (𝓣 .C #records·store) (StoreSpec 𝓤 H A mem run))
+    (known-store : Triple 𝓤 (𝓣 .C #table·records·store) (StoreSpec 𝓤 H A mem run))
     (known-grown : Triple 𝓤 (𝓣 .C #registering·adopting·grown) (GrownSpec 𝓤 H A mem run)) where
   module _ (κ-records : Lft) (q-records : Share) (γ-records : GName) (b-records : ℕ) (o-records : ℕ) (records : List Arena) (state : State) (i : ℕ) (n : ℕ) where
     abbrev L-records : Loan
@@ -123,7 +123,7 @@ grow-at-spec 𝓤 H 𝓜 𝓖 𝓡 =
     (tables 𝓤 H 𝓜 𝓡 code.env .C) (tables 𝓤 H 𝓜 𝓡 code.env .Λ) #registering·adopting·grow-at code.function (code.unfolded 𝓤 H 𝓜 𝓡)
     (grow-at-meets 𝓤 H (𝓖 .A) (givenOf 𝓤 H 𝓜 𝓖) (𝓜 .mem) (𝓡 .run) (tablesOf 𝓤 H 𝓜 (tables 𝓤 H 𝓜 𝓡 code.env))
     (cited 𝓤 H (AsRecordedSpec 𝓤 H (𝓖 .A) (𝓜 .mem) (𝓡 .run)) 𝓜 𝓡 code.env #registering·counts·as-recorded as-recorded-def.routine code.calls-registering·counts·as-recorded (as-recorded-thm.met 𝓤 H 𝓜 𝓖 𝓡))
-    (cited 𝓤 H (LoadSpec 𝓤 H (𝓖 .A) (𝓜 .mem) (𝓡 .run)) 𝓜 𝓡 code.env #records·load load-def.routine code.calls-records·load (load-thm.met 𝓤 H 𝓜 𝓖 𝓡))
+    (cited 𝓤 H (LoadSpec 𝓤 H (𝓖 .A) (𝓜 .mem) (𝓡 .run)) 𝓜 𝓡 code.env #table·records·load load-def.routine code.calls-table·records·load (load-thm.met 𝓤 H 𝓜 𝓖 𝓡))
     (cited 𝓤 H (GrowSpec 𝓤 H (𝓖 .A) (𝓜 .mem) (𝓡 .run)) 𝓜 𝓡 code.env #arena·grow grow-def.routine code.calls-arena·grow (grow-thm.met 𝓤 H 𝓜 𝓖 𝓡))
-    (cited 𝓤 H (StoreSpec 𝓤 H (𝓖 .A) (𝓜 .mem) (𝓡 .run)) 𝓜 𝓡 code.env #records·store store-def.routine code.calls-records·store (store-thm.met 𝓤 H 𝓜 𝓖 𝓡))
+    (cited 𝓤 H (StoreSpec 𝓤 H (𝓖 .A) (𝓜 .mem) (𝓡 .run)) 𝓜 𝓡 code.env #table·records·store store-def.routine code.calls-table·records·store (store-thm.met 𝓤 H 𝓜 𝓖 𝓡))
     (cited 𝓤 H (GrownSpec 𝓤 H (𝓖 .A) (𝓜 .mem) (𝓡 .run)) 𝓜 𝓡 code.env #registering·adopting·grown grown-def.routine code.calls-registering·adopting·grown (grown-thm.met 𝓤 H 𝓜 𝓖 𝓡)))

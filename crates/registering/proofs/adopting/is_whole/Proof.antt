@@ -1,9 +1,6 @@
 -- `registering::adopting::is_whole` meets its contract. Assumes nothing.
-use mathlib.Core.Path.{sym}
-use Prim.Native.Nat.{_%_}
-use borrow.Author.Tests.{eq-eqb, ne-eqb}
+use Rattle.state.proofs.Prelude.{sym, _%_, eq-eqb, ne-eqb, needs}
 use Rattle.registering.proofs.TestLaws.{and-first, and-second}
-use borrow.Author.Needs.{needs}
 use Rattle.registering.proofs.adopting.is_whole.Statement.{statement}
 use Rattle.registering.proofs.adopting.is_whole.Tie as tie
 

@@ -1,8 +1,6 @@
 -- `registering::counts::chunks_for` meets its contract. Assumes nothing.
-use mathlib.Core.Path.{sym}
+use Rattle.state.proofs.Prelude.{sym, arith, needs}
 use Rattle.registering.proofs.CountLaws.{chunks-whole, chunks-part, part-fits}
-use native.Mathlib.Omega.{arith}
-use borrow.Author.Needs.{needs}
 use Rattle.registering.proofs.counts.chunks_for.Statement.{statement}
 use Rattle.registering.proofs.counts.chunks_for.Tie as tie
 

@@ -1,5 +1,5 @@
 -- `registering::counts::has_bad_count` meets its contract. Assumes nothing.
-use mathlib.Core.Path.{sym}
+use Rattle.state.proofs.Prelude.{sym}
 use Rattle.registering.proofs.CountLaws.{count-zero, count-some}
 use Rattle.registering.proofs.counts.has_bad_count.Statement.{statement}
 use Rattle.registering.proofs.counts.has_bad_count.Tie as tie

@@ -1,8 +1,5 @@
 -- `registering::managing::bytes_from` meets its contract. Assumes nothing.
-use Prim.Native.Nat.{_+_, _*_, _/_, _<_}
-use native.Mathlib.Omega.{arith}
-use borrow.Author.Needs.{needs}
-use Rattle.layer.specs.Registering.{firstWhole, pastWhole}
+use Rattle.state.proofs.Prelude.{_+_, _*_, _/_, _<_, arith, needs, firstWhole, pastWhole}
 use Rattle.registering.proofs.WholeLaws.{whole-facts, past-fits}
 use Rattle.registering.proofs.managing.bytes_from.Statement.{statement}
 use Rattle.registering.proofs.managing.bytes_from.Tie as tie

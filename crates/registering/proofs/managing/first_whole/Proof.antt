@@ -1,9 +1,5 @@
 -- `registering::managing::first_whole` meets its contract. Assumes nothing.
-use mathlib.Core.Path.{ap}
-use Prim.Native.Nat.{ℕ, _*_, _<_}
-use native.Mathlib.Omega.{arith}
-use borrow.Author.Needs.{needs}
-use Rattle.layer.specs.Registering.{firstWhole}
+use Rattle.state.proofs.Prelude.{ap, ℕ, _*_, _<_, arith, needs, firstWhole}
 use Rattle.registering.proofs.WholeLaws.{base-fits}
 use Rattle.registering.proofs.managing.first_whole.Statement.{statement}
 use Rattle.registering.proofs.managing.first_whole.Tie as tie

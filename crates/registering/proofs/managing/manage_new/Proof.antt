@@ -16,7 +16,7 @@ use Rattle.arena.specs.declared.Arena.{Arena}
 use Rattle.layer.specs.declared.Reply.{Reply}
 use Rattle.arena.specs.Registering.{managedArena}
 use Rattle.layer.specs.World.{Leaves, turnDown, reply, calm}
-use Rattle.registering.specs.New.{newArena}
+use Rattle.registering.specs.New.{registerNew}
 use Rattle.state.specs.Ready.{Ready, Stamped}
 use Rattle.layer.specs.Registering.{badCount, withRecord, withStamps}
 use Rattle.refusals.specs.declared.Refusal.the-variants.{ChunkCount, TableFull}
@@ -77,7 +77,7 @@ module _ {M : Type 1} (𝓤 : URA M) (H : Heap 𝓤) (A : Atoms 𝓤) (W : Given
     node = toZ w32 bits-node
 
     abbrev χ : Reply → List Arena → List ℕ → Type 0
-    χ out records-exit stamps-exit = Leaves (newArena records stamps (state .count) (state .mark) chunks (managedArena base chunks exclusive node)) out records-exit stamps-exit
+    χ out records-exit stamps-exit = Leaves (registerNew records stamps (state .count) (state .mark) chunks (managedArena base chunks exclusive node)) out records-exit stamps-exit
 
     abbrev Shown : (Reply → List Arena → List ℕ → Type 0) → Type 1
     Shown says = Sq W ((‵ (lent T-Arena.the-row L-records records) ⊛ (‵ (lent u32 L-stamps stamps) ⊛ ‵ ftrue)) ∷ []) (prop (WpFn 𝓤 H (𝓣 .C) (𝓣 .Λ) code.function (sliceOf L-records ∷ sliceOf L-stamps ∷ v-state ∷ vint w64 base ∷ vint w64 chunks ∷ vbool exclusive ∷ vint w32 bits-node ∷ []) (Done2 𝓤 H A T-Arena.the-row u32 L-records L-stamps T-Reply.the-row records stamps says)))
@@ -166,10 +166,10 @@ module _ {M : Type 1} (𝓤 : URA M) (H : Heap 𝓤) (A : Atoms 𝓤) (W : Given
   manage-new-meets : Meets 𝓤 H A manage-new′.signature (WpFn 𝓤 H (𝓣 .C) (𝓣 .Λ) code.function) (manage-new′.spec 𝓤 H A mem run)
   manage-new-meets = mut2-meets 𝓤 H A W T-Arena.the-row u32 T-Reply.the-row (plain (λ _. T-State.the-row) ∷ plain (λ _. u64) ∷ plain (λ _. u64) ∷ plain (λ _. bool) ∷ plain (λ _. i32) ∷ []) (yes, (yes, (yes, (yes, (yes, tt))))) (manage-new′.clauses 𝓤 H A mem run)
       (λ κs. (LL.vals T-State.the-type L-State.the-laws, (uint-vals w64, (uint-vals w64, (bool-vals, (sint-vals w32, tt)))))) (λ κs a. (tt, (tt, (tt, (tt, (tt, tt))))))
-      (λ κs x g. Ready (x .0 .now) (x .1 .1 .0) × Stamped (x .1 .0 .now)) (λ κs x g out records-exit stamps-exit. Leaves (newArena (x .0 .now) (x .1 .0 .now) ((x .1 .1 .0) .count) ((x .1 .1 .0) .mark) (x .1 .1 .1 .1 .0) (managedArena (x .1 .1 .1 .0) (x .1 .1 .1 .1 .0) (x .1 .1 .1 .1 .1 .0) (x .1 .1 .1 .1 .1 .1 .0))) out records-exit stamps-exit)
+      (λ κs x g. Ready (x .0 .now) (x .1 .1 .0) × Stamped (x .1 .0 .now)) (λ κs x g out records-exit stamps-exit. Leaves (registerNew (x .0 .now) (x .1 .0 .now) ((x .1 .1 .0) .count) ((x .1 .1 .0) .mark) (x .1 .1 .1 .1 .0) (managedArena (x .1 .1 .1 .0) (x .1 .1 .1 .1 .0) (x .1 .1 .1 .1 .1 .0) (x .1 .1 .1 .1 .1 .1 .0))) out records-exit stamps-exit)
       (LL.makes T-Reply.the-type L-Reply.the-plain 𝓤 H A) ((λ κs x f. refl), ((λ κs x f. refl), ((λ κs x f. refl), ((λ κs x f. refl), ((λ κs x f. refl), tt))))) (λ κs. (LL.tells T-State.the-type L-State.the-laws, (uint-tells w64, (uint-tells w64, (bool-tells, (sint-tells w32, tt))))))
       (λ κs x g. id⊢ 𝓤 _) (λ κs x g out records-exit stamps-exit e. factI 𝓤 _ (emp 𝓤) e) code.function 𝓣
-      (λ κs q0 q1 x g known0 known1 are l. subst (λ (z : ℤ). Shown (κs .0) (κs .1 .0) q0 q1 (x .0 .name) (x .1 .0 .name) (x .0 .ptr .0) (x .1 .0 .ptr .0) (x .0 .ptr .1) (x .1 .0 .ptr .1) (x .0 .now) (x .1 .0 .now) (x .1 .1 .0) (x .1 .1 .1 .0) (x .1 .1 .1 .1 .0) (x .1 .1 .1 .1 .1 .0) (ofZ w32 (x .1 .1 .1 .1 .1 .1 .0)) (λ out records-exit stamps-exit. Leaves (newArena (x .0 .now) (x .1 .0 .now) ((x .1 .1 .0) .count) ((x .1 .1 .0) .mark) (x .1 .1 .1 .1 .0) (managedArena (x .1 .1 .1 .0) (x .1 .1 .1 .1 .0) (x .1 .1 .1 .1 .1 .0) z)) out records-exit stamps-exit)) (toZ-ofZ w32 (x .1 .1 .1 .1 .1 .1 .0) (record { sfits = (are .1 .1 .1 .1 .0 .1) })) (walk (κs .0) (κs .1 .0) q0 q1 (x .0 .name) (x .1 .0 .name) (x .0 .ptr .0) (x .1 .0 .ptr .0) (x .0 .ptr .1) (x .1 .0 .ptr .1) (x .0 .now) (x .1 .0 .now) (x .1 .1 .0) (x .1 .1 .1 .0) (x .1 .1 .1 .1 .0) (x .1 .1 .1 .1 .1 .0) (ofZ w32 (x .1 .1 .1 .1 .1 .1 .0)) known0 known1 (are .0) (are .1 .0 .1) (are .1 .1 .0 .1) (ofZ-fits w32 (x .1 .1 .1 .1 .1 .1 .0) (record { sfits = (are .1 .1 .1 .1 .0 .1) })) l))
+      (λ κs q0 q1 x g known0 known1 are l. subst (λ (z : ℤ). Shown (κs .0) (κs .1 .0) q0 q1 (x .0 .name) (x .1 .0 .name) (x .0 .ptr .0) (x .1 .0 .ptr .0) (x .0 .ptr .1) (x .1 .0 .ptr .1) (x .0 .now) (x .1 .0 .now) (x .1 .1 .0) (x .1 .1 .1 .0) (x .1 .1 .1 .1 .0) (x .1 .1 .1 .1 .1 .0) (ofZ w32 (x .1 .1 .1 .1 .1 .1 .0)) (λ out records-exit stamps-exit. Leaves (registerNew (x .0 .now) (x .1 .0 .now) ((x .1 .1 .0) .count) ((x .1 .1 .0) .mark) (x .1 .1 .1 .1 .0) (managedArena (x .1 .1 .1 .0) (x .1 .1 .1 .1 .0) (x .1 .1 .1 .1 .1 .0) z)) out records-exit stamps-exit)) (toZ-ofZ w32 (x .1 .1 .1 .1 .1 .1 .0) (record { sfits = (are .1 .1 .1 .1 .0 .1) })) (walk (κs .0) (κs .1 .0) q0 q1 (x .0 .name) (x .1 .0 .name) (x .0 .ptr .0) (x .1 .0 .ptr .0) (x .0 .ptr .1) (x .1 .0 .ptr .1) (x .0 .now) (x .1 .0 .now) (x .1 .1 .0) (x .1 .1 .1 .0) (x .1 .1 .1 .1 .0) (x .1 .1 .1 .1 .1 .0) (ofZ w32 (x .1 .1 .1 .1 .1 .1 .0)) known0 known1 (are .0) (are .1 .0 .1) (are .1 .1 .0 .1) (ofZ-fits w32 (x .1 .1 .1 .1 .1 .1 .0) (record { sfits = (are .1 .1 .1 .1 .0 .1) })) l))
 
 pub manage-new-spec : {M : Type 1} → stated.statement M
 unfolding code.routine tablesOf

@@ -1,10 +1,6 @@
 -- `registering::managing::no_whole_chunk` meets its contract. Assumes nothing.
-use mathlib.Core.Path.{sym, ap, _∙_}
-use native.Mathlib.Omega.{arith}
-use Prim.Native.Nat.{ℕ, _+_, _/_}
-use lib.Dec.{leb}
+use Rattle.state.proofs.Prelude.{sym, ap, _∙_, arith, ℕ, _+_, _/_, leb, needs}
 use Rattle.registering.proofs.WholeLaws.{none-at-zero, none-so-long, none-so-late, none-inside}
-use borrow.Author.Needs.{needs}
 use Rattle.registering.proofs.managing.no_whole_chunk.Statement.{statement}
 use Rattle.registering.proofs.managing.no_whole_chunk.Tie as tie
 

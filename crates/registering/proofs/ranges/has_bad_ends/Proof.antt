@@ -1,5 +1,5 @@
 -- `registering::ranges::has_bad_ends` meets its contract. Assumes nothing.
-use borrow.Author.Needs.{needs}
+use Rattle.state.proofs.Prelude.{needs}
 use Rattle.registering.proofs.RangeLaws.{from-zero, from-somewhere}
 use Rattle.registering.proofs.ranges.has_bad_ends.Statement.{statement}
 use Rattle.registering.proofs.ranges.has_bad_ends.Tie as tie

@@ -1,12 +1,5 @@
 -- `registering::reserving::ask_memory` meets its contract. Assumes nothing.
-use mathlib.Core.Path.{ap₂, _∙_}
-use Prim.Native.Nat.{ℕ}
-use borrow.Author.Needs.{needs}
-use Rattle.layer.specs.declared.Question.the-variants.{Reserving}
-use Rattle.layer.specs.declared.Ask.the-variants.{AskMemory}
-use Rattle.layer.specs.declared.Answer.the-variants.{Asks}
-use Rattle.layer.specs.World.{stateOf, reply}
-use Rattle.layer.specs.Registering.{askMemory}
+use Rattle.state.proofs.Prelude.{ap₂, _∙_, ℕ, needs, Reserving, AskMemory, Asks, stateWith, reply, askMemory}
 use Rattle.registering.proofs.reserving.ask_memory.Statement.{statement}
 use Rattle.registering.proofs.reserving.ask_memory.Tie as tie
 
@@ -25,7 +18,7 @@ returns c =
     let b = c .before in
     let a = b .before .before .args in
     c .asked .ensures
-    ∙ ap₂ (λ (chunks bytes : ℕ). reply (Asks (AskMemory bytes (a .chunk-size) (a .commit) (a .large))) (stateOf (a .k) (a .mark) (Reserving chunks bytes (a .commit) (a .exclusive) (a .waiting)))) (b .before .chunks-for .ensures) (b .bytes-asked .ensures)
+    ∙ ap₂ (λ (chunks bytes : ℕ). reply (Asks (AskMemory bytes (a .chunk-size) (a .commit) (a .large))) (stateWith (a .k) (a .mark) (Reserving chunks bytes (a .commit) (a .exclusive) (a .waiting)))) (b .before .chunks-for .ensures) (b .bytes-asked .ensures)
 
 pub ask-memory-spec : {M : Type 1} → statement M
 ask-memory-spec = tie.close (tie.spec chunks-for-requires bytes-asked-requires asked-requires returns)

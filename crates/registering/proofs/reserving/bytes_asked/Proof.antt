@@ -1,10 +1,6 @@
 -- `registering::reserving::bytes_asked` meets its contract. Assumes nothing.
-use mathlib.Core.Path.{sym, ap, _∙_}
-use Prim.Native.Nat.{ℕ, _+_, _*_, _<_}
-use native.Mathlib.Omega.{arith}
-use borrow.Author.Tests.{eq-eqb, ne-eqb}
-use Rattle.layer.specs.Registering.{chunksFor, bytesAsked}
-use Rattle.words.proofs.Tests.{when, unless}
+use Rattle.state.proofs.Prelude.{sym, ap, _∙_, ℕ, _+_, _*_, _<_, arith, eq-eqb, ne-eqb, chunksFor, when, unless}
+use Rattle.layer.specs.Registering.{bytesAsked}
 use Rattle.registering.proofs.ReserveLaws.{not-too-large}
 use Rattle.registering.proofs.reserving.bytes_asked.Statement.{statement}
 use Rattle.registering.proofs.reserving.bytes_asked.Tie as tie

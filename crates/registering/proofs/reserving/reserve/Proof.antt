@@ -1,14 +1,5 @@
 -- `registering::reserving::reserve` meets its contract. Assumes nothing.
-use mathlib.Core.Path.{_≡_, sym, ap, _∙_}
-use Prim.Native.Nat.{ℕ}
-use native.Mathlib.Omega.{arith}
-use borrow.Author.Needs.{needs}
-use Rattle.refusals.specs.declared.Refusal.the-variants.{ChunkCount}
-use Rattle.words.proofs.Tests.{when, unless}
-use Rattle.layer.specs.declared.Question.{Question}
-use Rattle.layer.specs.declared.Waiting.the-variants.{Reserve}
-use Rattle.layer.specs.World.{sizeOf, turnDown, stateOf}
-use Rattle.layer.specs.Registering.{tooLarge, askMemory, reserveReply}
+use Rattle.state.proofs.Prelude.{_≡_, sym, ap, _∙_, ℕ, arith, needs, ChunkCount, when, unless, Question, Reserve, sizeOf, turnDown, stateWith, tooLarge, askMemory, reserveReply}
 use Rattle.registering.proofs.reserving.reserve.Statement.{statement}
 use Rattle.registering.proofs.reserving.reserve.Tie as tie
 
@@ -32,7 +23,7 @@ returns c =
     let s = t .before .before in
     let a = s .args in
     c .refuse .ensures
-    ∙ ap (λ (q : Question). turnDown ChunkCount (stateOf (a .state .count) (a .state .mark) q)) (s .pre)
+    ∙ ap (λ (q : Question). turnDown ChunkCount (stateWith (a .state .count) (a .state .mark) q)) (s .pre)
     ∙ sym (when _ _ _ (sym (told t) ∙ c .before .if1 .taken))
 
 ask-memory-requires : tie.Need-ask-memory-requires

@@ -1,9 +1,6 @@
 -- `registering::reserving::too_large` meets its contract. Assumes nothing.
-use mathlib.Core.Path.{ap, _∙_}
-use Prim.Native.Nat.{ℕ, _/_}
-use lib.Dec.{leb}
+use Rattle.state.proofs.Prelude.{ap, _∙_, ℕ, _/_, leb, needs}
 use Rattle.registering.proofs.ReserveLaws.{too-large-test}
-use borrow.Author.Needs.{needs}
 use Rattle.registering.proofs.reserving.too_large.Statement.{statement}
 use Rattle.registering.proofs.reserving.too_large.Tie as tie
 

@@ -1,10 +1,5 @@
 -- `registering::writing::registered` meets its contract. Assumes nothing.
-use mathlib.Core.Path.{ap, _∙_}
-use Prim.Native.Nat.{ℕ}
-use native.Mathlib.Numerals.{add-one}
-use borrow.Author.Needs.{needs}
-use Rattle.layer.specs.declared.Answer.the-variants.{Registered}
-use Rattle.layer.specs.World.{reply, calm}
+use Rattle.state.proofs.Prelude.{ap, _∙_, ℕ, add-one, needs, Registered, reply, calm}
 use Rattle.registering.proofs.writing.registered.Statement.{statement}
 use Rattle.registering.proofs.writing.registered.Tie as tie
 

@@ -13,22 +13,22 @@ use Rattle.arena.specs.Releasing.{stampRun}
 use lib.Dec.{lit≤}
 use Rattle.registering.proofs.RegisterLaws.{from-first}
 use Rattle.walks.proofs.Frame.{Done2, finish2, mut2-meets}
-use Rattle.records.proofs.store.Symbol as store-def
-use Rattle.records.proofs.store.Symbol.{name as #records·store}
-use Rattle.records.proofs.store.Met as store-thm
-use Rattle.purge.proofs.stamp_run_of.Symbol as stamp-run-of-def
-use Rattle.purge.proofs.stamp_run_of.Symbol.{name as #purge·stamp-run-of}
-use Rattle.purge.proofs.stamp_run_of.Met as stamp-run-of-thm
-use Rattle.records.proofs.Callable.{StoreSpec, store-step}
-use Rattle.purge.proofs.Callable.{StampRunOfSpec, stamp-run-of-step}
+use Rattle.table.proofs.records.store.Symbol as store-def
+use Rattle.table.proofs.records.store.Symbol.{name as #table·records·store}
+use Rattle.table.proofs.records.store.Met as store-thm
+use Rattle.arena.proofs.purge.stamp_run_of.Symbol as stamp-run-of-def
+use Rattle.arena.proofs.purge.stamp_run_of.Symbol.{name as #arena·purge·stamp-run-of}
+use Rattle.arena.proofs.purge.stamp_run_of.Met as stamp-run-of-thm
+use Rattle.table.proofs.Callable.{StoreSpec, store-step}
+use Rattle.arena.proofs.Callable.{StampRunOfSpec, stamp-run-of-step}
 use Rattle.registering.proofs.writing.write_new.Key.{name as #registering·writing·write-new}
 use Rattle.registering.proofs.writing.write_new as write-new′
 use Rattle.registering.proofs.writing.write_new.Statement as stated
 use Rattle.registering.proofs.writing.write_new.Code as code
 
 module _ {M : Type 1} (𝓤 : URA M) (H : Heap 𝓤) (A : Atoms 𝓤) (W : Given 𝓤 H A) (mem : Memory → SProp 𝓤) (run : Routine → Fun 𝓤) (𝓣 : Tables 𝓤 H)
-    (known-store : Triple 𝓤 (𝓣 .C #records·store) (StoreSpec 𝓤 H A mem run))
-    (known-stamp-run-of : Triple 𝓤 (𝓣 .C #purge·stamp-run-of) (StampRunOfSpec 𝓤 H A mem run)) where
+    (known-store : Triple 𝓤 (𝓣 .C #table·records·store) (StoreSpec 𝓤 H A mem run))
+    (known-stamp-run-of : Triple 𝓤 (𝓣 .C #arena·purge·stamp-run-of) (StampRunOfSpec 𝓤 H A mem run)) where
   module _ (κ-records κ-stamps : Lft) (q-records q-stamps : Share) (γ-records γ-stamps : GName) (b-records b-stamps : ℕ) (o-records o-stamps : ℕ) (records : List Arena) (stamps : List ℕ) (k : ℕ) (a : Arena) where
     abbrev L-records : Loan
     L-records = record { κ = κ-records; q = q-records; γ = γ-records; b = b-records; o = o-records; n = length records }
@@ -89,5 +89,5 @@ write-new-spec 𝓤 H 𝓜 𝓖 𝓡 =
     entered 𝓤 H (tripleOf 𝓤 H (𝓖 .A) write-new′.signature (write-new′.spec 𝓤 H (𝓖 .A) (𝓜 .mem) (𝓡 .run)))
     (tables 𝓤 H 𝓜 𝓡 code.env .C) (tables 𝓤 H 𝓜 𝓡 code.env .Λ) #registering·writing·write-new code.function (code.unfolded 𝓤 H 𝓜 𝓡)
     (write-new-meets 𝓤 H (𝓖 .A) (givenOf 𝓤 H 𝓜 𝓖) (𝓜 .mem) (𝓡 .run) (tablesOf 𝓤 H 𝓜 (tables 𝓤 H 𝓜 𝓡 code.env))
-    (cited 𝓤 H (StoreSpec 𝓤 H (𝓖 .A) (𝓜 .mem) (𝓡 .run)) 𝓜 𝓡 code.env #records·store store-def.routine code.calls-records·store (store-thm.met 𝓤 H 𝓜 𝓖 𝓡))
-    (cited 𝓤 H (StampRunOfSpec 𝓤 H (𝓖 .A) (𝓜 .mem) (𝓡 .run)) 𝓜 𝓡 code.env #purge·stamp-run-of stamp-run-of-def.routine code.calls-purge·stamp-run-of (stamp-run-of-thm.met 𝓤 H 𝓜 𝓖 𝓡)))
+    (cited 𝓤 H (StoreSpec 𝓤 H (𝓖 .A) (𝓜 .mem) (𝓡 .run)) 𝓜 𝓡 code.env #table·records·store store-def.routine code.calls-table·records·store (store-thm.met 𝓤 H 𝓜 𝓖 𝓡))
+    (cited 𝓤 H (StampRunOfSpec 𝓤 H (𝓖 .A) (𝓜 .mem) (𝓡 .run)) 𝓜 𝓡 code.env #arena·purge·stamp-run-of stamp-run-of-def.routine code.calls-arena·purge·stamp-run-of (stamp-run-of-thm.met 𝓤 H 𝓜 𝓖 𝓡)))

@@ -1,10 +1,5 @@
 -- `replay::answers::agrees` meets its contract. Assumes nothing.
-use borrow.Author.Needs.{needs}
-use borrow.Author.Tests.{le-leb, lt-leb}
-use native.Mathlib.Omega.{arith}
-use mathlib.Core.Path.{ap, _∙_}
-use Prim.Native.Nat.{ℕ}
-use lib.Dec.{eqb}
+use Rattle.walks.proofs.Prelude.{needs, le-leb, lt-leb, arith, ap, _∙_, ℕ, eqb}
 use Rattle.replay.proofs.AnswerLaws.{on-numbers, on-pool}
 use Rattle.replay.proofs.answers.agrees.Statement.{statement}
 use Rattle.replay.proofs.answers.agrees.Tie as tie

@@ -1,6 +1,5 @@
 -- `replay::answers::delay_of` meets its contract. Assumes nothing.
-use borrow.Author.Needs.{needs}
-use mathlib.Core.Path.{ap, _∙_}
+use Rattle.walks.proofs.Prelude.{needs, ap, _∙_}
 use mir.Facts.{toZ-ofZ}
 use mir.Syntax.{w64}
 use Rattle.clock.specs.Clock.{delayMs}

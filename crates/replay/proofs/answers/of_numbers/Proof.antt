@@ -1,9 +1,5 @@
 -- `replay::answers::of_numbers` meets its contract. Assumes nothing.
-use borrow.Author.Needs.{needs}
-use borrow.Author.Tests.{ne-eqb}
-use mathlib.Core.Path.{_≡_, sym, ap, ap₂, _∙_}
-use mathlib.Core.Bool.{Bool, cond}
-use Prim.Native.Nat.{ℕ}
+use Rattle.walks.proofs.Prelude.{needs, ne-eqb, sym, ap, ap₂, _∙_, Bool, cond, ℕ}
 use Rattle.clock.specs.Clock.{armed, isDue}
 use Rattle.replay.specs.Answers.{ofNumbers}
 use Rattle.replay.proofs.answers.of_numbers.Statement.{statement}

@@ -1,11 +1,5 @@
 -- `replay::answers::of_pool` meets its contract. Assumes nothing.
-use borrow.Author.Needs.{needs}
-use borrow.Author.Tests.{ne-eqb}
-use native.Mathlib.Omega.{arith}
-use mathlib.Core.Path.{_≡_, refl, sym, ap, _∙_}
-use mathlib.Core.Bool.{cond}
-use Prim.Native.Nat.{ℕ}
-use lib.Dec.{eqb}
+use Rattle.walks.proofs.Prelude.{needs, ne-eqb, arith, _≡_, sym, ap, _∙_, cond, ℕ, eqb}
 use Rattle.replay.specs.Answers.{addressOf, doneOf, ofPool, leftPool}
 use Rattle.replay.proofs.answers.of_pool.Statement.{statement}
 use Rattle.replay.proofs.answers.of_pool.Tie as tie

@@ -1,7 +1,5 @@
 -- `replay::known::is_known` meets its contract. Assumes nothing.
-use borrow.Author.Needs.{needs}
-use borrow.Author.Tests.{eq-eqb, ne-eqb}
-use mathlib.Core.Path.{_∙_}
+use Rattle.walks.proofs.Prelude.{needs, eq-eqb, ne-eqb, _∙_}
 use Rattle.replay.proofs.KnownLaws.{known-from-1}
 use Rattle.replay.specs.Known.{known}
 use Rattle.replay.proofs.known.is_known.Statement.{statement}

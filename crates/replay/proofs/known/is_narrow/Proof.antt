@@ -1,5 +1,5 @@
 -- `replay::known::is_narrow` meets its contract. Assumes nothing.
-use borrow.Author.Tests.{lt-ltb, le-ltb}
+use Rattle.walks.proofs.Prelude.{lt-ltb, le-ltb}
 use Rattle.replay.specs.Known.{narrow}
 use Rattle.replay.proofs.known.is_narrow.Statement.{statement}
 use Rattle.replay.proofs.known.is_narrow.Tie as tie

@@ -1,9 +1,5 @@
 -- `replay::pool::clear` meets its contract: each word passed is 0. Assumes nothing.
-use borrow.Author.Needs.{needs}
-use mathlib.Core.Path.{_≡_, refl, ap, _∙_, sym}
-use Prim.Native.Nat.{ℕ, _≤_, _<_, _-_}
-use native.Mathlib.Omega.{arith}
-use lib.ListN.{length, getD, length-set}
+use Rattle.walks.proofs.Prelude.{needs, _≡_, refl, ℕ, _≤_, _<_, _-_, arith, length, getD, length-set}
 use Rattle.replay.proofs.ClearLaws.{clear-one, all-clear}
 use Rattle.replay.proofs.pool.clear.Statement.{statement}
 use Rattle.replay.proofs.pool.clear.Tie as tie

@@ -1,5 +1,5 @@
 -- `samples::hash::with_word` meets its contract. Assumes nothing.
-use borrow.Author.Needs.{needs}
+use Rattle.walks.proofs.Prelude.{needs}
 use Rattle.samples.specs.Hash.{withWord}
 use Rattle.samples.proofs.hash.with_word.Statement.{statement}
 use Rattle.samples.proofs.hash.with_word.Tie as tie

@@ -1,10 +1,5 @@
 -- `samples::hash::with_words` meets its contract: before each turn g is the hash with the words passed. Assumes nothing.
-use borrow.Author.Needs.{needs}
-use mathlib.Core.Path.{_≡_, refl, sym, ap, _∙_}
-use Prim.Native.Nat.{ℕ, _+_, _≤_, _-_}
-use native.Mathlib.Numerals.{add-one}
-use lib.ListN.{getD}
-use native.Mathlib.Omega.{arith}
+use Rattle.walks.proofs.Prelude.{needs, _≡_, refl, sym, ap, _∙_, ℕ, _+_, _≤_, _-_, add-one, getD, arith}
 use Rattle.samples.specs.Hash.{withWord, withWords}
 use Rattle.samples.proofs.hash.with_words.Statement.{statement}
 use Rattle.samples.proofs.hash.with_words.Tie as tie

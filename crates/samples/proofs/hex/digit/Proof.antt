@@ -1,6 +1,5 @@
 -- `samples::hex::digit` meets its contract, in each of the five ranges of a byte. Assumes nothing.
-use borrow.Author.Needs.{needs}
-use native.Mathlib.Omega.{arith}
+use Rattle.walks.proofs.Prelude.{needs}
 use Rattle.samples.proofs.hex.HexLaws.{digit-09, digit-af, none-low, none-between, none-high}
 use Rattle.samples.proofs.hex.digit.Statement.{statement}
 use Rattle.samples.proofs.hex.digit.Tie as tie

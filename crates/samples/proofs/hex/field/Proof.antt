@@ -1,8 +1,5 @@
 -- `samples::hex::field` meets its contract: before each turn the number stands for the digits that were read. Assumes nothing.
-use borrow.Author.Needs.{needs}
-use mathlib.Core.Path.{_≡_, refl, sym, ap, _∙_, subst}
-use Prim.Native.Nat.{ℕ, _≤_, _-_, _<_}
-use native.Mathlib.Omega.{arith}
+use Rattle.walks.proofs.Prelude.{needs, _≡_, sym, ap, _∙_, subst, _≤_, _-_, arith}
 use Rattle.samples.specs.declared.hex.Number.{Number}
 use Rattle.samples.specs.Hex.{Below, digitsAt}
 use Rattle.samples.proofs.hex.HexLaws.{digit-below, digits-room, next-digit}

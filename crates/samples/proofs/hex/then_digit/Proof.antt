@@ -1,8 +1,5 @@
 -- `samples::hex::then_digit` meets its contract. Assumes nothing.
-use borrow.Author.Needs.{needs}
-use mathlib.Core.Path.{sym, ap₂, subst}
-use Prim.Native.Nat.{_<_}
-use native.Mathlib.Omega.{arith}
+use Rattle.walks.proofs.Prelude.{needs, sym, ap₂, subst, arith}
 use Rattle.samples.specs.declared.hex.Number.{Number}
 use Rattle.samples.specs.Hex.{Below, thenDigit}
 use Rattle.samples.proofs.hex.then_digit.Statement.{statement}

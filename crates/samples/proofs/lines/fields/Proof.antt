@@ -1,6 +1,5 @@
 -- `samples::lines::fields` meets its contract. Assumes nothing.
-use borrow.Author.Needs.{needs}
-use mathlib.Core.Path.{_∙_}
+use Rattle.walks.proofs.Prelude.{needs, _∙_}
 use Rattle.samples.specs.Lines.{fieldsAt}
 use Rattle.samples.proofs.lines.LineLaws.{fields-are}
 use Rattle.samples.proofs.lines.fields.Statement.{statement}

@@ -1,6 +1,5 @@
 -- `samples::lines::is_parted` meets its contract. Assumes nothing.
-use borrow.Author.Needs.{needs}
-use borrow.Author.Tests.{eq-eqb, ne-eqb}
+use Rattle.walks.proofs.Prelude.{needs, eq-eqb, ne-eqb}
 use Rattle.samples.proofs.lines.LineLaws.{parted-last}
 use Rattle.samples.specs.Lines.{parted}
 use Rattle.samples.proofs.lines.is_parted.Statement.{statement}

@@ -1,6 +1,5 @@
 -- `samples::lines::line_of` meets its contract. Assumes nothing.
-use borrow.Author.Needs.{needs}
-use mathlib.Core.Path.{sym}
+use Rattle.walks.proofs.Prelude.{needs, sym}
 use Rattle.samples.proofs.lines.LineLaws.{fields-are}
 use Rattle.samples.proofs.lines.line_of.Statement.{statement}
 use Rattle.samples.proofs.lines.line_of.Tie as tie

@@ -1,7 +1,6 @@
 -- `samples::lines::parse` meets its contract. Assumes nothing.
-use borrow.Author.Needs.{needs}
-use mathlib.Core.Path.{sym, _∙_}
-use Rattle.words.proofs.Tests.{when, unless}
+use Rattle.walks.proofs.Prelude.{needs, sym, _∙_}
+use Rattle.bitmap.proofs.words.Tests.{when, unless}
 use Rattle.samples.specs.Lines.{lineAt}
 use Rattle.samples.proofs.lines.parse.Statement.{statement}
 use Rattle.samples.proofs.lines.parse.Tie as tie

@@ -1,13 +1,8 @@
 -- `samples::signed::wide` meets its contract. Assumes nothing.
-use mathlib.Core.Path.{_≡_, ap, _∙_}
-use Prim.Native.Nat.{suc, _-_}
-use native.Mathlib.Omega.{arith}
-use borrow.Author.Tests.{lt-ltb, le-ltb}
-use lib.IntN.{negsuc}
+use Rattle.walks.proofs.Prelude.{_≡_, ap, _∙_, suc, _-_, arith, lt-ltb, le-ltb, negsuc, needs}
 use mir.Syntax.{w64}
 use mir.Val.{toZ}
 use Rattle.samples.specs.Signed.{signedOf}
-use borrow.Author.Needs.{needs}
 use Rattle.samples.proofs.signed.wide.Statement.{statement}
 use Rattle.samples.proofs.signed.wide.Tie as tie
 

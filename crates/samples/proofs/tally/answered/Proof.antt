@@ -1,8 +1,6 @@
 -- `samples::tally::answered` meets its contract. Assumes nothing.
-use borrow.Author.Needs.{needs}
-use borrow.Author.Tests.{eq-eqb, ne-eqb}
-use mathlib.Core.Path.{sym, _∙_}
-use Rattle.words.proofs.Tests.{when, unless}
+use Rattle.walks.proofs.Prelude.{needs, eq-eqb, ne-eqb, sym, _∙_}
+use Rattle.bitmap.proofs.words.Tests.{when, unless}
 use Rattle.samples.proofs.tally.CountingLaws.{agreeing, differing}
 use Rattle.samples.proofs.tally.answered.Statement.{statement}
 use Rattle.samples.proofs.tally.answered.Tie as tie

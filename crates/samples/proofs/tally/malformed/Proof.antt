@@ -1,5 +1,5 @@
 -- `samples::tally::malformed` meets its contract. Assumes nothing.
-use borrow.Author.Needs.{needs}
+use Rattle.walks.proofs.Prelude.{needs}
 use Rattle.samples.proofs.tally.CountingLaws.{not-replayed}
 use Rattle.samples.proofs.tally.malformed.Statement.{statement}
 use Rattle.samples.proofs.tally.malformed.Tie as tie

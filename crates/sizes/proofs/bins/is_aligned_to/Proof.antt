@@ -1,11 +1,5 @@
 -- `sizes::bins::is_aligned_to` meets its contract: align & (align - 1) tells a power of two, whose mask gives the remainder. Assumes nothing.
-use mathlib.Core.Path.{_≡_, sym, _∙_}
-use mathlib.Core.Bool.{true, false}
-use Prim.Native.Nat.{_-_}
-use lib.Bits.{bitAnd}
-use lib.Dec.{eqb}
-use borrow.Author.Needs.{needs}
-use borrow.Author.Tests.{eq-eqb, ne-eqb}
+use Rattle.walks.proofs.Prelude.{_≡_, sym, _∙_, true, false, _-_, bitAnd, eqb, needs, eq-eqb, ne-eqb}
 use Rattle.sizes.specs.Sizes.{isPowerOfTwo}
 use Rattle.sizes.proofs.SizeLaws.{power-test, aligned-to-zero, mask-test, no-power}
 use Rattle.sizes.proofs.bins.is_aligned_to.Statement.{statement}

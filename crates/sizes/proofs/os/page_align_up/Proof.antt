@@ -1,9 +1,5 @@
 -- `sizes::os::page_align_up` meets its contract. Assumes nothing.
-use mathlib.Core.Path.{ap₂, _∙_}
-use Prim.Native.Nat.{ℕ, _+_, _-_, _^_, _≤_, _<_}
-use native.Mathlib.Omega.{arith}
-use lib.Bits.{bitAnd}
-use borrow.Author.Needs.{needs}
+use Rattle.walks.proofs.Prelude.{ap₂, _∙_, ℕ, _+_, _-_, _^_, _≤_, _<_, arith, bitAnd, needs}
 use Rattle.sizes.specs.Sizes.{zeroAsOne, lowestSetBit}
 use Rattle.sizes.proofs.SizeLaws.{masked-up, unrounded-keeps}
 use Rattle.sizes.proofs.os.page_align_up.Statement.{statement}

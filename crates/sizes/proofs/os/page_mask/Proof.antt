@@ -1,9 +1,6 @@
 -- `sizes::os::page_mask` meets its contract. Assumes nothing.
-use mathlib.Core.Path.{sym, ap, subst}
-use Prim.Native.Nat.{ℕ, _-_, _≤_}
-use native.Mathlib.Omega.{arith}
+use Rattle.walks.proofs.Prelude.{sym, ap, subst, ℕ, _-_, _≤_, arith, trailingZeros}
 use lib.Bits.{mask-lt}
-use lib.Count.{trailingZeros}
 use Rattle.sizes.proofs.SizeLaws.{lowest-shifted, lowest-pos}
 use Rattle.sizes.proofs.os.page_mask.Statement.{statement}
 use Rattle.sizes.proofs.os.page_mask.Tie as tie

@@ -1,10 +1,6 @@
 -- `surface::reply::answer_numbers` meets its contract. Assumes nothing.
-use mathlib.Core.Path.{sym, ap, _∙_}
-use mathlib.Core.Bool.{false}
-use Prim.Native.Nat.{ℕ}
-use Rattle.layer.specs.declared.Answer.{Answer}
+use Rattle.state.proofs.Prelude.{sym, ap, _∙_, false, ℕ, Answer, needs}
 use Rattle.surface.specs.Replies.{replyNumbers, answerNumbers}
-use borrow.Author.Needs.{needs}
 use Rattle.surface.proofs.reply.answer_numbers.Statement.{statement}
 use Rattle.surface.proofs.reply.answer_numbers.Tie as tie
 

@@ -1,8 +1,7 @@
 -- `surface::reply::ask_numbers` meets its contract. Assumes nothing.
-use mathlib.Core.Path.{sym, ap, _∙_}
+use Rattle.state.proofs.Prelude.{sym, ap, _∙_, needs}
 use Rattle.layer.specs.declared.Ask.{Ask}
 use Rattle.surface.specs.Replies.{askNumbers}
-use borrow.Author.Needs.{needs}
 use Rattle.surface.proofs.reply.ask_numbers.Statement.{statement}
 use Rattle.surface.proofs.reply.ask_numbers.Tie as tie
 

@@ -1,6 +1,5 @@
 -- `surface::reply::reply_of` meets its contract. Assumes nothing.
-use mathlib.Core.Path.{ap, _∙_}
-use borrow.Author.Needs.{needs}
+use Rattle.state.proofs.Prelude.{ap, _∙_, needs}
 use Rattle.surface.specs.Replies.{answerNumbers, replyOf}
 use Rattle.surface.proofs.reply.reply_of.Statement.{statement}
 use Rattle.surface.proofs.reply.reply_of.Tie as tie

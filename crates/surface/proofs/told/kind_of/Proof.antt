@@ -1,7 +1,5 @@
 -- `surface::told::kind_of` meets its contract. Assumes nothing.
-use mathlib.Core.Path.{sym, _∙_}
-use borrow.Author.Tests.{eq-eqb, ne-eqb}
-use Rattle.words.proofs.Tests.{when, unless}
+use Rattle.state.proofs.Prelude.{sym, _∙_, eq-eqb, ne-eqb, when, unless}
 use Rattle.surface.proofs.told.kind_of.Statement.{statement}
 use Rattle.surface.proofs.told.kind_of.Tie as tie
 

@@ -3,7 +3,7 @@ use mir.Facts.{toZ-ofZ}
 use mir.Syntax.{w64}
 use mir.Val.{SFits}
 use Rattle.surface.specs.Told.{settingsOf}
-use borrow.Author.Needs.{needs}
+use Rattle.state.proofs.Prelude.{needs}
 use Rattle.surface.proofs.told.settings_of.Statement.{statement}
 use Rattle.surface.proofs.told.settings_of.Tie as tie
 

@@ -1,27 +1,20 @@
 -- `surface::told::told_of` meets its contract. The machine holds the number's bits, and reads back the number that came in. Assumes nothing.
-use mathlib.Core.Path.{_≡_, refl, sym, ap, _∙_}
-use mathlib.Core.Bool.{true, false, true≢false}
-use Prim.Native.Nat.{ℕ}
-use native.Mathlib.Omega.{arith}
-use borrow.Author.Tests.{ltb-true, ltb-false, eq-eqb, ne-eqb}
-use lib.IntN.{ℤ, pos, negsuc}
-use lib.Signed.{ltZ}
+use Rattle.state.proofs.Prelude.{_≡_, refl, sym, ap, _∙_, true, false, true≢false, arith, ltb-true, ltb-false, eq-eqb, ne-eqb, ℤ, pos, negsuc, ltZ, when, unless}
 use mir.Facts.{toZ-ofZ}
-use Rattle.words.proofs.Tests.{when, unless}
 use Rattle.arena.specs.declared.Commitment.the-variants.{Untold, Committed, Uncommitted}
-use Rattle.surface.specs.Told.{toldOf}
+use Rattle.surface.specs.Told.{commitmentOf}
 use Rattle.surface.proofs.told.told_of.Statement.{statement}
 use Rattle.surface.proofs.told.told_of.Tie as tie
 
-untold : (z : ℤ) → ltZ z (pos 0) ≡ true → Untold ≡ toldOf z
+untold : (z : ℤ) → ltZ z (pos 0) ≡ true → Untold ≡ commitmentOf z
 untold (pos x) e = absurd (omega (arith, ltb-true x 0 e))
 untold (negsuc x) e = refl
 
-committed : (z : ℤ) → ltZ (pos 0) z ≡ true → Committed ≡ toldOf z
+committed : (z : ℤ) → ltZ (pos 0) z ≡ true → Committed ≡ commitmentOf z
 committed (pos x) e = sym (unless _ _ _ (ne-eqb x 0 (λ h. omega (arith, h, ltb-true 0 x e))))
 committed (negsuc x) e = absurd (true≢false (sym e))
 
-uncommitted : (z : ℤ) → ltZ z (pos 0) ≡ false → ltZ (pos 0) z ≡ false → Uncommitted ≡ toldOf z
+uncommitted : (z : ℤ) → ltZ z (pos 0) ≡ false → ltZ (pos 0) z ≡ false → Uncommitted ≡ commitmentOf z
 uncommitted (pos x) d e = sym (when _ _ _ (eq-eqb x 0 (omega (arith, ltb-false 0 x e))))
 uncommitted (negsuc x) d e = absurd (true≢false d)
 

@@ -1,12 +1,6 @@
 -- `worked_parts::picture::draw` meets its contract: each character passed is a mark. The measure is what is left of them. Assumes nothing.
-use borrow.Author.Needs.{needs}
-use borrow.Author.Count.{below-more}
-use mathlib.Core.Path.{_≡_, refl, ap, _∙_, sym}
-use Prim.Native.Nat.{ℕ, _≤_, _<_, _-_}
-use native.Mathlib.Omega.{arith}
-use lib.ListN.{length, length-set}
-use lib.Seq.{getD-set-same, getD-set-other}
-use Rattle.worked_parts.specs.Picture.{markOf, Shows}
+use Rattle.walks.proofs.Prelude.{needs, below-more, _≡_, _∙_, sym, _≤_, _-_, arith, length, length-set, getD-set-same, getD-set-other}
+use Rattle.worked_parts.specs.Picture.{Shows}
 use Rattle.worked_parts.proofs.picture.draw.Statement.{statement}
 use Rattle.worked_parts.proofs.picture.draw.Tie as tie
 

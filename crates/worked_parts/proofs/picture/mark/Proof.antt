@@ -1,10 +1,6 @@
 -- `worked_parts::picture::mark` meets its contract: the test is the definition of a place's bit. Assumes nothing.
-use borrow.Author.Needs.{needs}
-use borrow.Author.Tests.{eq-eqb, ne-eqb}
-use mathlib.Core.Bool.{Bool, cond}
-use mathlib.Core.Path.{ap, sym}
-use Prim.Native.Nat.{ℕ}
-use Rattle.words.specs.Bits.{bit, bitAt}
+use Rattle.walks.proofs.Prelude.{needs, eq-eqb, ne-eqb, Bool, cond, ap, sym, ℕ}
+use Rattle.bitmap.specs.Bits.{bit, bitAt}
 use Rattle.worked_parts.proofs.picture.mark.Statement.{statement}
 use Rattle.worked_parts.proofs.picture.mark.Tie as tie
 

@@ -1,5 +1,5 @@
 -- `worked_parts::tally::count` meets its contract. Assumes nothing.
-use borrow.Author.Needs.{needs}
+use Rattle.walks.proofs.Prelude.{needs}
 use Rattle.worked_parts.proofs.TallyLaws.{count-same, count-other}
 use Rattle.worked_parts.proofs.tally.count.Statement.{statement}
 use Rattle.worked_parts.proofs.tally.count.Tie as tie

@@ -1,0 +1,86 @@
+// What a sweep looks for in the arena at an id: which of its chunks the host is asked about, and when the next
+// sweep is. And the stamps, which say since when each chunk is pending: one arena's are a part of the lent slice
+// of all.
+
+ghost use mathlib.Core.Path.{_≡_};
+ghost use Prim.Native.Nat.{_+_, _*_, _<_, _≤_};
+ghost use lib.ListN.{length};
+ghost use Rattle.arena.specs.Releasing.{stampRun};
+ghost use Rattle.arena.specs.Stamps.{stampsOf};
+ghost use Rattle.arena.specs.Maps.{nextIn, nextDeadline};
+use bitmap::runs::Found;
+
+// ---- the stamps
+
+// The n stamps from s on made `at`.
+pub fn stamp_run(stamps: &mut [u32], s: usize, n: usize, at: u32)
+    requires { ⌜ s + n ≤ length (now stamps) ⌝ }
+    ensures { λ _. ⌜ now (stamps .exit) ≡ stampRun (now (stamps .entry)) s n at ⌝ }
+{
+    let end = s + n;
+    let mut i = s;
+    while i < end {
+        stamps[i] = at;
+        i = i + 1;
+    }
+}
+
+// ---- one arena's stamps, a middle part of the lent slice of all
+
+// The n stamps from s on of the arena `id` made `at`.
+pub fn stamp_run_of(stamps: &mut [u32], id: usize, s: usize, n: usize, at: u32)
+    requires { ⌜ (id < 32) × (s + n ≤ 1024) × (length (now stamps) ≡ 32768) ⌝ }
+    ensures { λ _. ⌜ now (stamps .exit) ≡ stampRun (now (stamps .entry)) (1024 * id + s) n at ⌝ }
+{
+    let lo = 1024 * id;
+    let hi = lo + 1024;
+    stamp_run(&mut stamps[lo..hi], s, n, at);
+}
+
+// The next chunk of the arena `id` to ask about.
+pub fn next_asked_of(
+    pending: &[u32; 32],
+    used: &[u32; 32],
+    chunks: usize,
+    stamps: &[u32],
+    id: usize,
+    force: bool,
+    ms: u32,
+    delay: u32,
+    from: usize,
+) -> Found
+    requires { ⌜ (chunks ≤ 1024) × (id < 32) × (length (now stamps) ≡ 32768) ⌝ }
+    ensures { λ r. ⌜ r ≡ nextIn (now (pending .entry)) (now (used .entry)) chunks (stampsOf (now (stamps .entry)) id) force ms delay from ⌝ }
+{
+    let lo = 1024 * id;
+    let hi = lo + 1024;
+    crate::asks::next_asked(
+        pending,
+        used,
+        chunks,
+        &stamps[lo..hi],
+        force,
+        ms,
+        delay,
+        from,
+    )
+}
+
+// The deadline of the arena `id` armed anew.
+pub fn next_deadline_of(
+    deadline: u32,
+    pending: &[u32; 32],
+    chunks: usize,
+    stamps: &[u32],
+    id: usize,
+    force: bool,
+    ms: u32,
+    delay: u32,
+) -> u32
+    requires { ⌜ (chunks ≤ 1024) × (id < 32) × (length (now stamps) ≡ 32768) ⌝ }
+    ensures { λ r. ⌜ r ≡ nextDeadline deadline (now (pending .entry)) chunks (stampsOf (now (stamps .entry)) id) force ms delay ⌝ }
+{
+    let lo = 1024 * id;
+    let hi = lo + 1024;
+    crate::waits::next_deadline(deadline, pending, chunks, &stamps[lo..hi], force, ms, delay)
+}

@@ -1,0 +1,4 @@
+pub mod Lowest
+pub mod Steps
+pub mod Bits
+pub mod Rows

@@ -1,1 +1,0 @@
-// Document 01's worked cases, computed over the definitions: proofs/Worked.antt. No code stands here.

@@ -1,0 +1,4 @@
+pub mod Worked
+pub mod Refused
+pub mod Runs
+pub mod Example

@@ -1,2 +1,0 @@
-pub mod ClaimLaws
-pub mod Callable

@@ -1,0 +1,3 @@
+pub mod documented
+pub mod after_refusal
+pub mod sweep_runs

@@ -1,3 +1,0 @@
-pub mod StampLaws
-pub mod Callable
-pub mod MapLaws

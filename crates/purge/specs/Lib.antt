@@ -1,2 +1,0 @@
-pub mod Stamps
-pub mod Maps

@@ -1,6 +1,0 @@
-pub mod Ends
-mod Leaf
-pub mod Steps
-pub mod Looks
-pub mod MapFields
-pub mod Callable

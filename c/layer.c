@@ -3,13 +3,14 @@
  * should be.
  *
  *     bash library.sh
- *     gcc -std=c11 -Wall -Wextra -Werror -Iinclude c/layer.c target/staticlib/libsirqobal.a -o layer && ./layer */
+ *     gcc -std=c11 -Wall -Wextra -Wpedantic -Werror -Iinclude c/layer.c build/lib/libsirqobal.a -o layer
+ *     ./layer */
 #include "sirqobal.h"
 
 #include <stdio.h>
 #include <string.h>
 
-#define S ((uint64_t)SIRQOBAL_CHUNK)
+#define S SIRQOBAL_CHUNK
 
 _Static_assert(sizeof(struct sirqobal_arena) == 544, "arena");
 _Static_assert(offsetof(struct sirqobal_arena, base) == 0, "base");

@@ -7,7 +7,7 @@
  * questions, which are refused with 3. */
 #include "sirqobal.h"
 
-#define S ((uint64_t)SIRQOBAL_CHUNK)
+#define S SIRQOBAL_CHUNK
 #define MAX_CHUNKS 1024
 #define NONE SIZE_MAX
 

@@ -1,4 +1,4 @@
-//! Links libsirqobal.a, by default the one that library.sh leaves in the repository's target/staticlib;
+//! Links libsirqobal.a, by default the one that library.sh leaves in the repository's build/lib;
 //! SIRQOBAL_LIB_DIR names another folder.
 
 use std::env;
@@ -9,7 +9,7 @@ fn main() {
     let folder = match env::var_os("SIRQOBAL_LIB_DIR") {
         Some(folder) => PathBuf::from(folder),
         None => PathBuf::from(env::var_os("CARGO_MANIFEST_DIR").expect("cargo sets it"))
-            .join("../../target/staticlib"),
+            .join("../../build/lib"),
     };
     let library = folder.join("libsirqobal.a");
     println!("cargo::rerun-if-changed={}", library.display());

@@ -2,24 +2,42 @@
 //! deadline rules and size arithmetic. Every function takes all numbers; what it cannot serve it
 //! turns down with a [`Refusal`].
 //!
-//! [`Layer`] owns a table of arenas. A call on it carries a [`Moment`] and ends with an [`Outcome`]:
-//! it is done, refused, or asks the host a [`Question`], with whose answer it goes on. A [`Host`]
-//! answers all of them; `linux::Linux` (feature `linux`) does so with the real OS.
+//! [`linux::Memory`] (feature `linux`) is a layer over real memory:
+//!
+#![cfg_attr(feature = "linux", doc = "```")]
+#![cfg_attr(not(feature = "linux"), doc = "```ignore")]
+//! use sirqobal::{linux, linux::Memory, CHUNK};
+//!
+//! fn main() -> Result<(), linux::Error> {
+//!     let mut memory = Memory::new();
+//!     let arena = memory.reserve(4 * CHUNK, true)?; // 128 MiB, for claims that name it
+//!     let mut ring = memory.claim(arena, 2)?; // 64 MiB, zeroed
+//!     ring[..5].copy_from_slice(b"ring!");
+//!     memory.release(ring)?;
+//!     println!("{} chunks purged", memory.sweep(true)?);
+//!     Ok(())
+//! }
+//! ```
+//!
+//! [`Layer`] owns a table of arenas and keeps the book alone. A call on it carries a [`Moment`]. One
+//! that may ask ends with an [`Outcome`]: it is done, refused, or asks the host a [`Question`], with
+//! whose answer it goes on. A [`Host`] answers all of them.
 //!
 //! ```
-//! use sirqobal::{Answer, Ask, Layer, Moment, Outcome, CHUNK};
+//! use sirqobal::{Layer, Moment, NotDone, Outcome, Question, CHUNK};
 //!
 //! let now = Moment::default();
 //! let mut layer = Layer::new();
 //! let asks = layer.reserve_os_memory(now, 4 * CHUNK, false, false, true);
-//! let Outcome::Asks(question) = asks else { panic!() };
-//! let id = question.answer(now, Answer::Memory(1 << 30)).unwrap().done()?;
+//! let Outcome::Asks(Question::GetMemory(memory)) = asks else { panic!() };
+//! let id = memory.answer(now, Some(1 << 30))?.done()?;
 //!
-//! let Outcome::Asks(question) = layer.chunk_alloc_n(now, id, 2) else { panic!() };
-//! assert_eq!(question.ask(), Ask::Commit { address: 1 << 30, bytes: 2 * CHUNK });
-//! let run = question.answer(now, Answer::Yes).unwrap().done()?;
+//! let asks = layer.chunk_alloc_n(now, id, 2);
+//! let Outcome::Asks(Question::Commit(commit)) = asks else { panic!() };
+//! assert_eq!((commit.address(), commit.bytes()), (1 << 30, 2 * CHUNK));
+//! let run = commit.answer(now, true)?.done()?;
 //! assert!(run.fresh && run.address == 1 << 30);
-//! # Ok::<(), sirqobal::Refusal>(())
+//! # Ok::<(), NotDone>(())
 //! ```
 //!
 //! [`SlicePool`] is the pool of 64 KiB slices:
@@ -33,6 +51,12 @@
 //! assert_eq!(pool.alloc_run(2)?, 65_536);
 //! # Ok::<(), Refusal>(())
 //! ```
+//!
+//! [`Picture`] shows who holds what, [`saved`] is a table in a file, and [`lent`] has the calls over
+//! tables that the program keeps itself, as C has them.
+#![warn(missing_docs)]
+#![deny(unsafe_op_in_unsafe_fn)]
+#![cfg_attr(not(feature = "linux"), allow(rustdoc::broken_intra_doc_links))]
 
 mod abi;
 mod host;
@@ -40,106 +64,19 @@ mod layer;
 pub mod lent;
 #[cfg(all(feature = "linux", target_os = "linux"))]
 pub mod linux;
+mod numbers;
+mod picture;
 mod question;
 mod refusal;
+pub mod saved;
 mod slice_pool;
 
 pub use host::Host;
 pub use layer::{Layer, Managed, Moment, Run, ANY, CHUNK};
-pub use question::{Answer, Ask, Kept, Open, Outcome, Question};
+pub use numbers::{arm, delay_ms, is_aligned_to, is_due, now_ms, page_align_up};
+pub use picture::Picture;
+pub use question::{
+    Ask, Commit, GetMemory, GiveBack, Kept, NotDone, Open, Outcome, Purge, Question,
+};
 pub use refusal::Refusal;
 pub use slice_pool::{alloc_run_in, free_range_in, SlicePool, SLICES, SLICE_SIZE, WORDS};
-
-/// Whether `x` is a multiple of `align`; false if `align` is no power of two.
-///
-/// ```
-/// assert!(sirqobal::is_aligned_to(65_536, 4_096));
-/// assert!(!sirqobal::is_aligned_to(12, 3));
-/// assert!(!sirqobal::is_aligned_to(12, 0));
-/// ```
-pub fn is_aligned_to(x: u64, align: u64) -> bool {
-    // SAFETY: takes all numbers.
-    unsafe { abi::sirqobal_is_aligned_to(x, align) }
-}
-
-/// `size` rounded up to whole pages, the page being the lowest set bit of `page`. Page 0 and size 0
-/// count as 1; a sum past 2^64 - 1 leaves the size as it is.
-///
-/// ```
-/// assert_eq!(sirqobal::page_align_up(4_096, 4_097), 8_192);
-/// assert_eq!(sirqobal::page_align_up(4_096, 0), 4_096);
-/// assert_eq!(sirqobal::page_align_up(4_096, u64::MAX), u64::MAX);
-/// ```
-pub fn page_align_up(page: u64, size: u64) -> u64 {
-    // SAFETY: takes all numbers.
-    unsafe { abi::sirqobal_page_align_up(page, size) }
-}
-
-/// Milliseconds of a clock in nanoseconds, wrapping at 2^32; 0 becomes 1.
-///
-/// ```
-/// assert_eq!(sirqobal::now_ms(2_000_000), 2);
-/// assert_eq!(sirqobal::now_ms(4_294_967_296_000_000), 1);
-/// ```
-pub fn now_ms(ns: u64) -> u32 {
-    // SAFETY: takes all numbers.
-    unsafe { abi::sirqobal_now_ms(ns) }
-}
-
-/// A purge delay, clamped to 0 .. 1,073,741,823 milliseconds.
-///
-/// ```
-/// assert_eq!(sirqobal::delay_ms(10), 10);
-/// assert_eq!(sirqobal::delay_ms(-1), 0);
-/// assert_eq!(sirqobal::delay_ms(1_073_741_824), 1_073_741_823);
-/// ```
-pub fn delay_ms(delay: i64) -> u32 {
-    // SAFETY: takes all numbers.
-    unsafe { abi::sirqobal_delay_ms(delay) }
-}
-
-/// The deadline that stands after arming `due` over `deadline`: the earlier of the two in wrapping
-/// time, a deadline of 0 being none. A `due` of 0 becomes 1.
-///
-/// ```
-/// assert_eq!(sirqobal::arm(100, 50), 50);
-/// assert_eq!(sirqobal::arm(50, 100), 50);
-/// assert_eq!(sirqobal::arm(0, 0), 1);
-/// ```
-pub fn arm(deadline: u32, due: u32) -> u32 {
-    // SAFETY: takes all numbers.
-    unsafe { abi::sirqobal_arm(deadline, due) }
-}
-
-/// Whether the deadline `due` has come at `now`, in wrapping time.
-///
-/// ```
-/// assert!(sirqobal::is_due(7, 7));
-/// assert!(!sirqobal::is_due(5, 4_294_967_290));
-/// ```
-pub fn is_due(due: u32, now: u32) -> bool {
-    // SAFETY: takes all numbers.
-    unsafe { abi::sirqobal_is_due(due, now) }
-}
-
-#[cfg(test)]
-mod tests {
-    use super::*;
-
-    // Document 01, "Worked by hand".
-    #[test]
-    fn worked_by_hand() {
-        assert_eq!(arm(2_147_483_648, 1), 1);
-        assert_eq!(arm(2_147_483_649, 1), 2_147_483_649);
-        assert!(!is_due(2_147_483_646, 0));
-        assert!(is_due(2_147_483_647, 0));
-        assert_eq!(now_ms(999_999), 1);
-    }
-
-    #[test]
-    fn zero_counts_as_one() {
-        assert_eq!(page_align_up(0, 0), 1);
-        assert_eq!(page_align_up(0, 5), 5);
-        assert_eq!(page_align_up(12, 5), 8);
-    }
-}

@@ -12,6 +12,12 @@ use std::fmt;
 /// assert_eq!(refusal.number(), 4);
 /// assert_eq!(refusal.to_string(), "n or size is 0 (refusal 4)");
 /// ```
+///
+/// A refusal leaves everything as it was, but: an answer closes its question unless it is refused
+/// with [`Broken`](Refusal::Broken), [`NoSuchQuestion`](Refusal::NoSuchQuestion) or
+/// [`Range`](Refusal::Range); [`NoRun`](Refusal::NoRun) may leave a new arena or the give-up mark,
+/// and [`CommitRefused`](Refusal::CommitRefused) a new arena.
+#[non_exhaustive]
 #[derive(Clone, Copy, Debug, PartialEq, Eq, Hash)]
 #[repr(u32)]
 pub enum Refusal {
@@ -33,7 +39,8 @@ pub enum Refusal {
     NotInside = 8,
     /// The run passes the end.
     PastEnd = 9,
-    /// No such run.
+    /// No eligible arena has such a run. If a default reserve failed on the way, there will be no
+    /// other: the layer has given up for good ([`Layer::has_given_up`](crate::Layer::has_given_up)).
     NoRun = 10,
     /// The commit was answered no.
     CommitRefused = 11,
@@ -51,7 +58,7 @@ pub enum Refusal {
 
 impl Refusal {
     /// Every row, in order.
-    pub const ALL: [Refusal; 16] = [
+    pub const ALL: &'static [Refusal] = &[
         Refusal::Broken,
         Refusal::QuestionOpen,
         Refusal::NoSuchQuestion,
@@ -128,10 +135,11 @@ mod tests {
 
     #[test]
     fn numbers_run_from_1_to_16() {
-        for (n, refusal) in (1..).zip(Refusal::ALL) {
+        for (n, &refusal) in (1..).zip(Refusal::ALL) {
             assert_eq!(refusal.number(), n);
             assert_eq!(Refusal::from_number(n), Some(refusal));
         }
+        assert_eq!(Refusal::ALL.len(), 16);
         assert_eq!(Refusal::from_number(17), None);
         assert_eq!(Refusal::from_number(u32::MAX), None);
     }

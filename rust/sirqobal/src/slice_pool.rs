@@ -79,6 +79,9 @@ impl SlicePool {
 
     /// Takes the lowest run of this many free slices and answers its address.
     ///
+    /// # Errors
+    /// [`Refusal::Zero`], [`Refusal::NoRun`].
+    ///
     /// ```
     /// use sirqobal::{Refusal, SlicePool};
     ///
@@ -94,6 +97,9 @@ impl SlicePool {
 
     /// Frees the slices of a range of whole slices, already free or not. The first slice, at
     /// address 0, is never accepted.
+    ///
+    /// # Errors
+    /// [`Refusal::Zero`], [`Refusal::NotWhole`], [`Refusal::NotInside`], [`Refusal::PastEnd`].
     ///
     /// ```
     /// use sirqobal::{Refusal, SlicePool};
@@ -116,8 +122,11 @@ impl Default for SlicePool {
     }
 }
 
-/// [`SlicePool::alloc_run`] on a lent map; a map that has not exactly [`WORDS`] words is
-/// [`Refusal::Broken`].
+/// [`SlicePool::alloc_run`] on a lent map.
+///
+/// # Errors
+/// [`Refusal::Broken`] for a map that has not exactly [`WORDS`] words; then as
+/// [`SlicePool::alloc_run`].
 ///
 /// ```
 /// use sirqobal::{alloc_run_in, Refusal};
@@ -131,8 +140,11 @@ pub fn alloc_run_in(words: &mut [u32], slices: u64) -> Result<u64, Refusal> {
     granted(answer.number).map(|()| answer.address)
 }
 
-/// [`SlicePool::free_range`] on a lent map; a map that has not exactly [`WORDS`] words is
-/// [`Refusal::Broken`].
+/// [`SlicePool::free_range`] on a lent map.
+///
+/// # Errors
+/// [`Refusal::Broken`] for a map that has not exactly [`WORDS`] words; then as
+/// [`SlicePool::free_range`].
 ///
 /// ```
 /// use sirqobal::{free_range_in, Refusal};

@@ -38,8 +38,8 @@ impl Program {
     fn claim(&mut self, memory: &mut Memory, n: usize) -> bool {
         let mut chunks = match memory.claim(self.arena, n) {
             Ok(chunks) => chunks,
-            Err(refusal) => {
-                assert_eq!(refusal, Refusal::NoRun);
+            Err(error) => {
+                assert_eq!(error, Refusal::NoRun);
                 return false;
             }
         };
@@ -83,8 +83,8 @@ impl Program {
 #[test]
 fn nobody_overwrites_the_other() {
     let mut memory = Memory::new();
-    memory.settings().delay = 1;
-    memory.settings().reserve = 3 * CHUNK;
+    memory.options_mut().delay = 1;
+    memory.options_mut().reserve = 3 * CHUNK;
     let arena = memory.reserve(4 * CHUNK, true).unwrap();
     let mut guidance = Program::new(1, arena);
     let mut recorder = Program::new(2, ANY);
@@ -95,7 +95,7 @@ fn nobody_overwrites_the_other() {
             .wrapping_mul(6_364_136_223_846_793_005)
             .wrapping_add(round);
         let [choice, n, which] = [58, 50, 40].map(|shift| (random >> shift) as usize % 16);
-        memory.settings().decommits = round % 3 != 0;
+        memory.options_mut().decommits = round % 3 != 0;
         match choice {
             0..=4 => granted += usize::from(guidance.claim(&mut memory, 1 + n % 3)),
             // The shared arenas grow without end; this program holds itself back.

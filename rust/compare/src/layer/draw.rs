@@ -173,7 +173,7 @@ impl Player {
 
     /// So long before the milliseconds wrap as the delay is: what is released now is due at 0.
     fn delay_before_wrap(&self) -> u64 {
-        let turn = self.moment.ns / 1_000_000 >> 32;
+        let turn = (self.moment.ns / 1_000_000) >> 32;
         let delay = u64::from(sirqobal::delay_ms(self.moment.delay));
         let ms = ((turn + 1) << 32).wrapping_sub(delay);
         ms.wrapping_mul(1_000_000)

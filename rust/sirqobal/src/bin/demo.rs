@@ -1,109 +1,203 @@
-//! Two programs share one arena layer over real memory: guidance keeps its rings in an exclusive
-//! arena, the recorder its telemetry in shared ones. Follow it on the terminal. What it says is
-//! compared, and it ends with 1 if something is not so.
+//! Two programs share one arena layer over real memory: guidance (G) keeps its rings in an exclusive
+//! arena, the recorder (R) its telemetry in shared ones. Follow it on the terminal. What it says is
+//! compared, and it ends with 1 if something is not so. `demo --save FILE` saves the last table,
+//! which the program `picture` prints.
+#![forbid(unsafe_code)]
 
 use sirqobal::linux::{page_size, Chunks, Memory};
-use sirqobal::{Layer, Refusal, ANY, CHUNK};
+use sirqobal::{saved, Layer, Refusal, ANY, CHUNK};
+use std::env;
+use std::error::Error;
 use std::fs;
+use std::path::PathBuf;
 use std::process::ExitCode;
 
+type Ended = Result<(), Box<dyn Error>>;
+
 fn main() -> ExitCode {
-    match drive() {
-        Ok(0) => ExitCode::SUCCESS,
-        Ok(wrong) => {
+    let arguments: Vec<_> = env::args_os().skip(1).collect();
+    let file = match &arguments[..] {
+        [] => None,
+        [option, file] if option == "--save" => Some(PathBuf::from(file)),
+        _ => {
+            eprintln!("usage: demo [--save FILE]");
+            return ExitCode::from(2);
+        }
+    };
+    let mut drive = Drive::default();
+    let ended = drive.run().and_then(|()| drive.save(file));
+    match (ended, drive.wrong) {
+        (Ok(()), 0) => ExitCode::SUCCESS,
+        (Ok(()), wrong) => {
             eprintln!("{wrong} things are not as they should be");
             ExitCode::FAILURE
         }
-        Err(refusal) => {
-            eprintln!("turned down: {refusal}");
+        (Err(error), _) => {
+            eprintln!("turned down: {error}");
             ExitCode::FAILURE
         }
     }
 }
 
-/// The demonstration: how many things are not as it says.
-fn drive() -> Result<usize, Refusal> {
-    let mut wrong = 0;
-    let mut memory = Memory::new();
-    memory.settings().reserve = 4 * CHUNK;
-
-    say("Guidance reserves 6 chunks of 32 MiB for itself alone.");
-    let guidance = memory.reserve(6 * CHUNK, true)?;
-    show(&memory);
-
-    say("It claims a run of 2 for ring 1 and a run of 2 for ring 2, and writes every page.");
-    let ring1 = written(memory.claim(guidance, 2)?, b'1');
-    let ring2 = written(memory.claim(guidance, 2)?, b'2');
-    show(&memory);
-
-    say("The recorder claims 3 chunks of any shared arena. There is none: the layer reserves 4.");
-    let telemetry = written(memory.claim(ANY, 3)?, b't');
-    wrong += compare("its chunks are fresh", telemetry.is_fresh());
-    show(&memory);
-
-    say("Ring 1 is closed: its chunks are released, and stay resident until a sweep.");
-    let closed = ring1.address();
-    let before = resident();
-    memory.release(ring1)?;
-    wrong += compare("they stay resident", resident() + 1 >= before);
-    show(&memory);
-
-    say("The recorder asks for 2 chunks more. Ring 1's are free, but not for it: a new arena.");
-    let more = written(memory.claim(ANY, 2)?, b'u');
-    show(&memory);
-
-    say("A forced sweep hands the memory of ring 1's chunks back to the OS.");
-    let before = resident();
-    let purged = memory.sweep(true)?;
-    println!("  {purged} chunks purged");
-    wrong += compare("2 chunks are purged", purged == 2);
-    wrong += compare(
-        "64 MiB less are resident",
-        before == 0 || resident() + 63 <= before,
-    );
-    show(&memory);
-
-    say("Guidance wants a run of 3. Free are 2 and 2, apart: turned down, and nothing changes.");
-    let before = memory.layer().clone();
-    match memory.claim(guidance, 3) {
-        Ok(_) => wrong += compare("it is turned down", false),
-        Err(refusal) => {
-            println!("  {refusal}");
-            wrong += compare("by 10", refusal == Refusal::NoRun);
-        }
-    }
-    wrong += compare("nothing changes", same(memory.layer(), &before));
-
-    say("A run of 2 is granted, the lowest: where ring 1 was.");
-    let ring3 = written(memory.claim(guidance, 2)?, b'3');
-    wrong += compare("it is where ring 1 was", ring3.address() == closed);
-    wrong += compare("it is not fresh", !ring3.is_fresh());
-    show(&memory);
-
-    say("Every page still holds what its owner wrote:");
-    for (name, chunks, mark) in [
-        ("ring 2", &ring2, b'2'),
-        ("ring 3", &ring3, b'3'),
-        ("telemetry", &telemetry, b't'),
-        ("telemetry", &more, b'u'),
-    ] {
-        let all = pages(chunks).count();
-        let kept = pages(chunks).filter(|page| chunks[*page] == mark).count();
-        println!(
-            "  {name:<9} at {:#x}: {kept} of {all} pages",
-            chunks.address()
-        );
-        wrong += compare("every page is its owner's", kept == all);
-    }
-    Ok(wrong)
+/// What a program holds, by name, with the mark that it wrote into every page.
+struct Held {
+    program: char,
+    name: &'static str,
+    mark: u8,
+    chunks: Chunks,
 }
 
-/// 0 where it is so; else it is said, and counts 1.
-fn compare(what: &str, so: bool) -> usize {
-    if !so {
-        println!("  NOT SO: {what}");
+#[derive(Default)]
+struct Drive {
+    memory: Memory,
+    held: Vec<Held>,
+    /// Things that are not as the text says.
+    wrong: usize,
+}
+
+impl Drive {
+    fn run(&mut self) -> Ended {
+        self.memory.options_mut().reserve = 4 * CHUNK;
+        say("Guidance (G) reserves 6 chunks of 32 MiB for itself alone.");
+        let guidance = self.memory.reserve(6 * CHUNK, true)?;
+        self.show();
+        self.rings(guidance)?;
+        let closed = self.close_ring()?;
+        self.sweep()?;
+        self.next_ring(guidance, closed)?;
+        self.look();
+        Ok(())
     }
-    usize::from(!so)
+
+    fn rings(&mut self, guidance: i32) -> Ended {
+        say("It claims a run of 2 for ring 1 and a run of 2 for ring 2, and writes every page.");
+        self.claim('G', "ring 1", guidance, 2, b'1')?;
+        self.claim('G', "ring 2", guidance, 2, b'2')?;
+        self.show();
+
+        say("The recorder (R) claims 3 chunks of any shared arena. There is none: 4 are reserved.");
+        let telemetry = self.claim('R', "telemetry", ANY, 3, b't')?;
+        let fresh = telemetry.is_fresh();
+        self.compare("its chunks are fresh", fresh);
+        self.show();
+        Ok(())
+    }
+
+    /// Where ring 1 was.
+    fn close_ring(&mut self) -> Result<u64, Box<dyn Error>> {
+        say("Ring 1 is closed: its chunks are released, and stay resident until a sweep.");
+        let ring1 = self.held.remove(0).chunks;
+        let closed = ring1.address();
+        let before = resident();
+        self.memory.release(ring1)?;
+        self.compare("they stay resident", resident() + 1 >= before);
+        self.show();
+
+        say("The recorder asks for 2 chunks more. Ring 1's are free, but not for it: a new arena.");
+        self.claim('R', "telemetry", ANY, 2, b'u')?;
+        self.show();
+        Ok(closed)
+    }
+
+    fn sweep(&mut self) -> Ended {
+        say("A forced sweep hands the memory of ring 1's chunks back to the OS.");
+        let before = resident();
+        let purged = self.memory.sweep(true)?;
+        println!("  {purged} chunks purged");
+        self.compare("2 chunks are purged", purged == 2);
+        let less = before == 0 || resident() + 63 <= before;
+        self.compare("64 MiB less are resident", less);
+        self.show();
+        Ok(())
+    }
+
+    fn next_ring(&mut self, guidance: i32, closed: u64) -> Ended {
+        say(
+            "Guidance wants a run of 3. Free are 2 and 2, apart: turned down, and nothing changes.",
+        );
+        let before = self.memory.layer().clone();
+        match self.memory.claim(guidance, 3) {
+            Ok(_) => self.compare("it is turned down", false),
+            Err(error) => {
+                println!("  {error}");
+                self.compare("by 10", error == Refusal::NoRun);
+            }
+        }
+        let unchanged = same(self.memory.layer(), &before);
+        self.compare("nothing changes", unchanged);
+
+        say("A run of 2 is granted, the lowest: where ring 1 was.");
+        let ring3 = self.claim('G', "ring 3", guidance, 2, b'3')?;
+        let (again, fresh) = (ring3.address() == closed, ring3.is_fresh());
+        self.compare("it is where ring 1 was", again);
+        self.compare("it is not fresh", !fresh);
+        self.show();
+        Ok(())
+    }
+
+    fn look(&mut self) {
+        say("Every page still holds what its owner wrote:");
+        let mut lost = 0;
+        for Held {
+            name, chunks, mark, ..
+        } in &self.held
+        {
+            let all = pages(chunks).count();
+            let kept = pages(chunks).filter(|page| chunks[*page] == *mark).count();
+            let at = chunks.address();
+            println!("  {name:<9} at {at:#x}: {kept} of {all} pages");
+            lost += all - kept;
+        }
+        self.compare("every page is its owner's", lost == 0);
+    }
+
+    /// Claims for a program, which writes its mark into every page.
+    fn claim(
+        &mut self,
+        program: char,
+        name: &'static str,
+        arena: i32,
+        n: usize,
+        mark: u8,
+    ) -> Result<&Chunks, Box<dyn Error>> {
+        let mut chunks = self.memory.claim(arena, n)?;
+        for page in pages(&chunks) {
+            chunks[page] = mark;
+        }
+        self.held.push(Held {
+            program,
+            name,
+            mark,
+            chunks,
+        });
+        Ok(&self.held[self.held.len() - 1].chunks)
+    }
+
+    /// Counts and says what is not so.
+    fn compare(&mut self, what: &str, so: bool) {
+        if !so {
+            println!("  NOT SO: {what}");
+            self.wrong += 1;
+        }
+    }
+
+    /// Who holds what, and what is resident.
+    fn show(&self) {
+        let holder = |chunk| {
+            let holds = |held: &&Held| held.chunks.addresses().contains(&chunk);
+            self.held.iter().find(holds).map(|held| held.program)
+        };
+        print!("{}", self.memory.layer().picture().held_by(holder));
+        println!("  resident: {} MiB", resident());
+    }
+
+    fn save(&self, file: Option<PathBuf>) -> Ended {
+        let Some(file) = file else { return Ok(()) };
+        let layer = self.memory.layer();
+        fs::write(&file, saved::to_bytes(&layer.state(), layer.records()))?;
+        println!("\nThe table is saved in {}.", file.display());
+        Ok(())
+    }
 }
 
 /// The same records, stamps and state.
@@ -113,37 +207,6 @@ fn same(a: &Layer, b: &Layer) -> bool {
 
 fn say(text: &str) {
     println!("\n{text}");
-}
-
-/// Occupancy, a map of each arena's chunks, and what is resident.
-fn show(memory: &Memory) {
-    let layer = memory.layer();
-    let arenas = layer.records().iter().take(layer.state().count);
-    for (line, arena) in layer.to_string().lines().zip(arenas) {
-        let bit = |map: &[u32; 32], chunk: usize| map[chunk / 32] >> (chunk % 32) & 1 == 1;
-        let map: String = (0..arena.chunks)
-            .map(
-                |chunk| match (bit(&arena.used, chunk), bit(&arena.pending, chunk)) {
-                    (true, _) => '#',
-                    (false, true) => '~',
-                    (false, false) => '.',
-                },
-            )
-            .collect();
-        println!("  {line}  [{map}]");
-    }
-    println!(
-        "  resident: {} MiB   (# held, ~ to be purged, . free)",
-        resident()
-    );
-}
-
-/// Writes its mark into every page.
-fn written(mut chunks: Chunks, mark: u8) -> Chunks {
-    for page in pages(&chunks) {
-        chunks[page] = mark;
-    }
-    chunks
 }
 
 fn pages(chunks: &Chunks) -> impl Iterator<Item = usize> + Clone {

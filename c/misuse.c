@@ -1,0 +1,584 @@
+/* The headers used wrongly, and at their edges: each refusal with document 01's example and what it leaves, NULL, hosts
+ * that answer nonsense, broken tables drawn, products of many chunks. It prints what is not as it should be, and exits
+ * with 0 only if nothing is. It is C and C++ at once:
+ *
+ *     gcc -std=c11 -Wall -Wextra -Wpedantic -Werror -Iinclude c/misuse.c build/lib/libsirqobal.a -o misuse
+ *     g++ -x c++ -std=c++17 -Iinclude c/misuse.c -x none build/lib/libsirqobal.a -o misuse */
+#ifndef _DEFAULT_SOURCE
+#define _DEFAULT_SOURCE
+#endif
+
+#include "sirqobal_linux.h"
+#include "sirqobal_picture.h"
+
+#include <assert.h>
+
+#define BASE UINT64_C(1073741824)
+#define S SIRQOBAL_CHUNK
+
+#if 200 * SIRQOBAL_CHUNK != 6710886400
+#error "the preprocessor has a chunk of another size"
+#endif
+static_assert(200 * SIRQOBAL_CHUNK == UINT64_C(6710886400), "200 chunks do not wrap");
+static_assert(sizeof(200 * SIRQOBAL_CHUNK) == 8, "a product of chunks has 64 bits");
+static_assert(sizeof(SIRQOBAL_SLICES * SIRQOBAL_SLICE) == 8, "a product of slices has 64 bits");
+static_assert(sizeof(struct sirqobal_state) == 104 && sizeof(struct sirqobal_arena) == 544, "a saved table's parts");
+static_assert(sizeof(struct sirqobal_settings) == 32 && sizeof(struct sirqobal_reply) == 160, "what is passed");
+
+static struct sirqobal_table table, before;
+static struct sirqobal_memory memory;
+static int checks, failures;
+
+static void check(const char *what, bool so)
+{
+    checks++;
+    if (!so) {
+        printf("NOT SO: %s\n", what);
+        failures++;
+    }
+}
+
+static bool same_state(const struct sirqobal_state *a, const struct sirqobal_state *b)
+{
+    unsigned char of_a[sizeof *a], of_b[sizeof *b];
+    sirqobal_state_bytes(a, of_a);
+    sirqobal_state_bytes(b, of_b);
+    return memcmp(of_a, of_b, sizeof of_a) == 0;
+}
+
+static bool same_lent(const struct sirqobal_table *a, const struct sirqobal_table *b)
+{
+    return memcmp(a->records, b->records, sizeof a->records) == 0 &&
+           memcmp(a->stamps, b->stamps, sizeof a->stamps) == 0;
+}
+
+/* The reply is this refusal, with nothing else in it, and the table has its state. */
+static void refused(const char *what, struct sirqobal_reply r, uint32_t number)
+{
+    check(what, r.number == number && r.kind == 0 && r.address == 0 && r.bytes == 0 && r.align == 0 && r.id == 0 &&
+                    r.count == 0 && !r.fresh && !r.committed && !r.owns && !r.decommit && !r.commit && !r.large);
+    check("its state is put back", same_state(&table.state, &r.state));
+}
+
+/* A refusal that leaves records, stamps and state as `before` has them. */
+static void left(const char *what, struct sirqobal_reply r, uint32_t number)
+{
+    refused(what, r, number);
+    check("the records and stamps are left", same_lent(&table, &before));
+    check("the state is left", same_state(&table.state, &before.state));
+}
+
+static void grants(const char *what, struct sirqobal_reply r)
+{
+    check(what, r.number == SIRQOBAL_GRANTED);
+    check("its state is put back", same_state(&table.state, &r.state));
+}
+
+static void asks(const char *what, struct sirqobal_reply r, uint32_t kind)
+{
+    check(what, r.number == SIRQOBAL_QUESTION && r.kind == kind);
+    check("its state is put back", same_state(&table.state, &r.state) && table.state.question == kind);
+    check("the table has the question", table.asked.kind == kind && table.asked.address == r.address);
+}
+
+/* Document 01's example: arena 0, owned, not exclusive, 4 chunks, all free, uncommitted; no reserve. */
+static void example(void)
+{
+    sirqobal_table_init(&table);
+    asks("a reserve asks", sirqobal_table_reserve(&table, 4 * S, false, false, false), SIRQOBAL_MEMORY);
+    grants("the memory is taken", sirqobal_table_answer(&table, SIRQOBAL_MEMORY, true, BASE));
+    before = table;
+}
+
+/* ---- texts */
+
+static void texts(void)
+{
+    for (uint32_t i = 0; i <= 17; i++) {
+        uint32_t number = i == 17 ? SIRQOBAL_QUESTION : i;
+        check("a number has a text", strlen(sirqobal_refusal_text(number)) > 5);
+        check("it is no other's", strcmp(sirqobal_refusal_text(number), sirqobal_refusal_text(17)) != 0);
+        for (uint32_t j = 0; j < i; j++)
+            check("two numbers have two texts", strcmp(sirqobal_refusal_text(number), sirqobal_refusal_text(j)) != 0);
+    }
+    check("254 has none", strcmp(sirqobal_refusal_text(254), sirqobal_refusal_text(UINT32_MAX)) == 0);
+    char version[32];
+    snprintf(version, sizeof version, "%d.%d.%d", SIRQOBAL_VERSION_MAJOR, SIRQOBAL_VERSION_MINOR,
+             SIRQOBAL_VERSION_PATCH);
+    check("the version's numbers are its text's", strcmp(version, SIRQOBAL_VERSION) == 0);
+}
+
+/* ---- NULL */
+
+#define NO_RECORDS NULL, 0, table.stamps, SIRQOBAL_STAMPS, table.state, 1, table.settings
+#define NO_STAMPS table.records, SIRQOBAL_RECORDS, NULL, 0, table.state, 1, table.settings
+#define NOTHING NULL, 0, NULL, 0, table.state, 1, table.settings
+
+static void nulls(void)
+{
+    example();
+    left("no records, reserve", sirqobal_reserve_os_memory_ex(NO_RECORDS, S, true, false, false), SIRQOBAL_BROKEN);
+    left("no records, manage",
+         sirqobal_manage_os_memory_ex(NO_RECORDS, S, S, true, false, false, 0, false, false, true), SIRQOBAL_BROKEN);
+    left("no records, adopt", sirqobal_adopt_os_block(NO_RECORDS, 2 * BASE, S), SIRQOBAL_BROKEN);
+    left("no stamps, one", sirqobal_chunk_alloc(NO_STAMPS, 0), SIRQOBAL_BROKEN);
+    left("no stamps, as is", sirqobal_chunk_claim(NO_STAMPS, 0), SIRQOBAL_BROKEN);
+    left("nothing, claim", sirqobal_chunk_alloc_n(NOTHING, 0, 1), SIRQOBAL_BROKEN);
+    left("nothing, release", sirqobal_chunk_release(NOTHING, BASE, 1, -1, true), SIRQOBAL_BROKEN);
+    left("nothing, sweep", sirqobal_purge_due(NOTHING, true), SIRQOBAL_BROKEN);
+    left("nothing, answer", sirqobal_answer(NOTHING, SIRQOBAL_COMMIT, true, 0), SIRQOBAL_BROKEN);
+    left("no stamps, owns", sirqobal_owns(NO_STAMPS, BASE), SIRQOBAL_BROKEN);
+    left("no records, area", sirqobal_arena_area(NO_RECORDS, 0), SIRQOBAL_BROKEN);
+
+    struct sirqobal_slice_answer run = sirqobal_alloc_run(NULL, 0, 1);
+    check("no words, a run", run.number == SIRQOBAL_BROKEN && run.address == 0);
+    check("no words, a free", sirqobal_free_range(NULL, 0, SIRQOBAL_SLICE, SIRQOBAL_SLICE) == SIRQOBAL_BROKEN);
+}
+
+/* ---- refusals, with document 01's examples */
+
+static void refusals_at_once(void)
+{
+    example();
+    left("1: 32,767 stamps",
+         sirqobal_chunk_alloc(table.records, SIRQOBAL_RECORDS, table.stamps, SIRQOBAL_STAMPS - 1, table.state, 1,
+                              table.settings, 0),
+         SIRQOBAL_BROKEN);
+    left("3: an answer to an idle layer", sirqobal_table_answer(&table, SIRQOBAL_COMMIT, true, 0),
+         SIRQOBAL_NO_SUCH_QUESTION);
+    left("4: a run of 0", sirqobal_table_claim(&table, 0, 0), SIRQOBAL_ZERO);
+    left("6: adopt a chunk at the base", sirqobal_table_adopt(&table, BASE, S), SIRQOBAL_RANGE);
+    left("7: release at the base + 1", sirqobal_table_release(&table, 1, BASE + 1, 1, SIRQOBAL_TOLD_NOTHING, true),
+         SIRQOBAL_NOT_WHOLE);
+    left("8: release past the arena", sirqobal_table_release(&table, 1, BASE + 4 * S, 1, SIRQOBAL_TOLD_NOTHING, true),
+         SIRQOBAL_NOT_INSIDE);
+    left("9: release 5", sirqobal_table_release(&table, 1, BASE, 5, SIRQOBAL_TOLD_NOTHING, true), SIRQOBAL_PAST_END);
+    left("10: a run of 5", sirqobal_table_claim(&table, 0, 5), SIRQOBAL_NO_RUN);
+    left("12: adopt 1,025 chunks", sirqobal_table_adopt(&table, UINT64_C(68719476736), 1025 * S),
+         SIRQOBAL_CHUNK_COUNT);
+    left("12: reserve all", sirqobal_table_reserve(&table, UINT64_MAX, true, false, false), SIRQOBAL_CHUNK_COUNT);
+    left("15: manage 1, a chunk", sirqobal_table_manage(&table, 1, S, 0, true, false, true), SIRQOBAL_NO_WHOLE_CHUNK);
+    left("16: not reserved", sirqobal_table_manage(&table, S, 2 * S, 0, true, false, false), SIRQOBAL_HOST_REFUSED);
+    table.settings.off = 1;
+    left("5: arenas off", sirqobal_table_claim_one(&table, SIRQOBAL_ANY), SIRQOBAL_ARENAS_OFF);
+    left("4 before 5", sirqobal_table_claim(&table, SIRQOBAL_ANY, 0), SIRQOBAL_ZERO);
+    table.settings.off = 0;
+    left("4 before 8", sirqobal_table_release(&table, 1, 1, 0, 0, false), SIRQOBAL_ZERO);
+    left("8 before 7", sirqobal_table_release(&table, 1, BASE - 1, 9, 0, false), SIRQOBAL_NOT_INSIDE);
+    left("7 before 9", sirqobal_table_release(&table, 1, BASE + 1, 9, 0, false), SIRQOBAL_NOT_WHOLE);
+    table.settings.page = 0;
+    left("1 before 4", sirqobal_table_claim(&table, 0, 0), SIRQOBAL_BROKEN);
+}
+
+static void refusals_while_open(void)
+{
+    example();
+    grants("a chunk goes, to be purged", sirqobal_table_release(&table, 1, BASE, 1, SIRQOBAL_TOLD_COMMITTED, true));
+    asks("a sweep asks", sirqobal_table_sweep(&table, 1, true), SIRQOBAL_PURGE);
+    before = table;
+    left("2: a claim during a purge question", sirqobal_table_claim(&table, 0, 1), SIRQOBAL_QUESTION_OPEN);
+    left("2 before 4", sirqobal_table_claim(&table, 0, 0), SIRQOBAL_QUESTION_OPEN);
+    left("2: a second sweep", sirqobal_table_sweep(&table, 1, true), SIRQOBAL_QUESTION_OPEN);
+    left("3: an answer of another kind", sirqobal_table_answer(&table, SIRQOBAL_MEMORY, true, 9 * BASE),
+         SIRQOBAL_NO_SUCH_QUESTION);
+    left("3: an answer of no kind", sirqobal_table_answer(&table, 77, true, 0), SIRQOBAL_NO_SUCH_QUESTION);
+    check("the question is still there", table.asked.kind == SIRQOBAL_PURGE && table.asked.address == BASE);
+    check("queries do not mind", sirqobal_table_owns(&table, BASE).owns &&
+                                     sirqobal_table_area(&table, 0).bytes == 4 * S &&
+                                     sirqobal_table_area(&table, 7).number == SIRQOBAL_GRANTED);
+    struct sirqobal_reply r = sirqobal_table_answer(&table, table.asked.kind, true, 0);
+    grants("the sweep ends", r);
+    check("with one yes", r.count == 1);
+}
+
+static void refusals_by_answers(void)
+{
+    example();
+    asks("a claim asks for its commit", sirqobal_table_claim_one(&table, 0), SIRQOBAL_COMMIT);
+    check("the run is taken meanwhile", table.records[0].used[0] == 1);
+    left("11: the commit is answered no", sirqobal_table_answer(&table, SIRQOBAL_COMMIT, false, 0),
+         SIRQOBAL_COMMIT_REFUSED);
+    asks("a reserve asks", sirqobal_table_reserve(&table, S, true, false, true), SIRQOBAL_MEMORY);
+    left("14: the memory is answered no", sirqobal_table_answer(&table, SIRQOBAL_MEMORY, false, 0),
+         SIRQOBAL_MEMORY_REFUSED);
+    asks("a reserve asks", sirqobal_table_reserve(&table, S, true, false, true), SIRQOBAL_MEMORY);
+    refused("6: the memory overlaps", sirqobal_table_answer(&table, SIRQOBAL_MEMORY, true, BASE), SIRQOBAL_RANGE);
+    check("and the question is open", table.state.question == SIRQOBAL_MEMORY);
+    asks("not whole: it goes back", sirqobal_table_answer(&table, SIRQOBAL_MEMORY, true, 9 * BASE + 4096),
+         SIRQOBAL_GIVE_BACK);
+    left("7: then it is refused", sirqobal_table_answer(&table, SIRQOBAL_GIVE_BACK, false, 0), SIRQOBAL_NOT_WHOLE);
+    for (uint64_t i = 1; i < SIRQOBAL_RECORDS; i++)
+        grants("a separate block", sirqobal_table_adopt(&table, BASE + 8 * i * S, S));
+    before = table;
+    left("13: the 33rd", sirqobal_table_adopt(&table, 9 * BASE, S), SIRQOBAL_TABLE_FULL);
+    left("13: the 33rd, managed", sirqobal_table_manage(&table, 9 * BASE, S, 0, false, false, true),
+         SIRQOBAL_TABLE_FULL);
+}
+
+/* ---- many chunks */
+
+static void many_chunks(void)
+{
+    sirqobal_table_init(&table);
+    grants("200 chunks are adopted", sirqobal_table_adopt(&table, BASE, 200 * SIRQOBAL_CHUNK));
+    struct sirqobal_reply r = sirqobal_table_area(&table, 0);
+    check("all of them", r.bytes == UINT64_C(6710886400) && table.records[0].chunks == 200);
+    check("the last byte is inside", sirqobal_table_owns(&table, BASE + 200 * SIRQOBAL_CHUNK - 1).owns);
+    check("the next one is not", !sirqobal_table_owns(&table, BASE + 200 * SIRQOBAL_CHUNK).owns);
+    r = sirqobal_table_claim(&table, 0, 200);
+    grants("a run of 200", r);
+    check("at the base", r.address == BASE && r.committed);
+    grants("is released", sirqobal_table_release(&table, 1, BASE, 200, SIRQOBAL_TOLD_NOTHING, false));
+    r = sirqobal_table_claim_as_is(&table, SIRQOBAL_ANY);
+    grants("one as it is", r);
+    check("the lowest, not fresh", r.address == BASE && !r.fresh);
+}
+
+/* ---- hosts */
+
+/* What a host answers, and what it was asked. */
+struct script {
+    bool yes;
+    uint64_t base;       /* of memory */
+    bool breaks;         /* makes the page size unsound */
+    bool answers_itself; /* as no host should */
+    int asked[5];        /* by kind */
+    struct sirqobal_reply last;
+};
+
+static bool scripted(void *context, const struct sirqobal_reply *asked, uint64_t *base)
+{
+    struct script *script = (struct script *)context;
+    script->asked[asked->kind <= SIRQOBAL_GIVE_BACK ? asked->kind : 0]++;
+    script->last = *asked;
+    if (script->breaks)
+        table.settings.page = 5000;
+    if (script->answers_itself && asked->kind == SIRQOBAL_MEMORY)
+        check("answered in the host", sirqobal_table_answer(&table, SIRQOBAL_MEMORY, false, 0).number == 14);
+    *base = script->base;
+    return script->yes;
+}
+
+static struct script host_of(bool yes, uint64_t base)
+{
+    struct script script;
+    memset(&script, 0, sizeof script);
+    script.yes = yes;
+    script.base = base;
+    return script;
+}
+
+static void settle_at_6(void)
+{
+    example();
+    struct script host = host_of(true, BASE + S);
+    left("6 becomes 14",
+         sirqobal_table_settle(&table, sirqobal_table_reserve(&table, S, true, false, true), scripted, &host),
+         SIRQOBAL_MEMORY_REFUSED);
+    check("the memory went back", host.asked[SIRQOBAL_MEMORY] == 1 && host.asked[SIRQOBAL_GIVE_BACK] == 1 &&
+                                      host.last.address == BASE + S && host.last.bytes == S);
+    host = host_of(true, 0);
+    left("a yes without a base",
+         sirqobal_table_settle(&table, sirqobal_table_reserve(&table, S, true, false, true), scripted, &host),
+         SIRQOBAL_MEMORY_REFUSED);
+    check("nothing goes back", host.asked[SIRQOBAL_GIVE_BACK] == 0);
+
+    table.settings.reserve = S;
+    host = host_of(true, BASE);
+    refused("6 becomes 10 where a claim waits",
+            sirqobal_table_settle(&table, sirqobal_table_claim(&table, SIRQOBAL_ANY, 5), scripted, &host),
+            SIRQOBAL_NO_RUN);
+    check("and default reserves are given up", table.state.mark == 1 && host.asked[SIRQOBAL_GIVE_BACK] == 1);
+    host = host_of(true, 9 * BASE);
+    refused("for good",
+            sirqobal_table_settle(&table, sirqobal_table_claim(&table, SIRQOBAL_ANY, 5), scripted, &host),
+            SIRQOBAL_NO_RUN);
+    check("nobody is asked", host.asked[SIRQOBAL_MEMORY] == 0 && table.state.mark == 1);
+}
+
+static void settle_at_1(void)
+{
+    example();
+    struct script host = host_of(true, 9 * BASE);
+    host.breaks = true;
+    refused("1 is handed on",
+            sirqobal_table_settle(&table, sirqobal_table_reserve(&table, 2 * S, true, false, true), scripted, &host),
+            SIRQOBAL_BROKEN);
+    check("the memory went back", host.asked[SIRQOBAL_GIVE_BACK] == 1 && host.last.address == 9 * BASE &&
+                                      host.last.bytes == 2 * S);
+    check("the question is open", table.state.question == SIRQOBAL_MEMORY && table.asked.kind == SIRQOBAL_MEMORY);
+    table.settings.page = 4096;
+    host = host_of(true, 9 * BASE + 5);
+    struct sirqobal_reply asked = table.asked;
+    refused("put right, it goes on", sirqobal_table_settle(&table, asked, scripted, &host), SIRQOBAL_NOT_WHOLE);
+    check("one block came and went", host.asked[SIRQOBAL_MEMORY] == 1 && host.asked[SIRQOBAL_GIVE_BACK] == 1);
+
+    asks("a reserve", sirqobal_table_reserve(&table, 2 * S, true, false, true), SIRQOBAL_MEMORY);
+    asks("not whole", sirqobal_table_answer(&table, SIRQOBAL_MEMORY, true, 9 * BASE + 5), SIRQOBAL_GIVE_BACK);
+    table.settings.page = 5000;
+    host = host_of(true, 0);
+    asked = table.asked;
+    refused("1 at a give back", sirqobal_table_settle(&table, asked, scripted, &host), SIRQOBAL_BROKEN);
+    check("the host is not asked yet", host.asked[SIRQOBAL_GIVE_BACK] == 0);
+    table.settings.page = 4096;
+    refused("then it is, once", sirqobal_table_settle(&table, asked, scripted, &host), SIRQOBAL_NOT_WHOLE);
+    check("so it is", host.asked[SIRQOBAL_GIVE_BACK] == 1 && table.state.question == SIRQOBAL_NONE);
+}
+
+static void settle_at_3(void)
+{
+    example();
+    struct script host = host_of(true, 9 * BASE);
+    host.answers_itself = true;
+    left("3 is handed on",
+         sirqobal_table_settle(&table, sirqobal_table_reserve(&table, S, true, false, true), scripted, &host),
+         SIRQOBAL_NO_SUCH_QUESTION);
+    check("the memory went back", host.asked[SIRQOBAL_GIVE_BACK] == 1);
+    host = host_of(true, 0);
+    left("a reply that is no question comes back",
+         sirqobal_table_settle(&table, sirqobal_table_claim(&table, 0, 0), scripted, &host), SIRQOBAL_ZERO);
+    check("nobody is asked", host.last.kind == 0);
+}
+
+static void settle_to_the_end(void)
+{
+    example();
+    table.settings.reserve = 2 * S;
+    struct script host = host_of(true, 9 * BASE);
+    grants("4 chunks",
+           sirqobal_table_settle(&table, sirqobal_table_claim(&table, SIRQOBAL_ANY, 4), scripted, &host));
+    struct sirqobal_reply r =
+        sirqobal_table_settle(&table, sirqobal_table_claim(&table, SIRQOBAL_ANY, 2), scripted, &host);
+    grants("2 of a new arena", r);
+    check("memory, then commits", r.address == 9 * BASE && host.asked[SIRQOBAL_MEMORY] == 1 &&
+                                      host.asked[SIRQOBAL_COMMIT] == 2 && table.state.count == 2);
+    host = host_of(true, 10 * BASE);
+    r = sirqobal_table_settle(&table, sirqobal_table_claim(&table, SIRQOBAL_ANY, 3), scripted, &host);
+    refused("3 of another", r, SIRQOBAL_NO_RUN);
+    check("10 leaves the new arena", table.state.count == 3 && table.state.mark == 0);
+    grants("release", sirqobal_table_release(&table, 1, BASE, 3, SIRQOBAL_TOLD_NOTHING, true));
+    r = sirqobal_table_settle(&table, sirqobal_table_sweep(&table, 1, true), scripted, &host);
+    grants("a sweep of 3", r);
+    check("counts 3", r.count == 3 && host.asked[SIRQOBAL_PURGE] == 3);
+}
+
+/* ---- the host over the real OS */
+
+/* A page that somebody else mapped: whatever is asked about it, the host answers no and leaves it. */
+static void not_its_own(void)
+{
+    size_t page = (size_t)sirqobal_linux_page();
+    void *mapped = mmap(NULL, page, PROT_READ | PROT_WRITE, MAP_PRIVATE | MAP_ANONYMOUS, -1, 0);
+    check("a page", mapped != MAP_FAILED);
+    if (mapped == MAP_FAILED)
+        return;
+    unsigned char *own = (unsigned char *)mapped;
+    memset(own, 7, page);
+    sirqobal_memory_init(&memory);
+    check("an arena", sirqobal_memory_reserve(&memory, S, true).number == SIRQOBAL_GRANTED);
+    struct sirqobal_reply ask = memory.table.asked;
+    uint64_t base = 0;
+    ask.address = (uintptr_t)mapped;
+    ask.bytes = page;
+    for (uint32_t kind = 0; kind <= 8; kind++) {
+        if (kind == SIRQOBAL_MEMORY)
+            continue;
+        ask.kind = kind;
+        check("no to what it did not map", !sirqobal_linux_answer(&memory.os, &ask, &base));
+    }
+    check("it is left", own[0] == 7 && own[page - 1] == 7);
+    ask.kind = SIRQOBAL_PURGE;
+    ask.address = memory.os.ranges[0].base + S / 2;
+    ask.bytes = S;
+    check("no to what is its own in part", !sirqobal_linux_answer(&memory.os, &ask, &base) &&
+                                               sirqobal_linux_find(&memory.os, ask.address, S / 2 + 1) == 1);
+    ask.bytes = UINT64_MAX;
+    check("no to what wraps", !sirqobal_linux_answer(&memory.os, &ask, &base));
+    check("the end", sirqobal_memory_end(&memory) && munmap(mapped, page) == 0);
+}
+
+/* MiB of addresses that this process has mapped; 0 where the system does not say. */
+static uint64_t mapped_addresses(void)
+{
+    uint64_t pages = 0;
+    FILE *statm = fopen("/proc/self/statm", "r");
+    if (statm != NULL) {
+        if (fscanf(statm, "%" SCNu64, &pages) != 1)
+            pages = 0;
+        fclose(statm);
+    }
+    return pages * sirqobal_linux_page() >> 20;
+}
+
+static void linux_host(void)
+{
+    struct sirqobal_reply ask;
+    uint64_t base = 0, addresses = mapped_addresses();
+    memset(&ask, 0, sizeof ask);
+    sirqobal_memory_init(&memory);
+    check("more than there is", sirqobal_memory_reserve(&memory, UINT64_C(1) << 62, true).number == 14);
+    check("its errno is kept", memory.os.error != 0 && memory.os.count == 0);
+    check("size 0: one page comes, and goes", sirqobal_memory_reserve(&memory, 0, true).number == 12);
+    check("nothing stays mapped", memory.os.count == 0);
+    for (uint64_t i = 0; i < SIRQOBAL_RECORDS; i++)
+        check("an arena", sirqobal_memory_reserve(&memory, S, i % 2 == 0).id == i);
+    check("the 33rd", sirqobal_memory_reserve(&memory, S, true).number == SIRQOBAL_TABLE_FULL);
+    check("goes back", memory.os.count == SIRQOBAL_RECORDS);
+    ask.kind = SIRQOBAL_GIVE_BACK;
+    ask.address = memory.os.ranges[3].base;
+    ask.bytes = S;
+    check("once", sirqobal_linux_answer(&memory.os, &ask, &base));
+    check("not twice", !sirqobal_linux_answer(&memory.os, &ask, &base));
+    check("no more than 31 chunks of addresses are kept", mapped_addresses() <= addresses + 31 * 32 + 8);
+    check("the rest", sirqobal_memory_end(&memory) && memory.os.count == 0 && memory.table.state.count == 0);
+    check("none are kept", mapped_addresses() <= addresses + 8);
+}
+
+/* Whether a page may be read and written, as the system says. */
+static bool is_open(uint64_t address)
+{
+    char line[512], mode[5] = "";
+    uint64_t start, end;
+    bool found = false;
+    FILE *maps = fopen("/proc/self/maps", "r");
+    while (maps != NULL && !found && fgets(line, sizeof line, maps) != NULL)
+        found = sscanf(line, "%" SCNx64 "-%" SCNx64 " %4s", &start, &end, mode) == 3 && start <= address &&
+                address < end;
+    if (maps != NULL)
+        fclose(maps);
+    return found && strncmp(mode, "rw", 2) == 0;
+}
+
+static void real_memory(void)
+{
+    sirqobal_memory_init(&memory);
+    memory.table.settings.delay = 3600000; /* nothing is due meanwhile, however slow the machine */
+    struct sirqobal_reply arena = sirqobal_memory_reserve(&memory, 2 * S, true);
+    check("an arena", arena.number == SIRQOBAL_GRANTED);
+    for (int decommits = 0; decommits <= 1; decommits++) {
+        memory.table.settings.decommits = (uint32_t)decommits;
+        struct sirqobal_reply run = sirqobal_memory_claim(&memory, (int32_t)arena.id, 2);
+        check("a run", run.number == SIRQOBAL_GRANTED && run.committed && run.fresh == !decommits);
+        unsigned char *bytes = (unsigned char *)sirqobal_at(run.address);
+        check("it is clear", bytes[0] == 0 && bytes[2 * S - 1] == 0);
+        bytes[0] = bytes[2 * S - 1] = 1;
+        check("released", sirqobal_memory_release(&memory, run.address, 2).number == SIRQOBAL_GRANTED);
+        check("not due yet", sirqobal_memory_sweep(&memory, false).count == 0);
+        check("swept", sirqobal_memory_sweep(&memory, true).count == 2);
+        check("decommitted or not", (memory.table.records[0].committed[0] == 0) == decommits);
+        check("the OS says the same", is_open(run.address) == !decommits && is_open(run.address + S) == !decommits);
+    }
+    check("the end", sirqobal_memory_end(&memory));
+}
+
+/* ---- pictures */
+
+/* What is drawn of the table, at most so many bytes. */
+static size_t drawn(char *text, size_t size, sirqobal_holder *holder)
+{
+    FILE *file = tmpfile();
+    if (file == NULL)
+        return 0;
+    sirqobal_table_picture(file, &table, holder, NULL);
+    rewind(file);
+    size_t n = fread(text, 1, size - 1, file);
+    text[n] = '\0';
+    fclose(file);
+    return n;
+}
+
+static char third_is_c(void *context, uint64_t address)
+{
+    (void)context;
+    return address == BASE + 2 * S || address == BASE + 3 * S ? 'C' : address == BASE ? '?' : 'z';
+}
+
+#define LEGEND \
+    "  A..Z held, a..z held and not committed, # + the same by others, ~ to be purged, - free and committed, . free\n"
+
+static char text[65536];
+
+static void pictures(void)
+{
+    sirqobal_table_init(&table);
+    drawn(text, sizeof text, NULL);
+    check("no arena", strcmp(text, "arenas: none\n") == 0);
+    grants("65 chunks", sirqobal_table_manage(&table, BASE, 65 * S, 0, true, false, true));
+    table.records[0].used[0] = 15;         /* 0 and 1 not known, 2 and 3 C's */
+    table.records[0].committed[0] = 0x55;  /* 0, 2, 4, 6 */
+    table.records[0].pending[0] = 0x31;    /* 0, 4, 5 */
+    table.records[0].committed[1] = 0;
+    drawn(text, sizeof text, third_is_c);
+    check("a cell for a chunk",
+          strcmp(text, "arena 0: base 0x0000000040000000, 65 chunks, 61 free, managed, exclusive\n"
+                       "     0 #+Cc~~-.........................................................\n"
+                       "    64 -\n" LEGEND) == 0);
+    sirqobal_table_init(&table);
+    grants("1,024 chunks", sirqobal_table_adopt(&table, BASE, 1024 * S));
+    drawn(text, sizeof text, NULL);
+    size_t lines = 0;
+    for (const char *c = text; *c != '\0'; c++)
+        lines += *c == '\n';
+    check("16 rows", lines == 18 && strstr(text, "1024 chunks, 1024 free, owned, shared\n     0 ---") != NULL &&
+                         strstr(text, "\n   960 ----") != NULL);
+}
+
+static void broken_pictures(void)
+{
+    memset(&table, 0xff, sizeof table);
+    size_t n = drawn(text, sizeof text, third_is_c);
+    size_t arena = strlen("arena 0: base 0xffffffffffffffff, 18446744073709551615 chunks, 0 free, owned, exclusive\n");
+    check("32 arenas of 1,024 chunks", n == 32 * (arena + 16 * (7 + 64 + 1)) + 22 + strlen(LEGEND));
+    FILE *file = tmpfile();
+    if (file != NULL) {
+        sirqobal_picture(file, table.records, SIZE_MAX, SIZE_MAX, NULL, NULL);
+        check("whatever is said of the records", ftell(file) == (long)n);
+        fclose(file);
+    }
+    for (uint32_t i = 0; i < SIRQOBAL_RECORDS; i++)
+        table.records[i].chunks = 0;
+    n = drawn(text, sizeof text, NULL);
+    check("no chunks, no rows", n > 0 && strstr(text, "\n     0 ") == NULL && strstr(text, "arena 31: ") != NULL);
+}
+
+static void saved(void)
+{
+    static struct sirqobal_arena records[SIRQOBAL_RECORDS];
+    struct sirqobal_state state;
+    example();
+    FILE *file = tmpfile();
+    check("a file", file != NULL);
+    if (file == NULL)
+        return;
+    check("is written", sirqobal_table_save(file, &table) && ftell(file) == (long)SIRQOBAL_SAVED);
+    rewind(file);
+    check("and read", sirqobal_saved_read(file, &state, records));
+    check("all of it", same_state(&state, &table.state) && memcmp(records, table.records, sizeof records) == 0);
+    check("the end is too short", !sirqobal_saved_read(file, &state, records));
+    fputc(0, file);
+    rewind(file);
+    check("a byte more is too long", !sirqobal_saved_read(file, &state, records));
+    fclose(file);
+}
+
+int main(void)
+{
+    texts();
+    nulls();
+    refusals_at_once();
+    refusals_while_open();
+    refusals_by_answers();
+    many_chunks();
+    settle_at_6();
+    settle_at_1();
+    settle_at_3();
+    settle_to_the_end();
+    not_its_own();
+    linux_host();
+    real_memory();
+    pictures();
+    broken_pictures();
+    saved();
+    printf("%d checks, %d wrong\n", checks, failures);
+    return failures != 0;
+}

@@ -1,0 +1,260 @@
+use super::mapping::Mapping;
+use super::{now, page_size, Chunks, Error, Options, Os, Unreleased};
+use crate::{Layer, Managed, Moment, Outcome, Refusal, CHUNK};
+use std::io;
+use std::ptr::NonNull;
+use std::sync::Arc;
+
+/// A layer over real memory. Dropped, it gives its mappings back; those whose chunks somebody still
+/// has go with the last of these.
+///
+/// Its chunks are had as [`Chunks`], by claims alone, and nothing else reaches the memory: the host
+/// that talks to the OS is private to it, and so is the layer, but for looking. It may go to another
+/// thread, and be looked at by several.
+#[derive(Debug)]
+pub struct Memory {
+    layer: Layer,
+    os: Os,
+    options: Options,
+    page: u64,
+}
+
+impl Memory {
+    /// No arena; purges after 10 ms, which decommit; no default reserve.
+    ///
+    /// ```
+    /// let memory = sirqobal::linux::Memory::new();
+    /// assert_eq!(memory.layer().to_string(), "arenas: none\n");
+    /// ```
+    pub fn new() -> Memory {
+        Memory {
+            layer: Layer::new(),
+            os: Os::default(),
+            options: Options::default(),
+            page: page_size(),
+        }
+    }
+
+    /// What the next calls carry.
+    ///
+    /// ```
+    /// assert_eq!(sirqobal::linux::Memory::new().options().delay, 10);
+    /// ```
+    pub fn options(&self) -> &Options {
+        &self.options
+    }
+
+    /// What the next calls carry, to be set.
+    ///
+    /// ```
+    /// use sirqobal::{linux::Memory, ANY, CHUNK};
+    ///
+    /// let mut memory = Memory::new();
+    /// memory.options_mut().reserve = 4 * CHUNK;
+    /// let chunk = memory.claim(ANY, 1)?;
+    /// assert_eq!(memory.layer().records()[0].chunks, 4);
+    /// # Ok::<(), sirqobal::linux::Error>(())
+    /// ```
+    pub fn options_mut(&mut self) -> &mut Options {
+        &mut self.options
+    }
+
+    /// Reserves an arena, rounded up to whole chunks, and answers its id. An exclusive one serves
+    /// only claims that name it.
+    ///
+    /// # Errors
+    /// [`Refusal::MemoryRefused`] with the OS's reason; [`Refusal::ChunkCount`] for a size of 0 or
+    /// more than 1,024 chunks; [`Refusal::TableFull`].
+    ///
+    /// ```
+    /// use sirqobal::{linux::Memory, CHUNK};
+    ///
+    /// assert_eq!(Memory::new().reserve(3 * CHUNK, true), Ok(0));
+    /// ```
+    pub fn reserve(&mut self, bytes: u64, exclusive: bool) -> Result<i32, Error> {
+        self.settle(|layer, moment| layer.reserve_os_memory(moment, bytes, false, false, exclusive))
+    }
+
+    /// Registers the whole chunks inside a range that the program has mapped, and answers the
+    /// arena's id. The range is not unmapped; when the memory and the last of its chunks are
+    /// dropped it is readable and writable again, with any bytes.
+    ///
+    /// # Safety
+    /// The range is private anonymous memory, readable and writable, and its bytes are initialised.
+    /// From now on, as long as this memory or any of its chunks lives, it stays mapped, and nobody
+    /// else reads, writes, protects or advises it.
+    ///
+    /// # Errors
+    /// [`Refusal::NoWholeChunk`], [`Refusal::Range`] if it overlaps an arena,
+    /// [`Refusal::ChunkCount`], [`Refusal::TableFull`].
+    ///
+    /// ```
+    /// use sirqobal::{linux::Memory, CHUNK};
+    /// use std::alloc::{alloc_zeroed, dealloc, Layout};
+    /// use std::ptr::NonNull;
+    ///
+    /// let layout = Layout::from_size_align(2 * CHUNK as usize, CHUNK as usize).unwrap();
+    /// // SAFETY: the layout is not empty.
+    /// let block = NonNull::new(unsafe { alloc_zeroed(layout) }).unwrap();
+    /// let mut memory = Memory::new();
+    /// // SAFETY: whole pages of a block of our own, which is used through the memory alone.
+    /// let id = unsafe { memory.manage(block, layout.size(), true) }?;
+    /// let mut ring = memory.claim(id, 2)?;
+    /// ring.fill(7);
+    /// memory.release(ring)?;
+    /// assert_eq!(memory.sweep(true)?, 2);
+    /// drop(memory);
+    /// // SAFETY: of `alloc_zeroed`, and no longer managed.
+    /// unsafe { dealloc(block.as_ptr(), layout) };
+    /// # Ok::<(), sirqobal::linux::Error>(())
+    /// ```
+    pub unsafe fn manage(
+        &mut self,
+        start: NonNull<u8>,
+        bytes: usize,
+        exclusive: bool,
+    ) -> Result<i32, Error> {
+        self.os.begin();
+        let moment = self.moment();
+        let first = start.addr().get() as u64;
+        let range = Managed {
+            start: first,
+            size: bytes as u64,
+            node: -1,
+            exclusive,
+            mapped: false,
+            reserved: true,
+        };
+        let id = self.layer.manage_os_memory(moment, range)?;
+        let (base, bytes) = self.layer.arena_area(moment, id)?;
+        // SAFETY: the area lies inside the range, which is as the caller says.
+        let mapping = unsafe {
+            let base = start.add((base - first) as usize);
+            Mapping::managed(base, bytes as usize)
+        };
+        self.os.keep(mapping);
+        Ok(id)
+    }
+
+    /// Claims n neighbouring chunks, committed, of an arena or of [`ANY`](crate::ANY).
+    ///
+    /// # Errors
+    /// [`Refusal::Zero`]; [`Refusal::ArenasOff`]; [`Refusal::NoRun`], with the OS's reason if a
+    /// default reserve failed; [`Refusal::CommitRefused`] with the OS's reason.
+    ///
+    /// A default reserve ([`Options::reserve`]) that fails is the last: no later claim reserves,
+    /// whatever is released or set since ([`Layer::has_given_up`]).
+    ///
+    /// ```
+    /// use sirqobal::{linux::Memory, CHUNK};
+    ///
+    /// let mut memory = Memory::new();
+    /// let id = memory.reserve(CHUNK, true)?;
+    /// assert_eq!(memory.claim(id, 1)?.len() as u64, CHUNK);
+    /// # Ok::<(), sirqobal::linux::Error>(())
+    /// ```
+    pub fn claim(&mut self, id: i32, n: usize) -> Result<Chunks, Error> {
+        let run = self.settle(|layer, moment| layer.chunk_alloc_n(moment, id, n))?;
+        // A granted run has at most 1,024 chunks, and lies in an arena of ours.
+        let found = self.os.find(run.address, n as u64 * CHUNK);
+        let (mapping, offset) = found.ok_or(Refusal::Broken)?;
+        // SAFETY: inside the mapping, by `find`; `chunk_alloc_n` grants what is committed and what
+        // nobody holds, and neither grants nor purges it before `release` says so.
+        Ok(unsafe { Chunks::new(Arc::clone(mapping), offset, n, run.fresh) })
+    }
+
+    /// Releases chunks; a later sweep purges them.
+    ///
+    /// # Errors
+    /// Chunks of another memory are refused with [`Refusal::NotInside`] and come back.
+    ///
+    /// ```
+    /// use sirqobal::{linux::Memory, CHUNK};
+    ///
+    /// let mut memory = Memory::new();
+    /// let id = memory.reserve(CHUNK, true)?;
+    /// let chunks = memory.claim(id, 1)?;
+    /// memory.release(chunks)?;
+    /// assert!(!memory.claim(id, 1)?.is_fresh());
+    /// # Ok::<(), sirqobal::linux::Error>(())
+    /// ```
+    pub fn release(&mut self, chunks: Chunks) -> Result<(), Unreleased> {
+        self.os.begin();
+        let released = if self.os.has(chunks.mapping()) {
+            let (address, n) = (chunks.address(), chunks.count());
+            let moment = self.moment();
+            self.layer.chunk_release(moment, address, n, None, true)
+        } else {
+            Err(Refusal::NotInside)
+        };
+        released.map_err(|refusal| Unreleased {
+            error: refusal.into(),
+            chunks,
+        })
+    }
+
+    /// Purges what was released long enough ago, or all of it, and answers how many chunks. Where
+    /// the OS says no, a chunk is passed over, and [`os_error`](Memory::os_error) tells why.
+    ///
+    /// # Errors
+    /// None that a program can bring about.
+    ///
+    /// ```
+    /// assert_eq!(sirqobal::linux::Memory::new().sweep(true), Ok(0));
+    /// ```
+    pub fn sweep(&mut self, force: bool) -> Result<usize, Error> {
+        self.settle(|layer, moment| layer.purge_due(moment, force))
+    }
+
+    /// The layer, to look at.
+    ///
+    /// ```
+    /// assert_eq!(sirqobal::linux::Memory::new().layer().state().count, 0);
+    /// ```
+    pub fn layer(&self) -> &Layer {
+        &self.layer
+    }
+
+    /// What the OS last said no with during the last call, granted or not.
+    ///
+    /// ```
+    /// assert!(sirqobal::linux::Memory::new().os_error().is_none());
+    /// ```
+    pub fn os_error(&self) -> Option<io::Error> {
+        self.os.errno().map(io::Error::from_raw_os_error)
+    }
+
+    /// Makes a call, and has the OS answer until it ends.
+    fn settle<T>(
+        &mut self,
+        call: impl FnOnce(&mut Layer, Moment) -> Outcome<'_, T>,
+    ) -> Result<T, Error> {
+        self.os.begin();
+        let moment = self.moment();
+        let ended = call(&mut self.layer, moment).settle(moment, &mut self.os);
+        ended.map_err(|refusal| Error::new(refusal, self.os.errno()))
+    }
+
+    fn moment(&self) -> Moment {
+        let Options {
+            delay,
+            decommits,
+            off,
+            reserve,
+        } = self.options;
+        Moment {
+            ns: now(),
+            delay,
+            decommits,
+            off,
+            reserve,
+            page: self.page,
+        }
+    }
+}
+
+impl Default for Memory {
+    fn default() -> Memory {
+        Memory::new()
+    }
+}

@@ -1,0 +1,28 @@
+/// What the calls on a [`Memory`](super::Memory) carry.
+#[derive(Clone, Copy, Debug, PartialEq, Eq)]
+#[non_exhaustive]
+pub struct Options {
+    /// The purge delay in milliseconds.
+    pub delay: i64,
+    /// A purge decommits: the chunks can't be touched until they are claimed again.
+    pub decommits: bool,
+    /// Arenas serve only claims that name them.
+    pub off: bool,
+    /// The default reserve: what a claim of [`ANY`](crate::ANY) that finds nothing reserves, in
+    /// bytes; nothing below [`CHUNK`](crate::CHUNK). The first such reserve that fails, because the OS says no or
+    /// because 32 arenas stand, is the last: the layer gives up for good
+    /// ([`Layer::has_given_up`](crate::Layer::has_given_up)), whatever is set here later.
+    pub reserve: u64,
+}
+
+impl Default for Options {
+    /// Purges after 10 ms, which decommit; no default reserve.
+    fn default() -> Options {
+        Options {
+            delay: 10,
+            decommits: true,
+            off: false,
+            reserve: 0,
+        }
+    }
+}

@@ -5,7 +5,7 @@ them (table's Elements). So a wrong one is refused where what comes of it is not
 """
 import sys
 
-from kinds import chain, nest, substituted
+from kinds import PLAIN, chain, nest, substituted
 from lemmas import bound, element, handed, value_of
 from reading import declared, items
 
@@ -15,7 +15,7 @@ native.Mathlib.Omega: arith
 denote.Array: Array
 borrow.Author.Needs: scaled-fits
 types.Part: store-in
-Rattle.table.proofs.Elements: Number the flag Within value left-number part-number arg-flag numbered field-fits beside unraw element field-in looks-at shuts-at opens-at fills-at
+Rattle.table.proofs.Elements: Number the flag Within value left-number same-number part-number arg-flag numbered field-fits beside unraw element field-in looks-at shuts-at opens-at fills-at
 Rattle.table.proofs.Looks: Piece piece same-words
 """
 # And those that only the step lemmas of functions use that are lent a field.
@@ -61,6 +61,8 @@ class Elements:
             self.write(target, value)
         elif value[0] == "op2" and value[1] == ["mul", "unsigned"] and value[3][0] == "int" and walk.f.slices:
             self.scale(n, int(value[3][2]), ready)
+        elif value[0] == "rvOpd" and value[1][0] == "copy" and not items(value[1][1][2]) and walk.script.index and walk.kind.get(int(value[1][1][1])) is PLAIN["usize"]:
+            self.same(n, ready)
         elif value[0] == "op2" and value[1] == "offset":
             self.pointer[n] = (walk.slice[int(value[2][1][1])], self.index[int(value[3][1][1])])
             read = f"(load ! (from ! (fld ! refl (stop !))) (look-in ! {2 * int(value[2][1][1]) + 1} (sub ! 0 refl (whole !))))"
@@ -78,6 +80,14 @@ class Elements:
         else:
             return False
         return True
+
+    def same(self, n, ready):
+        """The index, as a local of its own."""
+        walk, m, at = self.walk, self.walk.f.slices[0][0], f"s{n}"
+        walk.kind[n] = PLAIN["usize"]
+        walk.met |= {at, f"l{at}"}
+        walk.emit(f"same-number ! (λ {at}. let l{at} : Within {m} {at} = {walk.script.index or 'need'} in assigns ! (of-opd ! (arg ! refl)) (from ! (stop !)) {walk.puts(n, ready, f'(tt, record {{ fits = omega (arith, l{at}, known-{m} .1 .0) }})')} $")
+        walk.open += 1
 
     def scale(self, n, size, ready):
         """The index, times the size of an element."""

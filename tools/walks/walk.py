@@ -142,10 +142,6 @@ class Walk:
             self.name[n] = self.operand(value[1])
             self.kind[n] = PLAIN["bool"]
             read, typed = f"(of-opd ! ({'true' if 'rue' in value[1] else 'false'}-lit !))", "(tt, tt)"
-        elif value[0] == "rvOpd" and value[1][0] == "copy" and not items(value[1][1][2]) and self.kind.get(int(value[1][1][1])) is PLAIN["bool"]:
-            self.name[n] = self.operand(value[1])
-            self.kind[n] = PLAIN["bool"]
-            read, typed = f"(of-opd ! (load ! (from ! (stop !)) (look ! {place(value[1][1][1])} refl)))", "(tt, tt)"
         elif value == ["rvOpd", "unit"]:
             self.kind[n] = PLAIN["()"]
             read, typed = "(of-opd ! (unit-lit !))", "(tt, tt)"

@@ -1,6 +1,7 @@
 -- One element of a lent slice in a walk: `s[j]` is read, or a field of it, or written. It says nothing of the crate, and can be copied as it stands.
 -- The walk's first entry stays one item: while the element is out it is the element's cell beside all that is kept. What the code has there is found: the index and the field come as a token whose type has the number.
 --     Number, left-number      a number that the code has: the left operand of the arithmetic that is next.        Within     it is below a list's length
+--     same-number      a number that is next put into a local.
 --     part-number      the number of the field that is next.        numbered     what a list has for it
 --     Flag, arg-flag   an operand of the call that is next, which is a bool
 --     value            the number of a cell
@@ -114,6 +115,9 @@ wt-in (vstruct vs) k w = wt-get vs k w
 module _ {M : Type 1} {𝓤 : URA M} {H : Heap 𝓤} {A : Atoms 𝓤} {K : Type 0} {W : Given 𝓤 H A} {Γ : List (Item 𝓤)} {E : Env 𝓤 H} {C : Calls 𝓤 H} {Λ : Loops 𝓤 H} {q : Post 𝓤 H} {d : Place} {body : Body} where
   pub left-number : K → {o : Op2} {x y : Operand} → (Number (numberIn (valueOf 𝓤 H A Γ x)) → Seq K W Γ (runs C Λ E (seq (assign d (op2 o x y)) body) q)) → Seq K W Γ (runs C Λ E (seq (assign d (op2 o x y)) body) q)
   left-number t rest = rest (record { mark = tt })
+
+  pub same-number : K → {x : Operand} → (Number (numberIn (valueOf 𝓤 H A Γ x)) → Seq K W Γ (runs C Λ E (seq (assign d (rvOpd x)) body) q)) → Seq K W Γ (runs C Λ E (seq (assign d (rvOpd x)) body) q)
+  same-number t rest = rest (record { mark = tt })
 
   pub part-number : K → {p : ℕ} {τ : Ty} {k : ℕ} → (Number k → Seq K W Γ (runs C Λ E (seq (assign d (addrOf (spot p (deref τ ∷ field k ∷ [])))) body) q)) → Seq K W Γ (runs C Λ E (seq (assign d (addrOf (spot p (deref τ ∷ field k ∷ [])))) body) q)
   part-number t rest = rest (record { mark = tt })

@@ -29,7 +29,8 @@ pub fn load(records: &[Arena], i: usize) -> Arena
     requires { ⌜ i < length (now records) ⌝ }
     ensures { λ r. ⌜ r ≡ getD (now (records .entry)) i blank ⌝ }
 {
-    records[i]
+    let at = i;
+    records[at]
 }
 
 // The record at an id of the table is written.
@@ -37,7 +38,8 @@ pub fn store(records: &mut [Arena], id: usize, v: Arena)
     requires { ⌜ id < length (now records) ⌝ }
     ensures { λ _. ⌜ now (records .exit) ≡ set (now (records .entry)) id v ⌝ }
 {
-    records[id] = v;
+    let at = id;
+    records[at] = v;
 }
 
 // The record at an id; a blank one past the end.

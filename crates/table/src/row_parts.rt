@@ -17,7 +17,8 @@ pub fn found(i: usize) -> Found
 pub fn nothing() -> Found
     ensures { λ r. ⌜ r ≡ Nothing ⌝ }
 {
-    Found::Nothing
+    let none = Found::Nothing;
+    none
 }
 
 // Whether a search found a record.

@@ -13,7 +13,7 @@ use Rattle.table.proofs.records.load.Statement as stated
 use Rattle.table.proofs.records.load.Code as code
 use native.Mathlib.Omega.{arith}
 use borrow.Author.Needs.{scaled-fits}
-use Rattle.table.proofs.Elements.{the, Within, left-number, beside, element, looks-at, shuts-at}
+use Rattle.table.proofs.Elements.{the, Within, left-number, same-number, beside, element, looks-at, shuts-at}
 
 module _ {M : Type 1} (𝓤 : URA M) (H : Heap 𝓤) (A : Atoms 𝓤) (W : Given 𝓤 H A) (mem : Memory → SProp 𝓤) (run : Routine → Fun 𝓤) (𝓣 : Tables 𝓤 H) where
   module _ (κ-records : Lft) (q-records : Share) (γ-records : GName) (b-records : ℕ) (o-records : ℕ) (records : List Arena) (i : ℕ) where
@@ -33,15 +33,16 @@ module _ {M : Type 1} (𝓤 : URA M) (H : Heap 𝓤) (A : Atoms 𝓤) (W : Given
     walk known-records f-i need =
         enters ! code.function (λ bs. params1 ! $
         pass1 ! (init ! 3 refl (tt, (tt, (record { fits = known-records .1 .0 }, tt)))) $ pass1 ! (init ! 5 refl (tt, record { fits = f-i })) $ pass0 ! $
-        left-number ! (λ n3-1. let ln3-1 : Within records n3-1 = omega (arith, need) in let on3-1 : Fits w64 (the n3-1 * 544) = scaled-fits (the n3-1) (length records) 544 ln3-1 (known-records .1 .1) in
-        assigns ! (bin ! (arg ! refl) (lit ! tt) on3-1) (from ! (stop !)) (init ! 7 refl (tt, on3-1)) $
-        assigns ! (bin ! (load ! (from ! (fld ! refl (stop !))) (look-in ! 3 (sub ! 0 refl (whole !)))) (arg ! refl) tt) (from ! (stop !)) (init ! 9 refl (tt, tt)) $
-        looks-at ! tt T-Arena.the-row (LL.vals T-Arena.the-type L-Arena.the-laws) (LL.tells T-Arena.the-type L-Arena.the-laws) (LL.copy T-Arena.the-type L-Arena.the-copy 𝓤 H A W) L-records records blank (the n3-1) ln3-1 (λ q5 g-t5. let t5 : Arena = getD records (the n3-1) blank in let v-t5 : Val = LL.val T-Arena.the-type L-Arena.the-laws t5 in
-        assigns ! (of-opd ! (element ! (look ! 9 refl) (beside ! (whole !)))) (from ! (stop !)) (init ! 11 refl (LL.lawful T-Arena.the-type L-Arena.the-laws 𝓤 H A W .typed t5 (v-t5 ∷ []) g-t5 .0)) $
-        shuts-at ! tt T-Arena.the-row (LL.vals T-Arena.the-type L-Arena.the-laws) L-records records blank (the n3-1) ln3-1 q5 $
-        assigns ! (of-opd ! (load ! (from ! (stop !)) (look ! 11 refl))) (from ! (stop !)) (init ! 1 refl (LL.lawful T-Arena.the-type L-Arena.the-laws 𝓤 H A W .typed t5 (v-t5 ∷ []) g-t5 .0)) $
-        returns ! (look ! 1 refl) $ used ! $ used ! $ used ! $ used ! $ used ! $ used ! $ free0 ! $
-        finishS 𝓤 H A T-Arena.the-row L-records T-Arena.the-row records χ W (‵ ftrue) v-t5 t5 g-t5 (refl))))
+        same-number ! (λ s3. let ls3 : Within records s3 = omega (arith, need) in assigns ! (of-opd ! (arg ! refl)) (from ! (stop !)) (init ! 7 refl (tt, record { fits = omega (arith, ls3, known-records .1 .0) })) $
+        left-number ! (λ n4-1. let ln4-1 : Within records n4-1 = omega (arith, need) in let on4-1 : Fits w64 (the n4-1 * 544) = scaled-fits (the n4-1) (length records) 544 ln4-1 (known-records .1 .1) in
+        assigns ! (bin ! (arg ! refl) (lit ! tt) on4-1) (from ! (stop !)) (init ! 9 refl (tt, on4-1)) $
+        assigns ! (bin ! (load ! (from ! (fld ! refl (stop !))) (look-in ! 3 (sub ! 0 refl (whole !)))) (arg ! refl) tt) (from ! (stop !)) (init ! 11 refl (tt, tt)) $
+        looks-at ! tt T-Arena.the-row (LL.vals T-Arena.the-type L-Arena.the-laws) (LL.tells T-Arena.the-type L-Arena.the-laws) (LL.copy T-Arena.the-type L-Arena.the-copy 𝓤 H A W) L-records records blank (the n4-1) ln4-1 (λ q6 g-t6. let t6 : Arena = getD records (the n4-1) blank in let v-t6 : Val = LL.val T-Arena.the-type L-Arena.the-laws t6 in
+        assigns ! (of-opd ! (element ! (look ! 11 refl) (beside ! (whole !)))) (from ! (stop !)) (init ! 13 refl (LL.lawful T-Arena.the-type L-Arena.the-laws 𝓤 H A W .typed t6 (v-t6 ∷ []) g-t6 .0)) $
+        shuts-at ! tt T-Arena.the-row (LL.vals T-Arena.the-type L-Arena.the-laws) L-records records blank (the n4-1) ln4-1 q6 $
+        assigns ! (of-opd ! (load ! (from ! (stop !)) (look ! 13 refl))) (from ! (stop !)) (init ! 1 refl (LL.lawful T-Arena.the-type L-Arena.the-laws 𝓤 H A W .typed t6 (v-t6 ∷ []) g-t6 .0)) $
+        returns ! (look ! 1 refl) $ used ! $ used ! $ used ! $ used ! $ used ! $ used ! $ used ! $ free0 ! $
+        finishS 𝓤 H A T-Arena.the-row L-records T-Arena.the-row records χ W (‵ ftrue) v-t6 t6 g-t6 (refl)))))
 
   load-meets : Meets 𝓤 H A load′.signature (WpFn 𝓤 H (𝓣 .C) (𝓣 .Λ) code.function) (load′.spec 𝓤 H A mem run)
   load-meets = shr-meets 𝓤 H A W T-Arena.the-row T-Arena.the-row (plain (λ _. usize) ∷ []) (yes, tt) (load′.clauses 𝓤 H A mem run)

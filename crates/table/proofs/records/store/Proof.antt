@@ -16,7 +16,7 @@ use Rattle.table.proofs.records.store.Code as code
 use native.Mathlib.Omega.{arith}
 use borrow.Author.Needs.{scaled-fits}
 use types.Part.{store-in}
-use Rattle.table.proofs.Elements.{the, Within, left-number, beside, unraw, opens-at, fills-at}
+use Rattle.table.proofs.Elements.{the, Within, left-number, same-number, beside, unraw, opens-at, fills-at}
 
 module _ {M : Type 1} (𝓤 : URA M) (H : Heap 𝓤) (A : Atoms 𝓤) (W : Given 𝓤 H A) (mem : Memory → SProp 𝓤) (run : Routine → Fun 𝓤) (𝓣 : Tables 𝓤 H) where
   module _ (κ-records : Lft) (q-records : Share) (γ-records : GName) (b-records : ℕ) (o-records : ℕ) (records : List Arena) (id : ℕ) (v : Arena) where
@@ -39,15 +39,16 @@ module _ {M : Type 1} (𝓤 : URA M) (H : Heap 𝓤) (A : Atoms 𝓤) (W : Given
     walk known-records f-id g-v need =
         enters ! code.function (λ bs. params1 ! $
         pass1 ! (init ! 3 refl (tt, (tt, (record { fits = known-records .1 .0 }, tt)))) $ pass1 ! (init ! 5 refl (tt, record { fits = f-id })) $ pass1 ! (init ! 7 refl (LL.lawful T-Arena.the-type L-Arena.the-laws 𝓤 H A W .typed v (v-v ∷ []) g-v .0)) $ pass0 ! $
-        left-number ! (λ n4-1. let ln4-1 : Within records n4-1 = omega (arith, need) in let on4-1 : Fits w64 (the n4-1 * 544) = scaled-fits (the n4-1) (length records) 544 ln4-1 (known-records .1 .1) in
-        assigns ! (bin ! (arg ! refl) (lit ! tt) on4-1) (from ! (stop !)) (init ! 9 refl (tt, on4-1)) $
-        assigns ! (bin ! (load ! (from ! (fld ! refl (stop !))) (look-in ! 3 (sub ! 0 refl (whole !)))) (arg ! refl) tt) (from ! (stop !)) (init ! 11 refl (tt, tt)) $
-        opens-at ! tt T-Arena.the-row (LL.vals T-Arena.the-type L-Arena.the-laws) (LL.tells T-Arena.the-type L-Arena.the-laws) L-records records blank (the n4-1) ln4-1 (
-        assigns ! (of-opd ! (arg ! refl)) (from ! (hop ! (look ! 11 refl) (stop !))) (store-in ! 0 (unraw ! (beside ! (whole !))) (LL.lawful T-Arena.the-type L-Arena.the-laws 𝓤 H A W .typed v (v-v ∷ []) g-v .0)) $
-        fills-at ! tt T-Arena.the-row (LL.vals T-Arena.the-type L-Arena.the-laws) (LL.makes T-Arena.the-type L-Arena.the-plain 𝓤 H A) L-records records blank (the n4-1) ln4-1 v (v-v ∷ []) g-v (λ l-records-1. let records-1 : List Arena = set records (the n4-1) v in
+        same-number ! (λ s4. let ls4 : Within records s4 = omega (arith, need) in assigns ! (of-opd ! (arg ! refl)) (from ! (stop !)) (init ! 9 refl (tt, record { fits = omega (arith, ls4, known-records .1 .0) })) $
+        left-number ! (λ n5-1. let ln5-1 : Within records n5-1 = omega (arith, need) in let on5-1 : Fits w64 (the n5-1 * 544) = scaled-fits (the n5-1) (length records) 544 ln5-1 (known-records .1 .1) in
+        assigns ! (bin ! (arg ! refl) (lit ! tt) on5-1) (from ! (stop !)) (init ! 11 refl (tt, on5-1)) $
+        assigns ! (bin ! (load ! (from ! (fld ! refl (stop !))) (look-in ! 3 (sub ! 0 refl (whole !)))) (arg ! refl) tt) (from ! (stop !)) (init ! 13 refl (tt, tt)) $
+        opens-at ! tt T-Arena.the-row (LL.vals T-Arena.the-type L-Arena.the-laws) (LL.tells T-Arena.the-type L-Arena.the-laws) L-records records blank (the n5-1) ln5-1 (
+        assigns ! (of-opd ! (arg ! refl)) (from ! (hop ! (look ! 13 refl) (stop !))) (store-in ! 0 (unraw ! (beside ! (whole !))) (LL.lawful T-Arena.the-type L-Arena.the-laws 𝓤 H A W .typed v (v-v ∷ []) g-v .0)) $
+        fills-at ! tt T-Arena.the-row (LL.vals T-Arena.the-type L-Arena.the-laws) (LL.makes T-Arena.the-type L-Arena.the-plain 𝓤 H A) L-records records blank (the n5-1) ln5-1 v (v-v ∷ []) g-v (λ l-records-1. let records-1 : List Arena = set records (the n5-1) v in
         assigns ! (of-opd ! (unit-lit !)) (from ! (stop !)) (init ! 1 refl (tt, tt)) $
-        returns ! (look ! 1 refl) $ used ! $ used ! $ used ! $ used ! $ used ! $ used ! $ free0 ! $
-        finish 𝓤 H A T-Arena.the-row L-records Nothing records χ W (‵ ftrue) vunit tt records-1 refl l-records-1 (refl)))))
+        returns ! (look ! 1 refl) $ used ! $ used ! $ used ! $ used ! $ used ! $ used ! $ used ! $ free0 ! $
+        finish 𝓤 H A T-Arena.the-row L-records Nothing records χ W (‵ ftrue) vunit tt records-1 refl l-records-1 (refl))))))
 
   store-meets : Meets 𝓤 H A store′.signature (WpFn 𝓤 H (𝓣 .C) (𝓣 .Λ) code.function) (store′.spec 𝓤 H A mem run)
   store-meets = mut-meets 𝓤 H A W T-Arena.the-row Nothing (plain (λ _. usize) ∷ plain (λ _. T-Arena.the-row) ∷ []) (yes, (yes, tt)) (store′.clauses 𝓤 H A mem run)

@@ -9,6 +9,9 @@ contracts, and is written here:
     crates/NAME/proofs/Looking.antt              the same for each function that a walk of NAME lends a field of a record
     crates/NAME/proofs/FUNCTION/Proof.antt       the walk, with its frame and its citations
     crates/walks/proofs/Walking.antt             the names of the libraries that these use, passed on
+    crates/walks/proofs/ShapeX.antt              calls and the frame of functions that are lent slices by the shape X, a word of m (`&mut`) and s (`&`);
+                                                 for m, s and mm they stand there by hand, in Calls and Frame
+    crates/walks/proofs/Rotations.antt           the steps that bring a slice to the front of the others, for a call that takes it
 
 A .walk file begins with the sentence of the proof's head. Then come, in any order,
 
@@ -24,14 +27,17 @@ local of the code that has a name; `known-SLICE`, what is known of a lent slice;
 the tests on the way have shown, in the order of the code, and `e1`, `e2` .. the same as equations (`b ≡ true` or `b ≡ false`); for a call whose contract is no equation, of a local x, `x-says` and
 the lists `SLICE-1`, `SLICE-2` .. that it leaves; and for a local x that is an i32, `s-x`, that it fits: a callee is passed its bits, and says what it says of `toZ w32 (ofZ w32 x)`.
 
-A loop is taken in the one form `while i < k { .. i = i + 1; }`, in a function that is lent one slice by a `&`. Its .walk file has three lines more,
+A loop is taken in the one form `while i < k { .. i = i + 1; }`, before which no `if` stands. Its .walk file has three lines more,
 
-    invariant: TYPE                     what is known before each turn, of the counter and of the locals that are set before the loop
+    invariant: TYPE                     what is known before each turn, of the counter, of the locals that are set before the loop and by a turn, and
+                                        of the lists that a turn changes: of a `&mut` slice, SLICE-now
     starts: TERM                        why it holds at the first turn
-    again: TERM                         why it holds after a turn; a local x that the turn sets is x-next in it
+    again: TERM                         why it holds after a turn; a local x that the turn sets is x-next in it, and a list that it changes has the
+                                        name that the call gave it, as SLICE-1
 
-and in a turn stand for themselves `lt`, that the counter is below its bound, and `inv`, the invariant; behind the loop `inv-end`, the
-invariant at the bound.
+and in a turn stand for themselves `lt`, that the counter is below its bound, `inv`, the invariant, and of a slice that a turn changes `long-SLICE`,
+that SLICE-now is as long as the slice was at the entry; behind the loop the same at its end, and `inv-end`, the invariant at the bound. A
+counter that does not start at 0 may pass its bound: there `ended` says that the bound is not above it, and `inv` is of the counter.
 
 One record of a lent slice is taken in these forms: `s[i]` is read or written, a struct is made of its fields, or a field is lent to a callee. A
 .walk file has two lines more then, of what the code has there it names nothing:
@@ -53,11 +59,12 @@ import sys
 sys.dont_write_bytecode = True
 import elements
 import loops
+import shapes
 from kinds import Function, chain, nest, substituted
-from lemmas import bound, element, held, step_lemma
+from lemmas import bound, element, held, lemma_name, step_lemma
 from reading import CRATES, ROOT, Mir, Script, Unread, functions
-from uses import FRAMES, LIBRARY, Uses, seen_from
-from walk import DONE, MEETS, Walk
+from uses import LIBRARY, Uses, seen_from
+from walk import Walk
 
 
 MADE = "Written by tools/walks."
@@ -73,6 +80,40 @@ def walking_file():
         word = "unfoldable pub use" if "tablesOf" in names else "pub use"
         lines.append(f"{word} {seen_from(module, 'walks')}.{{{', '.join(names)}}}")
     return f"-- What walks use of the libraries, passed on by one name. {MADE}\n" + "\n".join(lines) + "\n"
+
+
+def shape_file(shape, calls, walked):
+    """The rules for the functions of a shape: calls of one, by how the caller has the slices, and the frame of one that is walked."""
+    says = ", ".join([f"`{held}-call`" for held in calls] + (["`Done`, `finish`, `meets`"] if walked else []))
+    head = f"-- Functions whose parameters are slices by the shape {shape} (m: a `&mut [T]`, s: a `&[T]`), then plain data: {says}. {MADE}\n"
+    head += "-- In a call's name stands how the caller has each slice: m, as a `&mut` that is lent again; l, as a `&mut` that is lent as a `&`; s, as a `&`.\n"
+    return head + "-- Assumes `Given`, and that the table of calls is monotone under a frame.\n" + with_uses(shapes.shape_body(shape, calls, walked))
+
+
+def rotations_file(most):
+    """The steps that bring a slice to the front."""
+    head = f"-- A function's slice k, counted from 0, is put first for a call that takes it (`to-k`), and back (`from-k`); for k = 1 both are `swaps`. {MADE}\n-- Assumes `Given`.\n"
+    return head + with_uses(shapes.rotations(most))
+
+
+def shape_files(held, walks):
+    """The rules of all shapes that are called or walked and have none by hand."""
+    home = CRATES / "walks" / "proofs"
+    walked = {walk.f.shape for walk in walks} - set(shapes.FRAMES)
+    calls = sorted(held - set(shapes.CALLS))
+    files = {}
+    for shape in sorted(walked | {word.replace("l", "s") for word in calls}):
+        found = [word for word in calls if word.replace("l", "s") == shape]
+        files[home / f"{shapes.module_of(shape)}.antt"] = shape_file(shape, found, shape in walked)
+    far = [int(step.split("-")[1]) for walk in walks for step in walk.rotations if "-" in step]
+    if far:
+        files[home / "Rotations.antt"] = rotations_file(max(far))
+    return files
+
+
+def with_uses(body):
+    lines = [line.replace("Operand", "Opd as Operand") for line in Uses("walks").only(shapes.LIBRARY, body)]
+    return "\n".join(lines) + "\n\n" + body.rstrip("\n") + "\n"
 
 
 def looking_file(crate, called):
@@ -106,21 +147,19 @@ module _ {M : Type 1} {𝓤 : URA M} {H : Heap 𝓤} {A : Atoms 𝓤} {K : Type 
 def steps_file(crate, called):
     """The step lemmas of a crate's functions."""
     uses, lemmas, contracts, cites = Uses(crate), [], [], []
-    for f, shared in called:
+    for f, had in called:
         for _, kind in f.plain:
             uses.kind(kind)
         for _, s in f.slices:
             uses.kind(s.element)
         uses.kind(f.result)
-        text = uses.clause(f.source, step_lemma(f, shared))
+        text = uses.clause(f.source, step_lemma(f, had))
         lemmas.append(text)
     for f in {f.source.path: f for f, _ in called}.values():
         contracts.append(contract_of(f))
         cites += [f"use {f.module(crate)} as {f.word}′", f"use {f.module(crate)}.Symbol.{{name as {f.key}}}"]
-    if any(f.shape == "ss" and shared for f, shared in called):
-        cites.append(f"use {seen_from('Rattle.walks.proofs.Two', crate)}.{{ss-call}}")
-    if any(f.shape == "ss" and not shared for f, shared in called):
-        cites.append(f"use {seen_from('Rattle.walks.proofs.Shares', crate)}.{{shr2-call}}")
+    for module, rules in shapes.rules_of({had for _, had in called}).items():
+        cites.append(f"use {seen_from(f'Rattle.walks.proofs.{module}', crate)}.{{{', '.join(rules)}}}")
     names = ", ".join(re.match(r"  pub (\S+)", lemma)[1] for lemma in lemmas)
     head = f"-- Functions of `{crate}` that a walk calls, each in one step: {names}. {MADE}\n-- Assumes `Given`, the callee's theorem, and that the table of calls is monotone under a frame.\n"
     body = lemma_body(contracts, lemmas)
@@ -142,6 +181,7 @@ def proof_file(f, script, walk):
         uses.kind(callee.result)
     slices, plain, kind = f.slices, f.plain, f.result
     count = len(slices)
+    frame, ends_in, last_step, meets = shapes.frame_of(f.shape)
     signed = [n for n, k in plain if k.form == "signed"]
     at = {n: "(x" + " .1" * (count + i) + " .0)" for i, (n, _) in enumerate(plain)} | {n: "(x" + " .1" * i + " .0 .now)" for i, (n, _) in enumerate(slices)}
     are = {n: "(are" + " .1" * i + " .0" + (" .1" if k.form in ("number", "signed") else "") + ")" for i, (n, k) in enumerate(plain)}
@@ -175,8 +215,8 @@ def proof_file(f, script, walk):
     lists = " ".join(n for n, _ in slices)
     machine = chain([f"sliceOf L-{n}" for n, _ in slices] + [f"vint w32 bits-{n}" if k.form == "signed" else bound(n, k)[2] for n, k in plain])
     head = held([(n, s, not s.changes) for n, s in slices], [n for n, _ in slices], "‵ ftrue")
-    out += [f"    abbrev Shown : ({arrows}) → Type 1", f"    Shown says = Sq W ({head} ∷ []) (prop (WpFn 𝓤 H (𝓣 .C) (𝓣 .Λ) code.function ({machine}) ({DONE[f.shape]} 𝓤 H A {rows} {loans} {kind.row} {lists} says)))", ""]
-    out += ["    abbrev Post : Val → SProp 𝓤", f"    Post = {DONE[f.shape]} 𝓤 H A {rows} {loans} {kind.row} {lists} χ", ""]
+    out += [f"    abbrev Shown : ({arrows}) → Type 1", f"    Shown says = Sq W ({head} ∷ []) (prop (WpFn 𝓤 H (𝓣 .C) (𝓣 .Λ) code.function ({machine}) ({ends_in} 𝓤 H A {rows} {loans} {kind.row} {lists} says)))", ""]
+    out += ["    abbrev Post : Val → SProp 𝓤", f"    Post = {ends_in} 𝓤 H A {rows} {loans} {kind.row} {lists} χ", ""]
     for n, denot, term in walk.defined:
         out += [f"    abbrev {n} : {denot}", f"    {n} = {term}", ""]
     facts, names = [f"Known {s.element.row} L-{n} {n}" for n, s in slices], [f"known-{n}" for n, _ in slices]
@@ -214,7 +254,7 @@ def proof_file(f, script, walk):
     fact = (f"(λ κs x g. {projected(needs)})", "(λ κs x g. id⊢ 𝓤 _)") if needs else ("(λ κs x g. Unit {0})", "(λ κs x g. factI 𝓤 (Unit {0}) _ tt)")
     out += [
         f"  {f.word}-meets : Meets 𝓤 H A {f.word}′.signature (WpFn 𝓤 H (𝓣 .C) (𝓣 .Λ) code.function) ({f.word}′.spec 𝓤 H A mem run)",
-        f"  {f.word}-meets = {MEETS[f.shape]} 𝓤 H A W {rows} {kind.row} ({slots}) {yeses} ({f.word}′.clauses 𝓤 H A mem run)",
+        f"  {f.word}-meets = {meets} 𝓤 H A W {rows} {kind.row} ({slots}) {yeses} ({f.word}′.clauses 𝓤 H A mem run)",
         f"      (λ κs. {nest([k.vals() for _, k in plain])}) (λ κs a. {nest(['tt'] * len(plain))})",
         f"      {fact[0]} {contract}",
         f"      ({kind.makes()}) {nest(['(λ κs x f. refl)'] * len(plain))} (λ κs. {nest([k.tells() for _, k in plain])})",
@@ -229,38 +269,79 @@ def proof_file(f, script, walk):
         f"    ({f.word}-meets 𝓤 H (𝓖 .A) (givenOf 𝓤 H 𝓜 𝓖) (𝓜 .mem) (𝓡 .run) (tablesOf 𝓤 H 𝓜 (tables 𝓤 H 𝓜 𝓡 code.env))",
     ]
     cites = []
-    for c, shared in walk.called.values():
+    for c, _ in walk.called.values():
         path = "·".join([c.source.crate, *c.source.module, c.source.name]).replace("_", "-")
         out.append(f"    (cited 𝓤 H ({c.contract} 𝓤 H (𝓖 .A) (𝓜 .mem) (𝓡 .run)) 𝓜 𝓡 code.env {c.key} {c.word}-def.routine code.calls-{path} ({c.word}-thm.met 𝓤 H 𝓜 𝓖 𝓡))")
         module = c.module(own)
         cites += [f"use {module}.Symbol as {c.word}-def", f"use {module}.Symbol.{{name as {c.key}}}", f"use {module}.Met as {c.word}-thm"]
     by_home = {}
-    for c, shared in walk.called.values():
+    for c, hads in walk.called.values():
         if c.looked:
             cites.append(f"use {seen_from(f'Rattle.{own}.proofs.Looking', own)}.{{{c.contract}, {c.word}-looked}}")
         else:
-            by_home.setdefault((c.source.crate, c.source.steps), []).append((c, shared))
+            by_home.setdefault((c.source.crate, c.source.steps), []).append((c, hads))
     for (crate, module), found in by_home.items():
-        names = [c.contract for c, _ in found] + [f"{c.word}-{'pass' if shared else 'step'}" for c, shared in found]
+        names = [c.contract for c, _ in found] + [lemma_name(c, had) for c, hads in found for had in hads]
         home = ".".join([*module, "Callable"])
         cites.append(f"use {seen_from(f'Rattle.{crate}.proofs.{home}', own)}.{{{', '.join(dict.fromkeys(names))}}}")
     out[-1] += ")"
     mine = f.module(own)
     cites += [f"use {mine}.Key.{{name as {f.key}}}", f"use {mine} as {f.word}′", f"use {mine}.Statement as stated", f"use {mine}.Code as code"]
     body = "\n" + "\n".join(out) + "\n"
+    if far := sorted(walk.rotations - {"swaps"}):
+        cites.append(f"use {seen_from('Rattle.walks.proofs.Rotations', own)}.{{{', '.join(far)}}}")
     if walk.loop:
         cites += uses.only(loops.LIBRARY, body) + [f"use {mine}.Code.Mir.{{turn-1, t-{walk.loop.number}}}"]
     if walk.elements.index:
         cites += uses.only(elements.LIBRARY, body)
     path = "::".join([own, *f.source.module, f.source.name])
     top = f"-- `{path}` meets its contract: a walk of its MIR. {script.head}\n-- {MADE} Assumes nothing.\n"
-    return top + uses.lines(body, [*script.uses, f"use {FRAMES[f.shape].replace('Rattle·' + own + '.', 'Rattle·' + own + '·proofs.')}", *cites]) + "\n" + body
+    return top + uses.lines(body, [*script.uses, f"use {seen_from(f'Rattle.walks.proofs.{frame}', own)}.{{{ends_in}, {last_step}, {meets}}}", *cites]) + "\n" + body
+
+
+class Calls:
+    """The functions that walks call, each with how its caller has the slices, and those that are lent a field of a record."""
+
+    def __init__(self):
+        self.steps, self.looked = {}, {}
+
+    def take(self, callee, had):
+        home = (callee.source.crate, callee.source.steps)
+        self.steps.setdefault(home, {})[callee.source.path, had] = callee
+
+    def of_walk(self, walk):
+        for callee, hads in walk.called.values():
+            if callee.looked:
+                self.looked.setdefault(walk.f.source.crate, {})[callee.source.path] = callee
+            else:
+                for had in hads:
+                    self.take(callee, had)
+
+    def of_list(self, path, find):
+        """Those that a .steps file names."""
+        for line in path.read_text().split("\n"):
+            name, _, shared = line.partition(" ")
+            if name and not name.startswith("#"):
+                callee = find(name)
+                self.take(callee, shapes.held_as(callee.shape, [shared == "shared"] * len(callee.slices)))
+
+    def files(self):
+        out = {}
+        for crate, found in self.looked.items():
+            out[CRATES / crate / "proofs" / "Looking.antt"] = looking_file(crate, [found[path] for path in sorted(found)])
+        for (crate, module), found in self.steps.items():
+            order = sorted(found)
+            out[(CRATES / crate / "proofs").joinpath(*module, "Callable.antt")] = steps_file(crate, [(found[key], key[1]) for key in order])
+        return out
+
+    def held(self):
+        return {had for found in self.steps.values() for _, had in found}
 
 
 def all_files(check):
     """Each file that is written here, with its text. A crate whose sources do not compile is left as it is, unless they are checked."""
     files = {CRATES / "walks" / "proofs" / "Walking.antt": walking_file()}
-    called, looked, sources, mirs, made = {}, {}, {}, {}, {}
+    calls, sources, mirs, made, walks = Calls(), {}, {}, {}, []
     for crate in sorted(p.parent.name for p in CRATES.glob("*/walks")):
         try:
             mirs[crate] = Mir(crate)
@@ -280,24 +361,12 @@ def all_files(check):
             script = Script(path)
             walk = Walk(f, script, find, Uses(crate))
             text = proof_file(f, script, walk)
+            walks.append(walk)
             files[CRATES / crate / "proofs" / "/".join([*f.source.module, f.source.name]) / "Proof.antt"] = text
-            for callee, shared in walk.called.values():
-                if callee.looked:
-                    looked.setdefault(crate, {})[callee.source.path] = callee
-                else:
-                    called.setdefault((callee.source.crate, callee.source.steps), {})[callee.source.path, shared] = callee
+            calls.of_walk(walk)
         for path in sorted((CRATES / crate / "walks").glob("*.steps")):
-            for line in path.read_text().split("\n"):
-                name, _, shared = line.partition(" ")
-                if name and not name.startswith("#"):
-                    callee = find(name)
-                    called.setdefault((callee.source.crate, callee.source.steps), {})[name, shared == "shared"] = callee
-    for crate, found in looked.items():
-        files[CRATES / crate / "proofs" / "Looking.antt"] = looking_file(crate, [found[path] for path in sorted(found)])
-    for (crate, module), found in called.items():
-        order = sorted(found)
-        files[(CRATES / crate / "proofs").joinpath(*module, "Callable.antt")] = steps_file(crate, [(found[key], key[1]) for key in order])
-    return files
+            calls.of_list(path, find)
+    return files | calls.files() | shape_files(calls.held(), walks)
 
 
 def declare(path):
@@ -312,17 +381,20 @@ def declare(path):
 
 def main():
     check = sys.argv[1:] == ["--check"]
-    bad = []
-    for path, text in all_files(check).items():
+    files = all_files(check)
+    # rules of a shape that no walk uses any more
+    home = CRATES / "walks" / "proofs"
+    bad = sorted({*home.glob("Shape*.antt"), *home.glob("Rotations.antt")} - set(files))
+    for path, text in files.items():
         if check:
             if not path.is_file() or path.read_text() != text:
-                bad.append(str(path.relative_to(ROOT)))
+                bad.append(path)
         else:
             path.parent.mkdir(parents=True, exist_ok=True)
             path.write_text(text)
             declare(path)
-    if bad:
-        sys.exit("not as tools/walks writes them: " + ", ".join(bad))
+    if check and bad:
+        sys.exit("not as tools/walks writes them: " + ", ".join(str(path.relative_to(ROOT)) for path in bad))
 
 
 if __name__ == "__main__":

@@ -138,7 +138,7 @@ class Function:
     def lists(self, text):
         """A clause with a name for each list: NAME at the entry, NAME-exit at the exit."""
         for name, _ in [*self.slices, *([self.looked] if self.looked else [])]:
-            raw = re.escape(name.rstrip("′").replace("-", "_"))
+            raw = f"(?:{re.escape(name.rstrip('′').replace('-', '_'))}|{re.escape(name)})"
             text = re.sub(rf"now \({raw} \.exit\)", f"{name}-exit", text)
             text = re.sub(rf"now \({raw} \.entry\)|now {raw}(?![\w-])", name, text)
             text = re.sub(rf"\(({re.escape(name)}(?:-exit)?)\)", r"\1", text)

@@ -3,6 +3,7 @@ import re
 
 from kinds import chain, nest, substituted
 from reading import balanced
+from shapes import call_of
 
 
 def bound(name, kind):
@@ -24,19 +25,23 @@ def held(slices, lists, last="more"):
     return out
 
 
-CALLS = {("", False): "plain-call", ("m", False): "mut-call", ("s", False): "shr-call", ("s", True): "pass-call", ("mm", False): "mut2-call", ("ss", True): "ss-call", ("ss", False): "shr2-call"}
+def lemma_name(f, had):
+    """The name of the lemma that calls f, by how the caller has the slices: it owns them all, it has all as `&`, or some."""
+    if "s" not in had:
+        return f"{f.word}-step"
+    return f"{f.word}-pass" if set(had) == {"s"} else f"{f.word}-as-{had}"
 
 
-def step_lemma(f, shared):
-    """The lemma that calls f in one step; `shared`: from a function that has its slices as `&` itself."""
-    name = f"{f.word}-{'pass' if shared else 'step'}"
+def step_lemma(f, had):
+    """The lemma that calls f in one step; `had`: how the caller has each of its slices, in the words of shapes.py."""
+    name = lemma_name(f, had)
     signed = {n: f"(toZ w32 {n})" for n, k in f.plain if k.form == "signed"}
     said, equal = f.says()
     said = substituted(said, signed)
     equal = {left: substituted(right, signed) for left, right in equal.items()} if equal is not None else None
     needs = substituted(f.needs(), signed) if f.needs() else None
     bounds = [bound(n, k) for n, k in f.plain]
-    slices = [(n, s, shared) for n, s in f.slices]
+    slices = [(n, s, way == "s") for (n, s), way in zip(f.slices, had)]
     changed = [n for n, s in f.slices if s.changes]
     first = held(slices, [n for n, _ in f.slices])
     kind = f.result
@@ -80,9 +85,9 @@ def step_lemma(f, shared):
     out += [f"      → {b}" for b in [" → ".join(binds)] if binds]
     out += [f"      → ((hd′ : Item 𝓤) → Opds K W (hd′ ∷ Γ) E xs ({machine}))", f"      → ({rest})", f"      → Seq K W ({first} ∷ Γ) G"]
     out += [f"  {name} bang site mem run known {' '.join([*names, 'ops', 'then′'])} ="]
-    names_made = {"": 0, "ss-call": 0, "mut2-call": 2, "shr2-call": 2}.get(CALLS[f.shape, shared], 1)
+    rule = call_of(had)
+    names_made = 1 if rule == "pass-call" else len(had) - had.count("s")
     marks = " ".join(["_"] * (1 + names_made))
-    rule = CALLS[f.shape, shared]
     clauses = f"{nest(['yes'] * len(bounds))} ({f.word}′.clauses 𝓤 H A mem run) known"
     loans = " ".join(s.element.row for _, s in f.slices) + " " + " ".join(f"L-{n}" for n, _ in f.slices)
     lent = " ".join(n for n, _ in f.slices)
@@ -95,7 +100,7 @@ def step_lemma(f, shared):
     else:
         out += [f"      {rule} bang site {kind.row} ({slots}) {clauses} {denots} {values}", f"      ({made}) tt ({required})"]
         more = "(λ out ws. id⊢ 𝓤 _) ops"
-    out += [f"      {psi} {more} (λ {words}. {handed(f, equal, left, lists, changed)})"]
+    out += [f"      {psi} {more} (λ {words}. {handed(f, equal, left, lists, slices)})"]
     return "\n".join(out) + "\n"
 
 
@@ -107,9 +112,9 @@ def element(s):
     return s.element.denot if re.fullmatch(r"\S+", s.element.denot) else f"({s.element.denot})"
 
 
-def handed(f, equal, left, lists, changed):
+def handed(f, equal, left, lists, slices):
     """How the rest of the walk is given what the call rule gives."""
-    kind = f.result
+    kind, changed = f.result, [n for n, s, _ in slices if s.changes]
     lengths = [f"l-{n}" for n in changed]
     if equal is None:
         given = [f"{n}-exit" for n in changed]
@@ -139,6 +144,6 @@ def handed(f, equal, left, lists, changed):
     # each list at the exit is the one that the contract says: one after another, the last slice first
     for n in reversed(changed):
         now = {m: f"{m}-exit" if changed.index(m) > changed.index(n) else lists[m] for m in changed} | {n: "lst′"}
-        entry = held([(m, s, False) for m, s in f.slices], [now.get(m, m) for m, _ in f.slices])
+        entry = held(slices, [now.get(m, m) for m, _ in f.slices])
         inner = f"subst (λ (lst′ : List {element(dict(f.slices)[n])}). Seq K W ({entry} ∷ Γ) (after val′)) (sym {fact[n + '-exit']}) ({inner})"
     return inner

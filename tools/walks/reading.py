@@ -10,7 +10,7 @@ ROOT = Path(__file__).resolve().parent.parent.parent
 CRATES = ROOT / "crates"
 
 # Names that a variable of a proof cannot have: constructors, keywords, and names that a walk uses.
-TAKEN = set("yes no zero suc pos true false refl in let open search some raw record module use where step prop at mem run bs".split())
+TAKEN = set("yes no zero suc pos true false refl in let open search some raw record module use where step prop at mem run bs from".split())
 
 
 def balanced(text, at, pair):

@@ -46,12 +46,6 @@ Rattle.walks.proofs.Locals: enters used room in-local if-else
 Rattle.walks.proofs.Operands: arg arg-fits entry-fits signed
 Rattle.walks.proofs.Calls: Site in-seq plain-call mut-call shr-call pass-call mut2-call swaps
 """
-FRAMES = {
-    "mm": "Rattle.walks.proofs.Frame.{Done2, finish2, mut2-meets}",
-    "m": "Rattle.walks.proofs.Frame.{Done, finish, mut-meets}",
-    "s": "Rattle.walks.proofs.Frame.{DoneS, finishS, shr-meets}",
-    "ss": "Rattle.walks.proofs.Two.{Done, finish, meets}",
-}
 WALKING = "Rattle.walks.proofs.Walking"
 # Names that only a function without a result needs, or one with a negative number in it, taken from their modules straight.
 SELDOM = {"unit-lit": "types.Run", "vunit": "mir.Val", "neg-lit": "types.Run"}
@@ -144,4 +138,4 @@ class Uses:
             if used(here, words):
                 groups.setdefault(module, []).append(name if here == name else f"{name} as {here}")
         out += [f"use {module}.{{{', '.join(names)}}}" for module, names in groups.items()]
-        return "\n".join([*out, *more])
+        return "\n".join(dict.fromkeys([*out, *more]))

@@ -4,9 +4,10 @@ import sys
 
 from elements import Elements
 from kinds import PLAIN, kind_of, substituted
-from lemmas import element
+from lemmas import element, lemma_name
 from loops import Loop
 from reading import declared, items, variable
+from shapes import frame_of, held_as, turned
 from uses import tokens
 
 
@@ -37,6 +38,7 @@ class Walk:
         self.met, self.defined, self.constants = set(), [], set()
         self.loop, self.starting = None, {}
         self.elements, self.pieces = Elements(self), {}
+        self.rotations = set()
 
     def emit(self, text):
         self.out.append(("        " + text).rstrip())
@@ -93,12 +95,12 @@ class Walk:
             return
         if value[0] == "addrOf":
             p = value[1]
-            self.slice[n] = self.slice[int(p[1])]
+            self.slice[n] = self.slice[self.lends_on(value)]
             read = f"(addr ! (from ! (fld ! refl (hop ! (look-in ! {place(p[1])} (sub ! 0 refl (whole !))) (stop !)))))"
             typed = "(tt, tt)"
         elif value[0] == "aggregate" and len(items(value[1])) == 2:
-            first, second = items(value[1])
-            self.slice[n] = self.slice[int(first[1][1])]
+            second = items(value[1])[1]
+            self.slice[n] = self.slice[self.lends_on(value)]
             read = f"(agg ! (and-then ! (in-local ! refl) (and-then ! (load ! (from ! (fld ! refl (stop !))) (look-in ! {place(second[1][1])} (sub ! 1 refl (whole !)))) (no-more !))))"
             typed = f"(tt, (tt, (record {{ fits = known-{self.slice[n]} .1 .0 }}, tt)))"
         elif value[0] == "rvOpd" and value[1][0] == "copy" and items(value[1][1][2]) and int(value[1][1][1]) in self.slice:
@@ -149,6 +151,10 @@ class Walk:
             self.starting[n] = value[1][2]
             self.kind[n] = PLAIN["usize"]
             read, typed = "(of-opd ! (lit ! tt))", "(tt, record { fits = lit< tt })"
+        elif value[0] == "rvOpd" and value[1][0] == "copy" and not items(value[1][1][2]) and n > self.f.count and self.kind.get(int(value[1][1][1])) is PLAIN["usize"]:
+            self.starting[n] = self.operand(value[1])
+            self.kind[n] = PLAIN["usize"]
+            read, typed = f"(of-opd ! {self.reads(value[1])})", f"(tt, record {{ fits = f-{self.starting[n]} }})"
         elif value[0] == "rvOpd" and value[1][0] == "copy" and not items(value[1][1][2]) and n == 0 and self.f.result.form == "named":
             m = self.operand(value[1])
             self.name[n] = m
@@ -165,20 +171,32 @@ class Walk:
         kind = kind_of("", mir_type, self.f.mir.enums)
         return kind, declared(kind.path)[int(items(value[1])[0][2])]
 
+    def called_by(self, statement):
+        """The function that a statement calls, and what it is passed."""
+        return self.find(statement[1][1][1].strip('"')), items(statement[2])
+
+    def lends_on(self, value):
+        """The local whose slice is lent on by a value that is made of it, or None."""
+        if value[0] == "addrOf":
+            return int(value[1][1])
+        parts = items(value[1]) if value[0] == "aggregate" else []
+        return int(parts[0][1][1]) if len(parts) == 2 and parts[0][0] == "copy" else None
+
     def call(self, statement, ready):
-        callee = self.find(statement[1][1][1].strip('"'))
-        shared = bool(self.f.slices) and not any(s.changes for _, s in self.f.slices)
-        self.called[callee.source.path] = (callee, shared and bool(callee.slices))
-        arguments = items(statement[2])
+        callee, arguments = self.called_by(statement)
+        # the slices that it is lent: where they do not stand first, they are put there
+        lent = [self.slice[int(x[1][1])] for x in arguments[: len(callee.slices)]]
+        had = held_as(callee.shape, [not dict(self.f.slices)[m].changes for m in lent])
+        self.called.setdefault(callee.source.path, (callee, []))
+        self.called[callee.source.path][1].append(had)
+        there, back = turned([m for m, _ in self.f.slices], lent)
+        self.rotations |= {*there, *back}
         n = int(statement[3][1])
         before = len(callee.slices) + (1 if callee.looked else 0)
         plain = arguments[before:]
         self.seen[callee.source.path] = self.seen.get(callee.source.path, 0) + 1
         again = self.seen[callee.source.path]
-        word = f"{callee.word}-{'looked' if callee.looked else 'pass' if shared and callee.slices else 'step'}"
-        # the slices that it is lent; a call on the second alone has it put first
-        lent = [self.slice[int(x[1][1])] for x in arguments[: len(callee.slices)]]
-        turned = len(self.f.slices) == 2 and lent == [self.f.slices[1][0]]
+        word = f"{callee.word}-looked" if callee.looked else lemma_name(callee, had)
         args, opened = [x for m in lent for x in (f"L-{m}", self.lists[m])], []
         told_of, leaf = {}, bool(callee.looked)
         if leaf:
@@ -266,7 +284,7 @@ class Walk:
                 self.change(m, new)
         self.kind[n] = kind
         site = "(in-seq ! (fmOf 𝓤 H (W .laws) 𝓣))"
-        self.emit(" ".join((["swaps ! $"] if turned else []) + opened))
+        self.emit(" ".join([f"{step} ! $" for step in there] + opened))
         self.emit(f"{word} ! {site} mem run known-{callee.word} {' '.join(args)}")
         told = ([f"λ {' '.join(binders)}."] if binders else []) + lets
         self.emit(f"(λ _. {reads[1:-1]}) ({' '.join(told)}")
@@ -279,8 +297,8 @@ class Walk:
             typed = "(tt, tt)"
         else:
             typed = f"({kind.lawful()} .typed {'tt' if kind.form == 'unit' else local} (v-{local} ∷ []) g-{local} .0)"
-        if turned:
-            self.emit("swaps ! $")
+        if back:
+            self.emit(" ".join(f"{step} ! $" for step in back))
         self.emit(f"land ! (from ! (stop !)) {self.puts(n, ready, typed)} $")
 
     def renamed(self, n):
@@ -347,8 +365,7 @@ class Walk:
             value, shown = ["v-result", "result"], "g-result"
         ends = [self.lists[n] for n, s in f.slices if s.changes]
         lengths = [self.kept[n] for n, s in f.slices if s.changes]
-        word = FINISH[f.shape]
-        self.emit(" ".join([word, "𝓤 H A", rows, loans, kind.row, lists, "χ W (‵ ftrue)", *value, *ends, shown, *lengths, f"({self.said(said)})"]) + ")" * self.open)
+        self.emit(" ".join([frame_of(f.shape)[2], "𝓤 H A", rows, loans, kind.row, lists, "χ W (‵ ftrue)", *value, *ends, shown, *lengths, f"({self.said(said)})"]) + ")" * self.open)
 
     def run(self, body, ready, within):
         self.go(flat(body), ready, within)
@@ -419,9 +436,6 @@ class Walk:
 
 # What a comparison of two numbers says.
 COMPARED = {"eq": "(eqb {} {})", "ne": "(not (eqb {} {}))", "['lt', 'unsigned']": "(ltb {} {})", "['le', 'unsigned']": "(leb {} {})"}
-FINISH = {"mm": "finish2", "m": "finish", "s": "finishS", "ss": "finish"}
-DONE = {"mm": "Done2", "m": "Done", "s": "DoneS", "ss": "Done"}
-MEETS = {"mm": "mut2-meets", "m": "mut-meets", "s": "shr-meets", "ss": "meets"}
 
 
 def flat(body):

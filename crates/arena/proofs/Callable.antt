@@ -1,4 +1,4 @@
--- Functions of `arena` that a walk calls, each in one step: adopted-arena-step, finish-grant-step, give-back-run-step, grant-run-step, release-pending-step, release-run-step, take-run-step, armed-anew-step, first-borrowed-step, last-returned-step, next-borrowed-step, grow-step, managed-arena-step, stamp-run-of-step. Written by tools/walks.
+-- Functions of `arena` that a walk calls, each in one step: adopted-arena-step, finish-grant-step, give-back-run-step, grant-run-step, release-pending-step, release-run-step, take-run-step, armed-anew-step, first-borrowed-step, last-returned-step, next-borrowed-step, grow-step, managed-arena-step, empty-stamps-step, move-stamps-step, stamp-run-of-step. Written by tools/walks.
 -- Assumes `Given`, the callee's theorem, and that the table of calls is monotone under a frame.
 use Rattle.walks.proofs.Walking.{_≡_, refl, sym, subst, Bool, true, ℕ, _<_, _≤_, _+_, _*_, _^_, List, [], _∷_, length, w32, w64, Operand, Val, vint, vbool, Fits, toZ, URA, SProp, emp, id⊢, Memory, Routine, Heap, Env, Calls, Atoms, Given, Item, Goal, Seq, ‵, _⊛_, Opds, Fun, factI, bool, u32, u64, usize, i32, yes, Is, Ises, owns-make, Nothing, uint-makes, bool-makes, plain, sint-makes, tripleOf, Contract, Triple, Loan, lent, sliceOf, signed, Site, plain-call, mut-call}
 use Rattle.arena.proofs.Arena as T-Arena
@@ -14,6 +14,8 @@ use Rattle.arena.specs.declared.Commitment.{Commitment}
 use Rattle.arena.specs.Releasing.{tellRun, pendRun, stampRun}
 use Rattle.arena.specs.Record.{withDeadline}
 use Rattle.arena.specs.Sweeping.{disarm, borrowChunk, returnChunk}
+use Rattle.arena.specs.Stamps.{noStamps}
+use Rattle.arena.specs.Moving.{overwritten}
 use Rattle.arena.proofs.adopted_arena as adopted-arena′
 use Rattle.arena.proofs.adopted_arena.Symbol.{name as #arena·adopted-arena}
 use Rattle.arena.proofs.arena_runs.finish_grant as finish-grant′
@@ -40,8 +42,13 @@ use Rattle.arena.proofs.grow as grow′
 use Rattle.arena.proofs.grow.Symbol.{name as #arena·grow}
 use Rattle.arena.proofs.managed_arena as managed-arena′
 use Rattle.arena.proofs.managed_arena.Symbol.{name as #arena·managed-arena}
+use Rattle.arena.proofs.purge.empty_stamps as empty-stamps′
+use Rattle.arena.proofs.purge.empty_stamps.Symbol.{name as #arena·purge·empty-stamps}
+use Rattle.arena.proofs.purge.move_stamps as move-stamps′
+use Rattle.arena.proofs.purge.move_stamps.Symbol.{name as #arena·purge·move-stamps}
 use Rattle.arena.proofs.purge.stamp_run_of as stamp-run-of′
 use Rattle.arena.proofs.purge.stamp_run_of.Symbol.{name as #arena·purge·stamp-run-of}
+use Rattle.walks.proofs.ShapeMs.{ml-call}
 
 -- the contracts that a walk cites
 module _ {M : Type 1} (𝓤 : URA M) (H : Heap 𝓤) (A : Atoms 𝓤) (mem : Memory → SProp 𝓤) (run : Routine → Fun 𝓤) where
@@ -83,6 +90,12 @@ module _ {M : Type 1} (𝓤 : URA M) (H : Heap 𝓤) (A : Atoms 𝓤) (mem : Mem
 
   abbrev pub ManagedArenaSpec : Contract 𝓤
   ManagedArenaSpec = tripleOf 𝓤 H A managed-arena′.signature (managed-arena′.spec 𝓤 H A mem run)
+
+  abbrev pub EmptyStampsSpec : Contract 𝓤
+  EmptyStampsSpec = tripleOf 𝓤 H A empty-stamps′.signature (empty-stamps′.spec 𝓤 H A mem run)
+
+  abbrev pub MoveStampsSpec : Contract 𝓤
+  MoveStampsSpec = tripleOf 𝓤 H A move-stamps′.signature (move-stamps′.spec 𝓤 H A mem run)
 
   abbrev pub StampRunOfSpec : Contract 𝓤
   StampRunOfSpec = tripleOf 𝓤 H A stamp-run-of′.signature (stamp-run-of′.spec 𝓤 H A mem run)
@@ -217,6 +230,26 @@ module _ {M : Type 1} {𝓤 : URA M} {H : Heap 𝓤} {A : Atoms 𝓤} {K : Type 
       plain-call bang site T-Arena.the-row (plain (λ _. u64) ∷ plain (λ _. usize) ∷ plain (λ _. bool) ∷ plain (λ _. i32) ∷ []) (yes, (yes, (yes, (yes, tt)))) (managed-arena′.clauses 𝓤 H A mem run) known (base, (chunks, (exclusive, (toZ w32 node, tt)))) (vint w64 base ∷ [], (vint w64 chunks ∷ [], (vbool exclusive ∷ [], (vint w32 node ∷ [], tt))))
       (owns-make 𝓤 H A (u64 ∷ usize ∷ bool ∷ i32 ∷ []) (Ises (u64 ∷ usize ∷ bool ∷ i32 ∷ [])) (uint-makes 𝓤 H A W w64, (uint-makes 𝓤 H A W w64, (bool-makes 𝓤 H A W, (sint-makes 𝓤 H A W w32, tt)))) (base, (chunks, (exclusive, (toZ w32 node, tt)))) (vint w64 base ∷ [], (vint w64 chunks ∷ [], (vbool exclusive ∷ [], (vint w32 node ∷ [], tt)))) ((refl, f-base), ((refl, f-chunks), (refl, (signed f-node, tt))))) tt (factI 𝓤 _ (emp 𝓤) need)
       (λ out. out ≡ managedArena base chunks exclusive (toZ w32 node)) (λ out ws. id⊢ 𝓤 _) ops (λ val′ out rel′ eq′. then′ val′ (subst (λ (obj′ : Arena). Is T-Arena.the-row obj′ (val′ ∷ [])) eq′ rel′))
+
+  pub empty-stamps-step : K → Site K W Γ C E #arena·purge·empty-stamps xs G after → (mem : Memory → SProp 𝓤) (run : Routine → Fun 𝓤) → Triple 𝓤 (C #arena·purge·empty-stamps) (EmptyStampsSpec 𝓤 H A mem run)
+      → (L-stamps : Loan) (stamps : List ℕ) → (length stamps ≡ 32768)
+      → ((hd′ : Item 𝓤) → Opds K W (hd′ ∷ Γ) E xs (sliceOf L-stamps ∷ []))
+      → ((val′ : Val) → Is Nothing tt (val′ ∷ []) → length (noStamps) ≡ length stamps → Seq K W ((‵ (lent u32 L-stamps (noStamps)) ⊛ more) ∷ Γ) (after val′))
+      → Seq K W ((‵ (lent u32 L-stamps stamps) ⊛ more) ∷ Γ) G
+  empty-stamps-step bang site mem run known L-stamps stamps need ops then′ =
+      mut-call bang site u32 L-stamps Nothing ([]) tt (empty-stamps′.clauses 𝓤 H A mem run) known stamps (λ _. tt) (λ _. tt)
+      (λ _. id⊢ 𝓤 _) (λ _ _. tt) (λ _ _. factI 𝓤 _ (emp 𝓤) need)
+      (λ out stamps-exit. stamps-exit ≡ noStamps) (λ _ _ out ws. id⊢ 𝓤 _) (λ hd′ _. ops hd′) (λ val′ out stamps-exit rel′ eq′ l-stamps. subst (λ (lst′ : List ℕ). Seq K W ((‵ (lent u32 L-stamps lst′) ⊛ more) ∷ Γ) (after val′)) (sym eq′) (then′ val′ rel′ (subst (λ (lst′ : List ℕ). length lst′ ≡ length stamps) eq′ l-stamps)))
+
+  pub move-stamps-step : K → Site K W Γ C E #arena·purge·move-stamps xs G after → (mem : Memory → SProp 𝓤) (run : Routine → Fun 𝓤) → Triple 𝓤 (C #arena·purge·move-stamps) (MoveStampsSpec 𝓤 H A mem run)
+      → (L-stamps : Loan) (stamps : List ℕ) → (L-second : Loan) (second : List ℕ) → (k : ℕ) → k < 2 ^ 64 → (c : ℕ) → c < 2 ^ 64 → ((k + c ≤ 32) × (length stamps ≡ 32768) × (length second ≡ 32768))
+      → ((hd′ : Item 𝓤) → Opds K W (hd′ ∷ Γ) E xs (sliceOf L-stamps ∷ sliceOf L-second ∷ vint w64 k ∷ vint w64 c ∷ []))
+      → ((val′ : Val) → Is Nothing tt (val′ ∷ []) → length (overwritten stamps (1024 * k) second (1024 * c)) ≡ length stamps → Seq K W ((‵ (lent u32 L-stamps (overwritten stamps (1024 * k) second (1024 * c))) ⊛ (‵ (lent u32 L-second second) ⊛ more)) ∷ Γ) (after val′))
+      → Seq K W ((‵ (lent u32 L-stamps stamps) ⊛ (‵ (lent u32 L-second second) ⊛ more)) ∷ Γ) G
+  move-stamps-step bang site mem run known L-stamps stamps L-second second k f-k c f-c need ops then′ =
+      ml-call bang site u32 u32 L-stamps L-second Nothing (plain (λ _. usize) ∷ plain (λ _. usize) ∷ []) (yes, (yes, tt)) (move-stamps′.clauses 𝓤 H A mem run) known stamps second (λ _. (k, (c, tt))) (λ _. (vint w64 k ∷ [], (vint w64 c ∷ [], tt)))
+      (λ _. owns-make 𝓤 H A (usize ∷ usize ∷ []) (Ises (usize ∷ usize ∷ [])) (uint-makes 𝓤 H A W w64, (uint-makes 𝓤 H A W w64, tt)) (k, (c, tt)) (vint w64 k ∷ [], (vint w64 c ∷ [], tt)) ((refl, f-k), ((refl, f-c), tt))) (λ _ _ _. tt) (λ _ _ _. factI 𝓤 _ (emp 𝓤) need)
+      (λ out stamps-exit. stamps-exit ≡ overwritten stamps (1024 * k) second (1024 * c)) (λ _ _ _ out ws. id⊢ 𝓤 _) (λ hd′ _. ops hd′) (λ val′ out stamps-exit rel′ eq′ l-stamps. subst (λ (lst′ : List ℕ). Seq K W ((‵ (lent u32 L-stamps lst′) ⊛ (‵ (lent u32 L-second second) ⊛ more)) ∷ Γ) (after val′)) (sym eq′) (then′ val′ rel′ (subst (λ (lst′ : List ℕ). length lst′ ≡ length stamps) eq′ l-stamps)))
 
   pub stamp-run-of-step : K → Site K W Γ C E #arena·purge·stamp-run-of xs G after → (mem : Memory → SProp 𝓤) (run : Routine → Fun 𝓤) → Triple 𝓤 (C #arena·purge·stamp-run-of) (StampRunOfSpec 𝓤 H A mem run)
       → (L-stamps : Loan) (stamps : List ℕ) → (id : ℕ) → id < 2 ^ 64 → (s : ℕ) → s < 2 ^ 64 → (n : ℕ) → n < 2 ^ 64 → (at′ : ℕ) → at′ < 2 ^ 32 → ((id < 32) × (s + n ≤ 1024) × (length stamps ≡ 32768))

@@ -9,4 +9,5 @@ pub mod Place
 pub mod Soundness
 pub mod Rows
 pub mod Stamps
+pub mod Moving
 pub mod Maps

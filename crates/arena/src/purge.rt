@@ -5,8 +5,9 @@
 ghost use mathlib.Core.Path.{_≡_};
 ghost use Prim.Native.Nat.{_+_, _*_, _<_, _≤_};
 ghost use lib.ListN.{length};
+ghost use Rattle.arena.specs.Moving.{overwritten};
 ghost use Rattle.arena.specs.Releasing.{stampRun};
-ghost use Rattle.arena.specs.Stamps.{stampsOf};
+ghost use Rattle.arena.specs.Stamps.{stampsOf, noStamps};
 ghost use Rattle.arena.specs.Maps.{nextIn, nextDeadline};
 use bitmap::runs::Found;
 
@@ -23,6 +24,35 @@ pub fn stamp_run(stamps: &mut [u32], s: usize, n: usize, at: u32)
         stamps[i] = at;
         i = i + 1;
     }
+}
+
+// The n stamps from s on made those that another slice begins with.
+pub fn copy_run(stamps: &mut [u32], s: usize, from: &[u32], n: usize)
+    requires { ⌜ (s + n ≤ length (now stamps)) × (n ≤ length (now from)) ⌝ }
+    ensures { λ _. ⌜ now (stamps .exit) ≡ overwritten (now (stamps .entry)) s (now (from .entry)) n ⌝ }
+{
+    let mut i = 0;
+    while i < n {
+        let to = s + i;
+        stamps[to] = from[i];
+        i = i + 1;
+    }
+}
+
+// The stamps of the second table's first c arenas, written behind those of the first's k.
+pub fn move_stamps(stamps: &mut [u32], second: &[u32], k: usize, c: usize)
+    requires { ⌜ (k + c ≤ 32) × (length (now stamps) ≡ 32768) × (length (now second) ≡ 32768) ⌝ }
+    ensures { λ _. ⌜ now (stamps .exit) ≡ overwritten (now (stamps .entry)) (1024 * k) (now (second .entry)) (1024 * c) ⌝ }
+{
+    copy_run(stamps, 1024 * k, second, 1024 * c);
+}
+
+// All stamps of a table made 0.
+pub fn empty_stamps(stamps: &mut [u32])
+    requires { ⌜ length (now stamps) ≡ 32768 ⌝ }
+    ensures { λ _. ⌜ now (stamps .exit) ≡ noStamps ⌝ }
+{
+    stamp_run(stamps, 0, 32768, 0);
 }
 
 // ---- one arena's stamps, a middle part of the lent slice of all

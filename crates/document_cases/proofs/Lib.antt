@@ -2,3 +2,5 @@ pub mod Worked
 pub mod Refused
 pub mod Runs
 pub mod Example
+pub mod SwitchOver
+pub mod Joined

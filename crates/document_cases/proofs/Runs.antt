@@ -1,9 +1,17 @@
 -- Histories worked through call by call: what the rules and a layer leave is written out after each call, so that each call is computed by itself. Assumes nothing.
-use Rattle.layer.proofs.Prelude.{_≡_, refl, sym, ap, ap₂, _∙_, subst, Bool, true, false, cond, _&&_, true≢false, List, [], _++_, inl, inr, ℕ, _+_, _*_, _<_, _≤_, when, unless, World, Outcome, empty, step, Fed, Say, sayAll, Marked, History, begin, next, isSound, Layer, outcomeBy, isBroken, left, Lent, Trail, openAt, isIdle, follow, start, ruled, entries, said, goesOn, tells, Place, inRange, isNone, feeds, hears, fedBy, toldBy, waits, standing, OpensAt, Where, place, fed, told, isAnswer, declines, Premises, Keeps, bookOf, claimant, chunksOf, Demand3}
+use Rattle.layer.proofs.Prelude.{_≡_, refl, sym, ap, ap₂, _∙_, subst, Bool, true, false, cond, _&&_, true≢false, List, [], _++_, inl, inr, ℕ, _+_, _*_, _<_, _≤_, when, unless, World, Outcome, JoinOutcome, empty, step, Fed, Say, sayAll, Marked, MarkedJoin, Side, ofFirst, ofSecond, History, begin, next, joining, isSound, bothSound, Layer, outcomeBy, joinBy, isBroken, isBrokenJoin, sideOf, left, Lent, Trail, openAt, isIdle, follow, start, joinOf, leaving, followJoin, ruled, isJoined, unites, entries, said, goesOn, tells, Place, inRange, isNone, feeds, hears, fedBy, toldBy, waits, standing, OpensAt, risen, Where, place, fed, told, isAnswer, declines, Premises, Keeps, bookOf, claimant, chunksOf, Demand3}
+use Rattle.layer.specs.declared.Settings.{Settings}
 use Rattle.layer.specs.declared.Question.the-variants.{Idle}
 use Rattle.layer.specs.declared.Answer.the-variants.{Claimed}
 use Rattle.layer.specs.History.{bytesIn}
 use Rattle.layer.specs.Demand.{AllBut}
+
+-- the rules' calls, and some way to join
+abbrev pub Joining : Type 0
+Joining = World → World → ℕ → Settings → JoinOutcome
+
+abbrev pub joinsBy : Joining → Layer
+joinsBy J = record { does = step; joins = J }
 
 module _ (L : Layer) where
   -- what the layer leaves after m, where x stood
@@ -113,6 +121,56 @@ module _ (L : Layer) where
   after-broken p a h t x fs ss r m s b k =
       after-next p a h t x fs ss r m t x [] [] (λ e. absurd (true≢false (sym b ∙ e))) (unless (isSound m) _ _ s) (when (isBroken (outcomeBy L m .answer)) _ _ b) k (unless (isSound m) _ _ s)
       (ap (λ (c : Bool). cond (c && tells t (m .call)) (hears a (entries (goesOn t (m .call))) (said (outcomeBy L m .answer))) []) s)
+
+  -- ---- a join that row 1 lets pass on both sides: o is what the rules make of it, o′ what the layer does
+
+  pub record MadeJoin (t u : Trail) (m : MarkedJoin) (o o′ : JoinOutcome) : Type 0 where
+    pub sound : bothSound m ≡ true
+    pub by-rules : joinOf t u m ≡ o
+    pub by-layer : joinBy L m ≡ o′
+    pub passed : isBrokenJoin (o′ .answer) ≡ false
+
+  pub before-join : (side : Side) (h g : History) (t u : Trail) (x y : World) → Before h t x → Before g u y → (m : MarkedJoin) (o o′ : JoinOutcome) → MadeJoin t u m o o′ → m .first ≡ x → m .second ≡ y
+      → Before (joining side h g m) (sideOf side (leaving t (o .first)) (leaving u (o .second))) (sideOf side (o′ .first) (o′ .second))
+  before-join side h g t u x y b c m o o′ k first second = record {
+    ruled-is = ap₂ (λ (s q : Trail). followJoin side s q m) (b .ruled-is) (c .ruled-is)
+        ∙ when (bothSound m) _ _ (k .sound)
+        ∙ ap (λ (z : JoinOutcome). sideOf side (leaving t (z .first)) (leaving u (z .second))) (k .by-rules);
+    left-is = ap (λ (z : JoinOutcome). cond (isBrokenJoin (z .answer)) (sideOf side (left L h) (left L g)) (sideOf side (z .first) (z .second))) (k .by-layer)
+        ∙ unless (isBrokenJoin (o′ .answer)) _ _ (k .passed);
+    lent = (b .lent, c .lent, λ e. (first ∙ sym (b .left-is), second ∙ sym (c .left-is)));
+  }
+
+  -- whether the rules make one table of the two
+  unites-is : (h g : History) (t u : Trail) (x y : World) → Before h t x → Before g u y → (m : MarkedJoin) (o o′ : JoinOutcome) → MadeJoin t u m o o′ → unites (ruled h) (ruled g) m ≡ isJoined (o .answer)
+  unites-is h g t u x y b c m o o′ k =
+      ap₂ (λ (s q : Trail). unites s q m) (b .ruled-is) (c .ruled-is) ∙ ap₂ (λ (z : Bool) (r : JoinOutcome). z && isJoined (r .answer)) (k .sound) (k .by-rules)
+
+  -- an arena of the second has its new id then
+  pub after-join : (p : ℕ) (a : Place) (h g : History) (t u : Trail) (x y : World) (fs : List Fed) (ss : List Say) → Before h t x → After p a g u y fs ss → (m : MarkedJoin) (o o′ : JoinOutcome)
+      → MadeJoin t u m o o′ → m .first ≡ x → m .second ≡ y → isJoined (o .answer) ≡ true → After p (risen (standing t) a) (joining ofFirst h g m) (leaving t (o .first)) (o′ .first) fs ss
+  after-join p a h g t u x y fs ss b r m o o′ k first second e = record {
+    stands = before-join ofFirst h g t u x y b (r .stands) m o o′ k first second;
+    opens = inr (r .opens, unites-is h g t u x y b (r .stands) m o o′ k ∙ e);
+    place-is = ap₂ (λ (s : Trail) (d : Place). risen (standing s) d) (b .ruled-is) (r .place-is);
+    keeps = r .keeps;
+    fed-is = r .fed-is;
+    told-is = r .told-is;
+  }
+
+  -- an arena of the second that the rules leave there
+  pub after-refusal : (p : ℕ) (a : Place) (h g : History) (t u : Trail) (x y : World) (fs : List Fed) (ss : List Say) → Before h t x → After p a g u y fs ss → (m : MarkedJoin) (o o′ : JoinOutcome)
+      → MadeJoin t u m o o′ → m .first ≡ x → m .second ≡ y → isJoined (o .answer) ≡ false → After p a (joining ofSecond h g m) (leaving u (o .second)) (o′ .second) fs ss
+  after-refusal p a h g t u x y fs ss b r m o o′ k first second e = record {
+    stands = before-join ofSecond h g t u x y b (r .stands) m o o′ k first second;
+    opens = (r .opens, unites-is h g t u x y b (r .stands) m o o′ k ∙ e);
+    place-is = r .place-is;
+    keeps = r .keeps;
+    fed-is = r .fed-is;
+    told-is = r .told-is;
+  }
+
+  -- ---- demand 3 of it
 
   -- what the book of the arena says of what was fed is told, but for what waits
   pub by-book : (p : ℕ) (a : Place) (h : History) (t : Trail) (x : World) (fs : List Fed) (ss : List Say) → After p a h t x fs ss → Demand3 L → AllBut (waits a t) ss (sayAll (bookOf a) fs)

@@ -14,9 +14,9 @@ use Rattle.layer.specs.declared.Question.the-variants.{Idle, Committing, Purgin
 use Rattle.layer.specs.declared.Waiting.the-variants.{Reserve}
 use Rattle.layer.specs.declared.Kind.the-variants.{ForCommit, ForPurge, ForMemory}
 use Rattle.layer.specs.World.{World, blank, stateWith, worldOf, empty}
-use Rattle.layer.specs.Step.{reserve, manage, claim, release, sweep, Call, act, answer, step}
+use Rattle.layer.specs.Step.{reserve, manage, claim, release, sweep, Call, act, answer}
 use Rattle.layer.specs.Book.{lowest, Fed, claims, releases, Say, refused, granted, released, sayAll}
-use Rattle.layer.specs.History.{Marked, History, begin, next, Lent, ruled, Place, waits, Where, place, fed, told, Keeps}
+use Rattle.layer.specs.History.{Marked, History, begin, next, byRules, Lent, ruled, Place, waits, Where, place, fed, told, Keeps}
 use Rattle.layer.specs.Demand.{bookOf}
 
 -- a chunk: 33,554,432 bytes
@@ -211,9 +211,9 @@ pub record Example : Type 0 where
   -- the arena's book opens, and every premise of demand 3 is met for program 7
   pub opens : Where history
   pub place-is : place history opens ≡ arena
-  pub lent : Lent step history
+  pub lent : Lent byRules history
   pub keeps : Keeps 7 history opens
   pub fed-is : fed history opens ≡ feeding
-  pub told-is : told step history opens ≡ telling
+  pub told-is : told byRules history opens ≡ telling
   pub waits-is : waits arena (ruled history) ≡ claims lowest 1 ∷ []
   pub book-says : sayAll (bookOf arena) feeding ≡ telling ++ owing

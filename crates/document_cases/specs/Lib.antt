@@ -1,3 +1,5 @@
 pub mod Worked
 pub mod Refused
 pub mod Example
+pub mod SwitchOver
+pub mod Joined

@@ -1,11 +1,12 @@
 -- Demand 3, over every history from the empty layer, of every layer that answers and leaves what the rules say: what is told is what the book says. Assumes nothing.
-use Rattle.layer.proofs.Prelude.{_≡_, refl, sym, ap, ap₂, _∙_, subst, Bool, true, false, cond, _&&_, true≢false, List, [], _∷_, _++_, append-assoc, append-nil, inl, inr, ℕ, ne-eqb, eqb, ℤ, pos, negsuc, length, by-cond, when, unless, Arena, isOn, Question, Idle, Committing, Purging, Reserving, GivingBack, Reserve, Claim, Kind, ForCommit, ForPurge, ForMemory, ForGiveBack, ForNone, Answer, Refused, Asks, Registered, Claimed, Released, Swept, Owns, Area, Outcome, at, isFor, Act, reserve, manage, adopt, claim, release, sweep, Call, act, query, answer, stepOn, step, Book, lowest, Fed, claims, Say, enter, enterAll, sayAll, Marked, History, begin, next, isSound, Layer, outcomeBy, Lent, Trail, openAt, isIdle, follow, ruled, entriesOf, entries, said, goesOn, tells, Place, isNone, feeds, hears, fedBy, toldBy, standing, Where, place, fed, told, Premises, Keeps, bookOf, ByTheBook}
+use Rattle.layer.proofs.Prelude.{_+_, _<_, arith, and-both, World, JoinOutcome, joinedWorld, MarkedJoin, ofFirst, ofSecond, joining, bothSound, byRules, isJoined, joinOf, leaving, followJoin, unites, risen, _≡_, refl, sym, ap, ap₂, _∙_, subst, Bool, true, false, cond, _&&_, true≢false, List, [], _∷_, _++_, append-assoc, append-nil, inl, inr, ℕ, ne-eqb, eqb, ℤ, pos, negsuc, length, by-cond, when, unless, Arena, isOn, Question, Idle, Committing, Purging, Reserving, GivingBack, Reserve, Claim, Kind, ForCommit, ForPurge, ForMemory, ForGiveBack, ForNone, Answer, Refused, Asks, Registered, Claimed, Released, Swept, Owns, Area, Outcome, at, isFor, Act, reserve, manage, adopt, claim, release, sweep, Call, act, query, answer, stepOn, step, Book, lowest, Fed, claims, Say, enter, enterAll, sayAll, Marked, History, begin, next, isSound, Layer, outcomeBy, Lent, Trail, openAt, isIdle, follow, ruled, entriesOf, entries, said, goesOn, tells, Place, isNone, feeds, hears, fedBy, toldBy, standing, Where, place, fed, told, Premises, Keeps, bookOf, ByTheBook}
 use Rattle.layer.specs.History.{Entry, claimsAt, releasesAt, fedAt, bytesIn}
 use Rattle.layer.proofs.Facts.{SoundTable}
-use Rattle.layer.proofs.Shown.{View, calm, committing, purging, viewOf, waitsIn, owedIn, Role, closing, aside, ends, role, fedOf, heard, toldAs, bookAt, owedAt, Inv, Fits}
+use Rattle.layer.proofs.Shown.{View, calm, committing, purging, viewOf, waitsIn, owedIn, Mine, Role, closing, aside, ends, role, fedOf, heard, toldAs, Stays, bookIn as bookShown, bookAt, owedAt, Inv, Fits}
 use Rattle.layer.proofs.Keeps.{keeps}
 use Rattle.layer.proofs.Asked.{ServedIn, Asked}
-use Rattle.layer.proofs.Trails.{Good, onTrail, gone, follow-sound, follow-not, size-follows, good-ruled, answers-ruled}
+use Rattle.layer.proofs.Joins.{Comes, both-stay, one-table, first-kept, second-moved}
+use Rattle.layer.proofs.Trails.{Good, onTrail, gone, follow-sound, follow-not, size-follows, same-size, join-of-comes, good-ruled, answers-ruled}
 use Rattle.layer.proofs.Opened.{opening}
 
 -- ---- the book over two lists
@@ -222,22 +223,92 @@ module _ (p : ℕ) (a : Place) where
         ∙ sym (append-assoc ss rs (owed u));
   }
 
+-- ---- joins: what is told, fed and shown stays, with the id that the arena has then
+
+-- the record of a stands at i in another table, and no question is open in either
+moved : (p : ℕ) (a : Place) (i : ℕ) (fs : List Fed) (ss : List Say) (t u : Trail) → Along p a fs ss t → openAt t ≡ Idle → openAt u ≡ Idle → i < standing u
+    → at (u .world .records) i ≡ at (t .world .records) (a .id) → Along p (record { id = i; size = a .size; base = a .base; chunks = a .chunks; managed = a .managed }) fs ss u
+moved p a i fs ss t u r before now low there = record {
+  inv = record {
+    low = low;
+    stays = subst (Stays (a .base) (a .chunks)) (sym there) (r .inv .stays);
+    mine = subst (λ (q : Question). Mine p (u .asker) (viewOf i q)) (sym now) tt;
+  };
+  book = ap₂ (λ (q : Question) (x : Arena). bookShown (a .size) (viewOf i q) x) now there
+      ∙ sym (ap (λ (q : Question). bookShown (a .size) (viewOf (a .id) q) (at (t .world .records) (a .id))) before)
+      ∙ r .book;
+  says = r .says
+      ∙ ap (λ (x : List Say). ss ++ x)
+      (ap (λ (q : Question). owedIn (a .size) (viewOf (a .id) q) (at (t .world .records) (a .id))) before
+      ∙ sym (ap (λ (q : Question). owedIn (a .size) (viewOf i q) (at (u .world .records) i)) now));
+}
+
+module _ (p : ℕ) (fs : List Fed) (ss : List Say) (t u : Trail) (m : MarkedJoin) where
+  -- an arena of the first
+  first-goes-on : (a : Place) → Good t → Good u → Along p a fs ss t → Along p a fs ss (followJoin ofFirst t u m)
+  first-goes-on a g h r = go (bothSound m)
+    where
+      after : (o : JoinOutcome) → Comes (bytesIn t) (t .world) (u .world) o → Along p a fs ss (leaving t (o .first))
+      after o (both-stay e x y) = subst (λ (w : World). Along p a fs ss (leaving t w)) (sym x) r
+      after o (one-table e is) =
+          subst (λ (z : JoinOutcome). Along p a fs ss (leaving t (z .first))) (sym is)
+          (moved p a (a .id) fs ss t (leaving t (joinedWorld (t .world) (u .world))) r (e .first-idle) refl (omega (arith, r .inv .low))
+          (first-kept (bytesIn t) (t .world) (u .world) (g .world) (h .world) e (a .id) (r .inv .low)))
+
+      go : (b : Bool) → Along p a fs ss (cond b (leaving t (joinOf t u m .first)) t)
+      go true = after (joinOf t u m) (join-of-comes t u m)
+      go false = r
+
+  -- one of the second, where the two become one table
+  second-goes-over : (a : Place) → Good t → Good u → unites t u m ≡ true → Along p a fs ss u → Along p (risen (standing t) a) fs ss (followJoin ofFirst t u m)
+  second-goes-over a g h e r =
+      let both = and-both (bothSound m) (isJoined (joinOf t u m .answer)) e in
+      subst (Along p (risen (standing t) a) fs ss) (sym (when (bothSound m) _ _ (both .0))) (after (joinOf t u m) (join-of-comes t u m) (both .1))
+    where
+      after : (o : JoinOutcome) → Comes (bytesIn t) (t .world) (u .world) o → isJoined (o .answer) ≡ true → Along p (risen (standing t) a) fs ss (leaving t (o .first))
+      after o (both-stay x y z) f = absurd (true≢false (sym f ∙ x))
+      after o (one-table x is) f =
+          subst (λ (z : JoinOutcome). Along p (risen (standing t) a) fs ss (leaving t (z .first))) (sym is)
+          (moved p a (standing t + a .id) fs ss u (leaving t (joinedWorld (t .world) (u .world))) r (x .second-idle) refl (omega (arith, r .inv .low))
+          (second-moved (bytesIn t) (t .world) (u .world) (g .world) (h .world) x (a .id) (r .inv .low)))
+
+  -- one of the second, where they do not
+  second-goes-on : (a : Place) → unites t u m ≡ false → Along p a fs ss u → Along p a fs ss (followJoin ofSecond t u m)
+  second-goes-on a e r = go (bothSound m) e
+    where
+      after : (o : JoinOutcome) → Comes (bytesIn t) (t .world) (u .world) o → isJoined (o .answer) ≡ false → Along p a fs ss (leaving u (o .second))
+      after o (both-stay x y z) f = subst (λ (w : World). Along p a fs ss (leaving u w)) (sym z) r
+      after o (one-table x is) f = absurd (true≢false (sym (ap (λ (z : JoinOutcome). isJoined (z .answer)) is) ∙ f))
+
+      go : (b : Bool) → b && isJoined (joinOf t u m .answer) ≡ false → Along p a fs ss (cond b (leaving u (joinOf t u m .second)) u)
+      go true f = after (joinOf t u m) (join-of-comes t u m) f
+      go false f = r
+
 -- the size of a place is that of the rules' chunks
 pub place-size : (h : History) (w : Where h) → place h w .size ≡ bytesIn (ruled h)
 place-size begin w = absurd w
 place-size (next h m) (inl o) = sym (size-follows (ruled h) m (good-ruled h))
 place-size (next h m) (inr w) = place-size h w ∙ sym (size-follows (ruled h) m (good-ruled h))
+place-size (joining ofFirst h g m) (inl w) = place-size h w ∙ same-size (ruled (joining ofFirst h g m)) (ruled h)
+place-size (joining ofFirst h g m) (inr w) = place-size g (w .0) ∙ same-size (ruled (joining ofFirst h g m)) (ruled g)
+place-size (joining ofSecond h g m) w = place-size g (w .0) ∙ same-size (ruled (joining ofSecond h g m)) (ruled g)
 
-pub along : (p : ℕ) (h : History) (w : Where h) → Lent step h → Keeps p h w → Along p (place h w) (fed h w) (told step h w) (ruled h)
+pub along : (p : ℕ) (h : History) (w : Where h) → Lent byRules h → Keeps p h w → Along p (place h w) (fed h w) (told byRules h w) (ruled h)
 along p begin w l k = absurd w
 along p (next h m) (inl o) l k = let x = opening p (ruled h) m (good-ruled h) o in record { inv = x .inv; book = x .book; says = sym (x .owes) }
 along p (next h m) (inr w) l k =
-    go-on p (place h w) (fed h w) (fedBy (place h w) m) (told step h w) (toldBy step (place h w) (ruled h) m) (ruled h) (follow (ruled h) m) (along p h w (l .0) (k .0))
-    (one p (place h w) (ruled h) (place-size h w) m step (good-ruled h) (along p h w (l .0) (k .0) .inv) (k .1) (answers-ruled h m l))
+    go-on p (place h w) (fed h w) (fedBy (place h w) m) (told byRules h w) (toldBy byRules (place h w) (ruled h) m) (ruled h) (follow (ruled h) m) (along p h w (l .0) (k .0))
+    (one p (place h w) (ruled h) (place-size h w) m byRules (good-ruled h) (along p h w (l .0) (k .0) .inv) (k .1) (answers-ruled h m l))
+along p (joining ofFirst h g m) (inl w) l k =
+    first-goes-on p (fed h w) (told byRules h w) (ruled h) (ruled g) m (place h w) (good-ruled h) (good-ruled g) (along p h w (l .0) k)
+along p (joining ofFirst h g m) (inr w) l k =
+    second-goes-over p (fed g (w .0)) (told byRules g (w .0)) (ruled h) (ruled g) m (place g (w .0)) (good-ruled h) (good-ruled g) (w .1) (along p g (w .0) (l .1) k)
+along p (joining ofSecond h g m) w l k =
+    second-goes-on p (fed g (w .0)) (told byRules g (w .0)) (ruled h) (ruled g) m (place g (w .0)) (w .1) (along p g (w .0) (l .1) k)
 
 -- ---- BY THE BOOK
 
-pub by-the-book : ByTheBook step
+pub by-the-book : ByTheBook byRules
 by-the-book p h w l k =
     let r = along p h w l k in (
       owedAt (place h w .size) p (place h w .id) (place h w .base) (place h w .chunks) (ruled h .world .records) (openAt (ruled h)),

@@ -1,5 +1,5 @@
 -- "no other's claim is granted a chunk there"; and demand 3 as a whole. Assumes nothing.
-use Rattle.layer.proofs.Prelude.{_≡_, refl, sym, ap, ap₂, _∙_, subst, Bool, true, false, cond, not, _&&_, true≢false, List, [], _∷_, _++_, ℕ, _+_, _*_, _<_, arith, leb, ltb, eqb, pos, negsuc, when, Arena, bytesOf, endOf, isInside, never, NoSuchQuestion, Settings, Question, Idle, Committing, Purging, Reserving, GivingBack, Reserve, Claim, Kind, Answer, Refused, Claimed, World, Outcome, at, sound, isFor, answerOf, Act, reserve, manage, adopt, claim, release, sweep, Call, act, query, answer, stepOn, step, lowest, claims, Marked, isSound, Layer, isBroken, Trail, openAt, ruled, entries, goesOn, Place, inRange, isNone, feeds, fedBy, standing, place, isAnswer, claimant, chunksOf, Demand3}
+use Rattle.layer.proofs.Prelude.{byRules, join, _≡_, refl, sym, ap, ap₂, _∙_, subst, Bool, true, false, cond, not, _&&_, true≢false, List, [], _∷_, _++_, ℕ, _+_, _*_, _<_, arith, leb, ltb, eqb, pos, negsuc, when, Arena, bytesOf, endOf, isInside, never, NoSuchQuestion, Settings, Question, Idle, Committing, Purging, Reserving, GivingBack, Reserve, Claim, Kind, Answer, Refused, Claimed, World, Outcome, at, sound, isFor, answerOf, Act, reserve, manage, adopt, claim, release, sweep, Call, act, query, answer, stepOn, step, lowest, claims, Marked, isSound, Layer, isBroken, Trail, openAt, ruled, entries, goesOn, Place, inRange, isNone, feeds, fedBy, standing, place, isAnswer, claimant, chunksOf, Demand3}
 use Rattle.layer.specs.World.{sizeOf}
 use Rattle.layer.specs.History.{bytesIn}
 use Rattle.layer.specs.Demand.{OthersElsewhere, StaysSound}
@@ -11,6 +11,7 @@ use Rattle.layer.proofs.Asked.{Asked}
 use Rattle.layer.proofs.Trails.{Good, onTrail, good-ruled, row-1, left-ruled, answers-ruled}
 use Rattle.layer.proofs.Demand.{place-size, along, by-the-book}
 use Rattle.layer.proofs.Consequences.{granted-exactly, granted-lowest, alike}
+use Rattle.layer.proofs.Unjoined.{as-unjoined}
 
 -- ---- how many chunks a call is about is what the call that it goes on with asked for
 
@@ -70,7 +71,7 @@ module _ (p : ℕ) (a : Place) (t : Trail) (m : Marked) (sound-m : isSound m ≡
 
 -- ---- the statement, and the whole
 
-pub others-elsewhere : OthersElsewhere step
+pub others-elsewhere : OthersElsewhere byRules
 unfolding inRange isInside endOf bytesOf
 others-elsewhere p h m w l k other x fresh committed e y lo hi =
     let t : Trail = ruled h in
@@ -96,20 +97,22 @@ others-elsewhere p h m w l k other x fresh committed e y lo hi =
     not-false false e = absurd (true≢false e)
 
 -- what the rules leave stays sound
-pub stays-sound : StaysSound step
+pub stays-sound : StaysSound byRules
 stays-sound h l page e = ap (λ (w : World). sound (sizeOf (w .state)) w page) (left-ruled h l) ∙ sound-test (bytesIn (ruled h)) (ruled h .world) page (good-ruled h .world) e
 
 -- DEMAND 3, of the rules
-pub demand3-rules : Demand3 step
+pub demand3-rules : Demand3 byRules
 demand3-rules = record {
   by-the-book = by-the-book;
-  granted-exactly = granted-exactly step by-the-book;
-  granted-lowest = granted-lowest step by-the-book;
+  granted-exactly = granted-exactly byRules by-the-book;
+  granted-lowest = granted-lowest byRules by-the-book;
   others-elsewhere = others-elsewhere;
-  alike = alike step by-the-book;
+  alike = alike byRules by-the-book;
+  as-unjoined = as-unjoined;
   stays-sound = stays-sound;
 }
 
 -- and of every layer that answers and leaves what they say
-pub demand3 : (L : Layer) → ((w : World) (ns : ℕ) (settings : Settings) (c : Call) → L w ns settings c ≡ step w ns settings c) → Demand3 L
-demand3 L e = subst Demand3 (λ i w ns settings c. sym (e w ns settings c) i) demand3-rules
+pub demand3 : (L : Layer) → ((w : World) (ns : ℕ) (settings : Settings) (c : Call) → L .does w ns settings c ≡ step w ns settings c)
+    → ((w v : World) (ns : ℕ) (settings : Settings) → L .joins w v ns settings ≡ join w v ns settings) → Demand3 L
+demand3 L e f = subst Demand3 (λ i. record { does = λ w ns settings c. sym (e w ns settings c) i; joins = λ w v ns settings. sym (f w v ns settings) i }) demand3-rules

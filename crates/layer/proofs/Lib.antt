@@ -4,6 +4,7 @@ pub mod ChunkLaws
 pub mod Facts
 pub mod Rules
 pub mod Kept
+pub mod Joins
 pub mod Registered
 pub mod Stepped
 pub mod Shown
@@ -23,6 +24,7 @@ pub mod Opened
 pub mod Ten
 pub mod Demand
 pub mod Consequences
+pub mod Unjoined
 pub mod Questions
 pub mod Standing
 pub mod Elsewhere

@@ -124,6 +124,7 @@ pub record Opening (S p id b n : ℕ) (managed : Bool) (u : Trail) : Type 0 wher
   pub inv : Inv S p id b n (u .world .records) (u .world .state .count) (openAt u) (u .asker)
   pub book : bookAt S p id b n (u .world .records) (openAt u) ≡ opened S b n managed
   pub owes : owedAt S p id b n (u .world .records) (openAt u) ≡ []
+  pub idle : openAt u ≡ Idle
 
 module _ (p : ℕ) (t : Trail) (m : Marked) (g : Good t) (o : OpensAt t m) where
   -- the record at the end of the table
@@ -135,6 +136,7 @@ module _ (p : ℕ) (t : Trail) (m : Marked) (g : Good t) (o : OpensAt t m) where
         inv = record { low = omega arith; stays = subst (Stays (o .base) (o .chunks)) (sym there) (record { exclusive = x; base = y; chunks = z }); mine = tt };
         book = ap (bookIn (bytesIn t) calm) there ∙ shows;
         owes = refl;
+        idle = refl;
       })
     where
       there : at (withRecord (t .world .records) (standing t) a) (standing t) ≡ a

@@ -42,6 +42,7 @@ unfoldable pub use Rattle.arena.specs.Releasing.{pendRun, releaseRun, stampRun,
 pub use Rattle.arena.specs.Rows.{Rows}
 unfoldable pub use Rattle.arena.specs.Soundness.{clearPast, clearPastAll, soundArena, soundRange}
 unfoldable pub use Rattle.arena.specs.Stamps.{stampsOf}
+unfoldable pub use Rattle.arena.specs.Moving.{overwritten}
 pub use Rattle.arena.specs.Sweeping.{rearmAt}
 unfoldable pub use Rattle.arena.specs.Sweeping.{borrowChunk, disarm, nextAsked, nextWait, rearm, returnChunk, sweepDue, toAsk, unpendChunk, young}
 pub use Rattle.arena.specs.declared.Arena.{Arena}
@@ -54,8 +55,10 @@ unfoldable pub use Rattle.layer.specs.Book.{enter}
 pub use Rattle.layer.specs.Claiming.{grantFound, isNegative, searchAt}
 unfoldable pub use Rattle.layer.specs.Claiming.{asksCommit, claimOf, eligible, grantArena, grantReply, missReply, searchOf, serves}
 pub use Rattle.layer.specs.Demand.{ByTheBook, Demand3, bookOf, chunksOf, claimant}
-pub use Rattle.layer.specs.History.{History, Keeps, Layer, Lent, Marked, OpensAt, Place, Premises, Registrable, Trail, Where, begin, declines, entries, entriesOf, fed, fedBy, feeds, follow, goesOn, hears, isAnswer, isBroken, isIdle, isNone, isSound, left, next, openAt, outcomeBy, place, ruled, said, standing, start, tells, told, toldBy, waits}
+pub use Rattle.layer.specs.History.{History, Keeps, Layer, Lent, Marked, MarkedJoin, OpensAt, Place, Premises, Registrable, Side, Trail, Where, begin, bothSound, byRules, declines, entries, entriesOf, fed, fedBy, feeds, follow, followJoin, goesOn, hears, isAnswer, isBroken, isBrokenJoin, isIdle, isJoined, isNone, isSound, joinBy, joinOf, joining, leaving, left, next, ofFirst, ofSecond, openAt, outcomeBy, place, risen, ruled, said, sideOf, standing, start, tells, told, toldBy, unites, waits}
 unfoldable pub use Rattle.layer.specs.History.{inRange}
+pub use Rattle.layer.specs.Joining.{JoinOutcome, join, joinOutcome, joinedWorld}
+unfoldable pub use Rattle.layer.specs.Joining.{joinOn, joinRules, tablesOverlap}
 pub use Rattle.layer.specs.Registering.{firstWhole, pastWhole, withRecord, withStamps}
 unfoldable pub use Rattle.layer.specs.Registering.{adoptOf, askMemory, badCount, bytesAsked, chunksFor, grows, manageOf, noWholeChunk, reserveOf, reserveReply, tooLarge}
 unfoldable pub use Rattle.layer.specs.Releasing.{releaseOf}
@@ -71,6 +74,8 @@ unfoldable pub use Rattle.layer.specs.World.{empty}
 pub use Rattle.layer.specs.declared.Answer.{Answer}
 pub use Rattle.layer.specs.declared.Answer.the-variants.{Area, Asks, Claimed, Owns, Refused, Registered, Released, Swept}
 pub use Rattle.layer.specs.declared.Ask.the-variants.{AskCommit}
+pub use Rattle.layer.specs.declared.JoinAnswer.{JoinAnswer}
+pub use Rattle.layer.specs.declared.JoinAnswer.the-variants.{Joined, NotJoined}
 pub use Rattle.layer.specs.declared.Kind.{Kind}
 pub use Rattle.layer.specs.declared.Kind.the-variants.{ForCommit, ForGiveBack, ForMemory, ForNone, ForPurge}
 pub use Rattle.layer.specs.declared.Question.{Question}

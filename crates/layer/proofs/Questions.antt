@@ -1,5 +1,5 @@
 -- What each call leaves of the open question. Assumes nothing.
-use Rattle.layer.proofs.Prelude.{_≡_, refl, sym, ap, _∙_, subst, Bool, true, false, not, true≢false, List, _⊎_, inl, inr, ℕ, suc, _+_, _-_, _*_, _%_, _≤_, _^_, _<_, arith, ne-eqb, lt-leb, eqb, leb, Refusal, NoSuchQuestion, Range, MemoryRefused, by-cond, when, unless, Arena, reservedArena, Settings, Sweep, Question, Idle, Committing, Purging, Reserving, GivingBack, Waiting, Reserve, Claim, Count, Misaligned, Full, Kind, Reply, Answer, Refused, Asks, Registered, Claimed, Released, Swept, Owns, Area, World, Outcome, stateWith, worldOf, after, badRange, sound, chunksFor, tooLarge, bytesAsked, reserveReply, reserveOf, askMemory, badCount, withRecord, withStamps, isFor, counted, failReply, resume, answerPurge, answerMemory, answerTo, answerOf, Act, reserve, manage, adopt, claim, release, sweep, Call, act, query, answer, sweepOf, actOn, stepOn, step}
+use Rattle.layer.proofs.Prelude.{byRules, _≡_, refl, sym, ap, _∙_, subst, Bool, true, false, not, true≢false, List, _⊎_, inl, inr, ℕ, suc, _+_, _-_, _*_, _%_, _≤_, _^_, _<_, arith, ne-eqb, lt-leb, eqb, leb, Refusal, NoSuchQuestion, Range, MemoryRefused, by-cond, when, unless, Arena, reservedArena, Settings, Sweep, Question, Idle, Committing, Purging, Reserving, GivingBack, Waiting, Reserve, Claim, Count, Misaligned, Full, Kind, Reply, Answer, Refused, Asks, Registered, Claimed, Released, Swept, Owns, Area, World, Outcome, stateWith, worldOf, after, badRange, sound, chunksFor, tooLarge, bytesAsked, reserveReply, reserveOf, askMemory, badCount, withRecord, withStamps, isFor, counted, failReply, resume, answerPurge, answerMemory, answerTo, answerOf, Act, reserve, manage, adopt, claim, release, sweep, Call, act, query, answer, sweepOf, actOn, stepOn, step}
 use Rattle.refusals.specs.Number.{number}
 use Rattle.layer.specs.declared.Ask.{Ask}
 use Rattle.layer.specs.declared.Ask.the-variants.{AskMemory}
@@ -139,7 +139,7 @@ asks-for S l stamps k mark size n commit large exclusive page c some fits =
 
 -- ---- every call
 
-pub questions-by-rules : QuestionsByRules step
+pub questions-by-rules : QuestionsByRules byRules
 unfolding answerOf
 questions-by-rules w ns settings c e = subst (AfterCall w c) (sym (passes w ns settings c (w .state .question) e refl)) (go c)
   where
@@ -167,7 +167,7 @@ questions-by-rules w ns settings c e = subst (AfterCall w c) (sym (passes w ns s
 
 -- ---- a reserve asks
 
-pub reserves-ask : ReservesAsk step
+pub reserves-ask : ReservesAsk byRules
 reserves-ask w ns settings size n commit large exclusive e idle some lo hi fits =
     ap (λ (o : Outcome). o .answer) (passes w ns settings (act (reserve size commit large exclusive)) Idle e idle) ∙ asks
   where

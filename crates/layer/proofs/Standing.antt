@@ -1,5 +1,5 @@
 -- As many arenas stand after a call, or one more, the one that the call asked for. Assumes nothing.
-use Rattle.layer.proofs.Prelude.{_≡_, refl, sym, ap, _∙_, subst, Bool, true, false, List, _⊎_, inl, inr, ℕ, suc, _+_, _-_, _*_, _/_, _%_, _<_, _≤_, arith, ℕ-discrete, eqb, ℤ, length, set, length-set, eqb-true, Refusal, MemoryRefused, and-both, Arena, isOn, newArena, reservedArena, managedArena, adoptedArena, takeRun, dirtyRun, flag-read, Settings, Question, Idle, Committing, Purging, Reserving, GivingBack, Waiting, Reserve, Claim, Kind, Outcome, after, at, soundLent, askMemory, withRecord, withStamps, firstWhole, pastWhole, isFor, causeRefusal, counted, failReply, resume, answerTo, answerOf, Act, reserve, manage, adopt, claim, release, sweep, Call, act, query, answer, sweepOf, actOn, stepOn, step}
+use Rattle.layer.proofs.Prelude.{byRules, _≡_, refl, sym, ap, _∙_, subst, Bool, true, false, List, _⊎_, inl, inr, ℕ, suc, _+_, _-_, _*_, _/_, _%_, _<_, _≤_, arith, ℕ-discrete, eqb, ℤ, length, set, length-set, eqb-true, Refusal, MemoryRefused, and-both, Arena, isOn, newArena, reservedArena, managedArena, adoptedArena, takeRun, dirtyRun, flag-read, Settings, Question, Idle, Committing, Purging, Reserving, GivingBack, Waiting, Reserve, Claim, Kind, Outcome, after, at, soundLent, askMemory, withRecord, withStamps, firstWhole, pastWhole, isFor, causeRefusal, counted, failReply, resume, answerTo, answerOf, Act, reserve, manage, adopt, claim, release, sweep, Call, act, query, answer, sweepOf, actOn, stepOn, step}
 use Rattle.layer.specs.World.{sizeOf}
 use Rattle.layer.specs.Standing.{Brought, AskedFor, NoneUnasked}
 use Rattle.layer.proofs.Tools.{at-same, at-other, by-not}
@@ -129,7 +129,7 @@ module _ (S : ℕ) (some-size : 0 < S) (l : List Arena) (stamps : List ℕ) (k :
   call-stands q ns settings (query c) = inl refl
   call-stands q ns settings (answer kind accepted base) = answer-stands q kind accepted base
 
-pub none-unasked : NoneUnasked step
+pub none-unasked : NoneUnasked byRules
 unfolding soundLent
 none-unasked w ns settings c e =
     subst (λ (o : Outcome). Stands S some-size (w .records) (w .stamps) (w .state .count) (w .state .mark) long (AskedFor S (w .state .question) c) o) (sym (passes w ns settings c (w .state .question) e refl))

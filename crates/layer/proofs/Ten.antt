@@ -1,5 +1,5 @@
 -- Refusal 10 comes exactly where no eligible arena has the run: of a claim, and of one that goes on once its memory came. Assumes nothing.
-use Rattle.layer.proofs.Prelude.{_≡_, refl, sym, ap, ap₂, _∙_, subst, Bool, true, not, _&&_, true≢false, List, _↔_, ℕ, suc, _%_, _*_, arith, eq-eqb, ne-eqb, not-true, lt-leb, eqb, leb, ℤ, pos, negsuc, bitAt, unless, Found, At, Nothing, Starts, Lowest, lowest-says, arenaAllowed, Arena, reservedArena, free, findRun, NoRun, Settings, Idle, Reserving, Claim, ForMemory, Reply, Outcome, turnDown, calm, at, isAt, badRange, askMemory, badCount, withRecord, withStamps, eligible, serves, missReply, searchOf, claimOf, isFor, answerMemory, answerOf, claim, act, answer, step, Eligible, TenExactly}
+use Rattle.layer.proofs.Prelude.{byRules, _≡_, refl, sym, ap, ap₂, _∙_, subst, Bool, true, not, _&&_, true≢false, List, _↔_, ℕ, suc, _%_, _*_, arith, eq-eqb, ne-eqb, not-true, lt-leb, eqb, leb, ℤ, pos, negsuc, bitAt, unless, Found, At, Nothing, Starts, Lowest, lowest-says, arenaAllowed, Arena, reservedArena, free, findRun, NoRun, Settings, Idle, Reserving, Claim, ForMemory, Reply, Outcome, turnDown, calm, at, isAt, badRange, askMemory, badCount, withRecord, withStamps, eligible, serves, missReply, searchOf, claimOf, isFor, answerMemory, answerOf, claim, act, answer, step, Eligible, TenExactly}
 use Rattle.layer.specs.World.{sizeOf}
 use Rattle.layer.specs.Ten.{ClearFrom, NoneHas, IsMiss, TenAfterMemory}
 use Rattle.layer.proofs.Rules.{served-eligible, served-found}
@@ -57,7 +57,7 @@ missed-is : (S : ℕ) (l : List Arena) (stamps : List ℕ) (k : ℕ) (mark : Boo
 unfolding askMemory
 missed-is S l stamps k mark id n commits settings = miss-cases S l stamps k mark (λ (o : Outcome). IsMiss (o .answer)) id n commits settings refl refl tt
 
-pub ten-exactly : TenExactly step
+pub ten-exactly : TenExactly byRules
 ten-exactly w ns settings id n commits e idle some allowed =
     subst (λ (o : Outcome). IsMiss (o .answer) ↔ NoneHas id n (w .records) (w .state .count))
     (sym (passes w ns settings (act (claim id n commits)) Idle e idle ∙ searches))
@@ -71,7 +71,7 @@ ten-exactly w ns settings id n commits e idle some allowed =
         ≡ searchOf S (w .records) (w .stamps) (w .state .count) (w .state .mark) id n commits (missReply S (w .state .count) (w .state .mark) id n commits settings)
     searches = unfold claimOf in unless (eqb n 0) _ _ (ne-eqb n 0 (λ z. omega (arith, some))) ∙ unless (not (arenaAllowed (settings .off) id)) _ _ (ap not allowed)
 
-pub ten-after-memory : TenAfterMemory step
+pub ten-after-memory : TenAfterMemory byRules
 ten-after-memory w ns settings chunks bytes n base commit exclusive commits e open-is r =
     subst (λ (o : Outcome). IsMiss (o .answer) ↔ NoneHas (negsuc 0) n l (suc k))
     (sym (passes w ns settings (answer ForMemory true base) (Reserving chunks bytes commit exclusive (Claim n commits)) e open-is ∙ goes-on))

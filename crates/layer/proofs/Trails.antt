@@ -1,5 +1,5 @@
 -- The rules' own run of a history: its table stays sound and its open question is of the call that put it; and the rules, lent as they left it, go that way. Assumes nothing.
-use Rattle.layer.proofs.Prelude.{_≡_, refl, sym, ap, _∙_, subst, Bool, true, false, cond, not, ℕ, arith, eqb, length, length-replicate, when, unless, and-both, pageSizeSound, World, Outcome, empty, soundLent, stepOn, step, Marked, History, begin, next, isSound, outcomeBy, isBroken, left, Lent, Trail, openAt, isIdle, follow, start, ruled}
+use Rattle.layer.proofs.Prelude.{_≡_, refl, sym, ap, ap₂, _∙_, subst, Bool, true, false, cond, not, ℕ, arith, eqb, length, length-replicate, when, unless, and-both, pageSizeSound, World, Outcome, empty, soundLent, stepOn, step, JoinOutcome, join, joinOutcome, joinedWorld, Joined, Marked, MarkedJoin, Side, ofFirst, ofSecond, History, begin, next, joining, isSound, bothSound, byRules, outcomeBy, joinBy, isBroken, isBrokenJoin, sideOf, left, Lent, Trail, openAt, isIdle, follow, followJoin, joinOf, leaving, start, ruled}
 use Rattle.layer.specs.World.{sizeOf}
 use Rattle.layer.specs.History.{bytesIn}
 use Rattle.layer.proofs.ChunkLaws.{size-fits}
@@ -8,6 +8,7 @@ use Rattle.layer.proofs.Stepped.{step-on-kept, sound-test}
 use Rattle.layer.proofs.Outcomes.{refused-1}
 use Rattle.layer.proofs.Asked.{Asked, step-asked}
 use Rattle.layer.proofs.Calls.{past-1}
+use Rattle.layer.proofs.Joins.{Unites, Comes, both-stay, one-table, join-comes, broken-join, one-table-sound}
 
 -- facts that hold of the rules' own tables alone, and not of every sound one; none so far
 abbrev pub Own : World → Type 0
@@ -65,9 +66,10 @@ module _ (t : Trail) (m : Marked) where
       go true e = ap bytesIn (follow-sound g e) ∙ size-stays
       go false e = ap bytesIn (follow-not e)
 
-good-start : Good start
+-- where nothing stands
+good-empty : (t : Trail) → Good (leaving t empty)
 unfolding empty
-good-start = record {
+good-empty t = record {
   world = record {
     table = record { long = refl; few = omega arith; rows = λ i h. absurd (omega arith); each = λ i h. absurd (omega arith); apart = λ i j h g. absurd (omega arith) };
     stamps = length-replicate {A = ℕ} 32768 0;
@@ -77,31 +79,81 @@ good-start = record {
   own = tt;
 }
 
+-- ---- a join
+
+-- the size of a chunk is that of both
+pub same-size : (t u : Trail) → bytesIn u ≡ bytesIn t
+same-size t u = refl
+
+module _ (t u : Trail) (m : MarkedJoin) where
+  pub join-of-comes : Comes (bytesIn t) (t .world) (u .world) (joinOf t u m)
+  join-of-comes = join-comes (bytesIn t) (t .world) (u .world) (m .settings)
+
+  good-join : (side : Side) → Good t → Good u → Good (followJoin side t u m)
+  good-join side g h = go (bothSound m) side
+    where
+      -- what is left on a side
+      after : (o : JoinOutcome) → Comes (bytesIn t) (t .world) (u .world) o → (side : Side) → Good (sideOf side (leaving t (o .first)) (leaving u (o .second)))
+      after o (both-stay a x y) ofFirst = subst (λ (w : World). Good (leaving t w)) (sym x) g
+      after o (both-stay a x y) ofSecond = subst (λ (w : World). Good (leaving u w)) (sym y) h
+      after o (one-table a is) ofFirst =
+          subst (λ (z : JoinOutcome). Good (leaving t (z .first))) (sym is)
+          (record { world = one-table-sound (bytesIn t) (t .world) (u .world) (g .world) (subst (λ (S : ℕ). SoundWorld S (u .world)) (same-size t u) (h .world)) a; asked = tt; own = tt })
+      after o (one-table a is) ofSecond = subst (λ (z : JoinOutcome). Good (leaving u (z .second))) (sym is) (good-empty u)
+
+      go : (b : Bool) (side : Side) → Good (cond b (sideOf side (leaving t (joinOf t u m .first)) (leaving u (joinOf t u m .second))) (sideOf side t u))
+      go true side = after (joinOf t u m) join-of-comes side
+      go false ofFirst = g
+      go false ofSecond = h
+
 pub good-ruled : (h : History) → Good (ruled h)
-good-ruled begin = good-start
+good-ruled begin = good-empty start
 good-ruled (next h m) = good-follow (ruled h) m (good-ruled h)
+good-ruled (joining side h g m) = good-join (ruled h) (ruled g) m side (good-ruled h) (good-ruled g)
 
 -- ---- the rules as the layer
 
 -- "1" exactly if row 1 does not let it pass
-pub row-1 : (m : Marked) → isBroken (outcomeBy step m .answer) ≡ not (isSound m)
+pub row-1 : (m : Marked) → isBroken (outcomeBy byRules m .answer) ≡ not (isSound m)
 row-1 m = refused-1 (sizeOf (m .lent .state)) (m .lent) (m .ns) (m .settings) (m .call)
 
+row-1-join : (m : MarkedJoin) → isBrokenJoin (joinBy byRules m .answer) ≡ not (bothSound m)
+row-1-join m = broken-join (sizeOf (m .first .state)) (m .first) (m .second) (m .settings)
+
 -- lent as the order says, they leave what their own run leaves
-pub left-ruled : (h : History) → Lent step h → left step h ≡ ruled h .world
+pub left-ruled : (h : History) → Lent byRules h → left byRules h ≡ ruled h .world
 left-ruled begin k = refl
 left-ruled (next h m) k = go (isSound m) refl (left-ruled h (k .0))
   where
-    go : (b : Bool) → isSound m ≡ b → left step h ≡ ruled h .world → left step (next h m) ≡ follow (ruled h) m .world
+    go : (b : Bool) → isSound m ≡ b → left byRules h ≡ ruled h .world → left byRules (next h m) ≡ follow (ruled h) m .world
     go true e before =
-        let not-1 : isBroken (outcomeBy step m .answer) ≡ false = row-1 m ∙ ap not e in
-        unless (isBroken (outcomeBy step m .answer)) _ _ not-1
+        let not-1 : isBroken (outcomeBy byRules m .answer) ≡ false = row-1 m ∙ ap not e in
+        unless (isBroken (outcomeBy byRules m .answer)) _ _ not-1
         ∙ ap (λ (w : World). step w (m .ns) (m .settings) (m .call) .world) (k .1 not-1 ∙ before)
         ∙ sym (ap (λ (t : Trail). t .world) (when (isSound m) _ _ e))
     go false e before =
-        when (isBroken (outcomeBy step m .answer)) _ _ (row-1 m ∙ ap not e) ∙ before ∙ sym (ap (λ (t : Trail). t .world) (unless (isSound m) _ _ e))
+        when (isBroken (outcomeBy byRules m .answer)) _ _ (row-1 m ∙ ap not e) ∙ before ∙ sym (ap (λ (t : Trail). t .world) (unless (isSound m) _ _ e))
+left-ruled (joining side h g m) k = go (bothSound m) refl side (left-ruled h (k .0)) (left-ruled g (k .1))
+  where
+    go : (b : Bool) → bothSound m ≡ b → (side : Side) → left byRules h ≡ ruled h .world → left byRules g ≡ ruled g .world → left byRules (joining side h g m) ≡ followJoin side (ruled h) (ruled g) m .world
+    go true e side x y =
+        let not-1 : isBrokenJoin (joinBy byRules m .answer) ≡ false = row-1-join m ∙ ap not e in
+        let lent = k .2 not-1 in
+        let same : joinBy byRules m ≡ joinOf (ruled h) (ruled g) m = ap₂ (λ (w v : World). join w v (m .ns) (m .settings)) (lent .0 ∙ x) (lent .1 ∙ y) in
+        unless (isBrokenJoin (joinBy byRules m .answer)) _ _ not-1
+        ∙ ap (λ (o : JoinOutcome). sideOf side (o .first) (o .second)) same
+        ∙ of-side side
+        ∙ sym (ap (λ (t : Trail). t .world) (when (bothSound m) _ _ e))
+      where
+        of-side : (side : Side) → sideOf side (joinOf (ruled h) (ruled g) m .first) (joinOf (ruled h) (ruled g) m .second) ≡ sideOf side (leaving (ruled h) (joinOf (ruled h) (ruled g) m .first)) (leaving (ruled g) (joinOf (ruled h) (ruled g) m .second)) .world
+        of-side ofFirst = refl
+        of-side ofSecond = refl
+    go false e ofFirst x y =
+        when (isBrokenJoin (joinBy byRules m .answer)) _ _ (row-1-join m ∙ ap not e) ∙ x ∙ sym (ap (λ (t : Trail). t .world) (unless (bothSound m) _ _ e))
+    go false e ofSecond x y =
+        when (isBrokenJoin (joinBy byRules m .answer)) _ _ (row-1-join m ∙ ap not e) ∙ y ∙ sym (ap (λ (t : Trail). t .world) (unless (bothSound m) _ _ e))
 
 -- what they answer is what their own run answers
-pub answers-ruled : (h : History) (m : Marked) → Lent step (next h m) → isSound m ≡ true → outcomeBy step m ≡ onTrail (ruled h) m
+pub answers-ruled : (h : History) (m : Marked) → Lent byRules (next h m) → isSound m ≡ true → outcomeBy byRules m ≡ onTrail (ruled h) m
 answers-ruled h m k e =
     ap (λ (w : World). step w (m .ns) (m .settings) (m .call)) (k .1 (row-1 m ∙ ap not e) ∙ left-ruled h (k .0)) ∙ on-rules (ruled h) m (good-ruled h) e

@@ -1,5 +1,6 @@
 -- Demand 3, of any layer; proofs/ proves it of every layer that answers and leaves what the rules say. Each statement is about every history from the empty
--- layer, lent as the order says, and every exclusive arena whose book opened in it and whose program keeps the premises. Assumes nothing.
+-- layer, with any nesting of joins in it, lent as the order says, and every exclusive arena whose book opened in it, in this table or in one that was joined
+-- to it, and whose program keeps the premises. Assumes nothing.
 use mathlib.Core.Path.{_≡_}
 use mathlib.Core.Bool.{Bool, true, false, cond, not, _&&_, _||_}
 use mathlib.Core.List.{List, [], _∷_, _++_}
@@ -15,7 +16,7 @@ use Rattle.layer.specs.World.{sizeOf}
 use Rattle.layer.specs.Table.{sound}
 use Rattle.layer.specs.Step.{reserve, manage, adopt, claim, release, sweep, Call, act, query, answer}
 use Rattle.layer.specs.Book.{Book, lowest, Fed, claims, releases, Say, refused, granted, released, opened, sayAll}
-use Rattle.layer.specs.History.{Marked, History, next, Layer, outcomeBy, left, Lent, Trail, ruled, goesOn, Place, inRange, waits, Where, place, fed, told, isAnswer, Keeps}
+use Rattle.layer.specs.History.{Marked, History, begin, next, joining, Layer, outcomeBy, left, Lent, Trail, ruled, goesOn, Place, inRange, waits, Where, place, fed, told, isAnswer, Keeps}
 
 -- the book as it is opened
 abbrev pub bookOf : Place → Book
@@ -109,6 +110,28 @@ Alike L =
     → bookOf (place h w) ≡ bookOf (place h′ w′) → fed h w ≡ fed h′ w′
     → Begins (told L h w) (told L h′ w′) ⊎ Begins (told L h′ w′) (told L h w)
 
+-- no join in it
+abbrev pub isUnjoined : History → Bool
+isUnjoined begin = true
+isUnjoined (next h m) = isUnjoined h
+isUnjoined (joining side h g m) = false
+
+-- a history without joins in which the arena is registered alike and its program makes the same calls there
+pub record Unjoined (L : Layer) (p : ℕ) (a : Place) (fs : List Fed) (ss : List Say) : Type 0 where
+  pub history : History
+  pub none-joined : isUnjoined history ≡ true
+  pub arena : Where history
+  pub lent : Lent L history
+  pub keeps : Keeps p history arena
+  pub same-book : bookOf (place history arena) ≡ bookOf a
+  pub same-fed : fed history arena ≡ fs
+  pub same-told : Begins ss (told L history arena)
+
+-- "a program's calls in its exclusive arena get the addresses and fresh marks they would have got unjoined": there is such a history, and it is told the same there.
+-- By `Alike` so it is in every one.
+abbrev pub AsUnjoined : Layer → Type 0
+AsUnjoined L = (p : ℕ) (h : History) (w : Where h) → Lent L h → Keeps p h w → Unjoined L p (place h w) (fed h w) (told L h w)
+
 -- What a layer leaves, row 1 lets pass at every sound page size: its programs can make their calls "with sound tables and settings". A layer that broke its own
 -- table would make the statements above hold of nothing.
 abbrev pub StaysSound : Layer → Type 0
@@ -121,4 +144,5 @@ pub record Demand3 (L : Layer) : Type 0 where
   pub granted-lowest : GrantedLowest L
   pub others-elsewhere : OthersElsewhere L
   pub alike : Alike L
+  pub as-unjoined : AsUnjoined L
   pub stays-sound : StaysSound L

@@ -1,5 +1,5 @@
--- Histories: calls, each marked with its program and with what it is lent, from the empty layer; any layer's run of one, and the rules' own; what the share
--- book of an exclusive arena is fed and its program is told; and the premises of demand 3. What is open, who asked for what and what is registered are read
+-- Histories: calls, each marked with its program and with what it is lent, from the empty layer, and joins of two histories; any layer's run of one, and the
+-- rules' own; what the share book of an exclusive arena is fed and its program is told; and the premises of demand 3. What is open, who asked for what and what is registered are read
 -- off the rules' own run: "a question is open from where the rules above put it until they close it, whatever a layer says". Assumes nothing.
 use mathlib.Core.Path.{_≡_}
 use mathlib.Core.Bool.{Bool, true, false, cond, not, _&&_}
@@ -15,11 +15,14 @@ use Rattle.layer.specs.declared.Question.the-variants.{Idle}
 use Rattle.layer.specs.declared.Kind.the-variants.{ForCommit, ForMemory}
 use Rattle.layer.specs.declared.Answer.{Answer}
 use Rattle.layer.specs.declared.Answer.the-variants.{Refused, Asks, Registered, Claimed, Released, Swept, Owns, Area}
+use Rattle.layer.specs.declared.JoinAnswer.{JoinAnswer}
+use Rattle.layer.specs.declared.JoinAnswer.the-variants.{NotJoined, Joined}
 use Rattle.layer.specs.World.{World, Outcome, sizeOf, empty}
 use Rattle.layer.specs.Table.{at, sound}
 use Rattle.layer.specs.Answering.{isFor}
 pub use Rattle.layer.specs.Answering.{isIdle}
 use Rattle.layer.specs.Step.{Act, reserve, manage, adopt, claim, release, sweep, owns, Call, act, query, answer, step}
+use Rattle.layer.specs.Joining.{JoinOutcome, join}
 use Rattle.layer.specs.Book.{How, lowest, Fed, claims, releases, Say, refused, granted, released}
 
 -- ---- histories
@@ -32,23 +35,48 @@ pub record Marked : Type 0 where
   pub settings : Settings
   pub call : Call
 
--- "For every sequence of calls [..], refused ones included, from an empty layer"
+-- a join, and what it carries and is lent of the two tables
+pub record MarkedJoin : Type 0 where
+  pub first : World
+  pub second : World
+  pub ns : ℕ
+  pub settings : Settings
+
+-- which of its two tables
+pub data Side : Type 0 where
+  ofFirst : Side
+  ofSecond : Side
+
+-- The past of one table. "For every sequence of calls [..], refused ones included, from an empty layer"; and a join is of two tables, each with a past of its own:
+-- what comes then of the first, and of the second, which "is left empty, a new call sequence beginning there".
 pub data History : Type 0 where
   begin : History
   next : History → Marked → History
+  joining : Side → History → History → MarkedJoin → History
 
 -- "Sound is what row 1 lets pass."
 abbrev pub isSound : Marked → Bool
 isSound m = sound (sizeOf (m .lent .state)) (m .lent) (m .settings .page)
 
+abbrev pub bothSound : MarkedJoin → Bool
+bothSound m = sound (sizeOf (m .first .state)) (m .first) (m .settings .page) && sound (sizeOf (m .second .state)) (m .second) (m .settings .page)
+
 -- ---- a layer's run
 
--- what a layer does with a call; the rules are `step`
-abbrev pub Layer : Type 0
-Layer = World → ℕ → Settings → Call → Outcome
+-- what a layer does with a call, and with a join of two tables
+pub record Layer : Type 0 where
+  pub does : World → ℕ → Settings → Call → Outcome
+  pub joins : World → World → ℕ → Settings → JoinOutcome
+
+-- THE RULES as a layer
+abbrev pub byRules : Layer
+byRules = record { does = step; joins = join }
 
 abbrev pub outcomeBy : Layer → Marked → Outcome
-outcomeBy L m = L (m .lent) (m .ns) (m .settings) (m .call)
+outcomeBy L m = L .does (m .lent) (m .ns) (m .settings) (m .call)
+
+abbrev pub joinBy : Layer → MarkedJoin → JoinOutcome
+joinBy L m = L .joins (m .first) (m .second) (m .ns) (m .settings)
 
 -- refused with 1
 abbrev pub isBroken : Answer → Bool
@@ -61,15 +89,26 @@ isBroken (Swept count) = false
 isBroken (Owns whether) = false
 isBroken (Area base bytes) = false
 
+abbrev pub isBrokenJoin : JoinAnswer → Bool
+isBrokenJoin (NotJoined why) = eqb (number why) 1
+isBrokenJoin (Joined rise) = false
+
+-- of a side
+abbrev pub sideOf : {A : Type 0} → Side → A → A → A
+sideOf ofFirst x y = x
+sideOf ofSecond x y = y
+
 -- what the last call that it did not refuse with 1 left
 abbrev pub left : Layer → History → World
 left L begin = empty
 left L (next h m) = cond (isBroken (outcomeBy L m .answer)) (left L h) (outcomeBy L m .world)
+left L (joining side h g m) = cond (isBrokenJoin (joinBy L m .answer)) (sideOf side (left L h) (left L g)) (sideOf side (joinBy L m .first) (joinBy L m .second))
 
 -- "each call not refused with 1 being lent the records, stamps and state as the last such call left them"
 abbrev pub Lent : Layer → History → Type 0
 Lent L begin = Unit {0}
 Lent L (next h m) = Lent L h × (isBroken (outcomeBy L m .answer) ≡ false → m .lent ≡ left L h)
+Lent L (joining side h g m) = Lent L h × Lent L g × (isBrokenJoin (joinBy L m .answer) ≡ false → (m .first ≡ left L h) × (m .second ≡ left L g))
 
 -- ---- the rules' own run
 
@@ -98,9 +137,29 @@ follow t m =
 abbrev pub start : Trail
 start = record { world = empty; asker = 0; asked = query (owns 0) }
 
+-- the rules' join of what they left of two tables
+abbrev pub joinOf : Trail → Trail → MarkedJoin → JoinOutcome
+joinOf t u m = join (t .world) (u .world) (m .ns) (m .settings)
+
+-- whoever asked is remembered: a join that leaves a question open has left both tables
+abbrev pub leaving : Trail → World → Trail
+leaving t w = record { world = w; asker = t .asker; asked = t .asked }
+
+abbrev pub followJoin : Side → Trail → Trail → MarkedJoin → Trail
+followJoin side t u m = cond (bothSound m) (sideOf side (leaving t (joinOf t u m .first)) (leaving u (joinOf t u m .second))) (sideOf side t u)
+
 abbrev pub ruled : History → Trail
 ruled begin = start
 ruled (next h m) = follow (ruled h) m
+ruled (joining side h g m) = followJoin side (ruled h) (ruled g) m
+
+-- the rules make one table of the two
+abbrev pub isJoined : JoinAnswer → Bool
+isJoined (Joined rise) = true
+isJoined (NotJoined why) = false
+
+abbrev pub unites : Trail → Trail → MarkedJoin → Bool
+unites t u m = bothSound m && isJoined (joinOf t u m .answer)
 
 -- ---- what a call says of arenas, and what it is told
 
@@ -253,28 +312,44 @@ pub record OpensAt (t : Trail) (m : Marked) : Type 0 where
   pub registrable : Registrable (t .world) base chunks
   pub registers : Registers t m base chunks managed
 
--- the books that stand after a history: each where it was opened
+-- the books that stand after a history: each where it was opened. The second's go over to the first where the two become one table; else each table keeps its own.
 abbrev pub Where : History → Type 0
 Where begin = ⊥
 Where (next h m) = OpensAt (ruled h) m ⊎ Where h
+Where (joining ofFirst h g m) = Where h ⊎ (Where g × (unites (ruled h) (ruled g) m ≡ true))
+Where (joining ofSecond h g m) = Where g × (unites (ruled h) (ruled g) m ≡ false)
+
+-- "its share book going on at the arena's new id": "the second's rise by the first's arena count"
+abbrev pub risen : ℕ → Place → Place
+risen k a = record { id = k + a .id; size = a .size; base = a .base; chunks = a .chunks; managed = a .managed }
 
 -- its arena, with the id that it has there
 abbrev pub place : (h : History) → Where h → Place
 place begin w = absurd w
 place (next h m) (inl o) = record { id = standing (ruled h); size = bytesIn (ruled h); base = o .base; chunks = o .chunks; managed = o .managed }
 place (next h m) (inr w) = place h w
+place (joining ofFirst h g m) (inl w) = place h w
+place (joining ofFirst h g m) (inr w) = risen (standing (ruled h)) (place g (w .0))
+place (joining ofSecond h g m) w = place g (w .0)
 
--- ---- along the arena's life: what its book is fed, what its program is told, and the premises
+-- ---- along the arena's life: what its book is fed, what its program is told, and the premises. A join feeds nothing and tells nothing, whoever makes it and
+-- whatever it answers; what was called on the other table before it is nothing to the arena.
 
 abbrev pub fed : (h : History) → Where h → List Fed
 fed begin w = absurd w
 fed (next h m) (inl o) = []
 fed (next h m) (inr w) = fed h w ++ fedBy (place h w) m
+fed (joining ofFirst h g m) (inl w) = fed h w
+fed (joining ofFirst h g m) (inr w) = fed g (w .0)
+fed (joining ofSecond h g m) w = fed g (w .0)
 
 abbrev pub told : Layer → (h : History) → Where h → List Say
 told L begin w = absurd w
 told L (next h m) (inl o) = []
 told L (next h m) (inr w) = told L h w ++ toldBy L (place h w) (ruled h) m
+told L (joining ofFirst h g m) (inl w) = told L h w
+told L (joining ofFirst h g m) (inr w) = told L g (w .0)
+told L (joining ofSecond h g m) w = told L g (w .0)
 
 abbrev pub isAnswer : Call → Bool
 isAnswer (act a) = false
@@ -302,3 +377,6 @@ abbrev pub Keeps : ℕ → (h : History) → Where h → Type 0
 Keeps p begin w = absurd w
 Keeps p (next h m) (inl o) = Unit {0}
 Keeps p (next h m) (inr w) = Keeps p h w × Premises p (place h w) (ruled h) m
+Keeps p (joining ofFirst h g m) (inl w) = Keeps p h w
+Keeps p (joining ofFirst h g m) (inr w) = Keeps p g (w .0)
+Keeps p (joining ofSecond h g m) w = Keeps p g (w .0)

@@ -7,6 +7,7 @@ pub mod Releasing
 pub mod Sweeping
 pub mod Answering
 pub mod Step
+pub mod Joining
 pub mod Book
 pub mod History
 pub mod Demand

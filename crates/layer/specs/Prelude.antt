@@ -7,7 +7,7 @@ pub use lib.Dec.{eqb, leb, ltb}
 pub use lib.IntN.{ℤ, pos, negsuc}
 pub use lib.ListN.{length, getD, set, replicate}
 pub use Rattle.refusals.specs.declared.Refusal.{Refusal}
-pub use Rattle.refusals.specs.declared.Refusal.the-variants.{Broken, QuestionOpen, NoSuchQuestion, Zero, ArenasOff, Range, NotWhole, NotInside, PastEnd, NoRun, CommitRefused, ChunkCount, TableFull, MemoryRefused, NoWholeChunk, HostRefused}
+pub use Rattle.refusals.specs.declared.Refusal.the-variants.{Broken, QuestionOpen, NoSuchQuestion, Zero, ArenasOff, Range, NotWhole, NotInside, PastEnd, NoRun, CommitRefused, ChunkCount, TableFull, MemoryRefused, NoWholeChunk, HostRefused, TablesOverlap, TooManyArenas}
 pub use Rattle.clock.specs.Clock.{nowMs, delayMs}
 pub use Rattle.options.specs.Options.{pageSizeSound, arenaAllowed}
 pub use Rattle.bitmap.specs.Bits.{bitAt}
@@ -22,6 +22,7 @@ pub use Rattle.arena.specs.Claiming.{findRun, runCommitted, runFresh, takeRun, 
 pub use Rattle.arena.specs.Releasing.{releaseRun, stampRun}
 pub use Rattle.arena.specs.Sweeping.{sweepDue, disarm, nextAsked, borrowChunk, returnChunk, rearm}
 pub use Rattle.arena.specs.Stamps.{stampsOf}
+pub use Rattle.arena.specs.Moving.{overwritten}
 pub use Rattle.arena.specs.Place.{bytesOf, endOf, isInside}
 pub use Rattle.arena.specs.Soundness.{soundArena}
 pub use Rattle.layer.specs.declared.State.{State}
@@ -39,3 +40,6 @@ pub use Rattle.layer.specs.declared.Ask.the-variants.{AskCommit, AskPurg
 pub use Rattle.layer.specs.declared.Answer.{Answer}
 pub use Rattle.layer.specs.declared.Answer.the-variants.{Refused, Asks, Registered, Claimed, Released, Swept, Owns, Area}
 pub use Rattle.layer.specs.declared.Reply.{Reply}
+pub use Rattle.layer.specs.declared.JoinAnswer.{JoinAnswer}
+pub use Rattle.layer.specs.declared.JoinAnswer.the-variants.{NotJoined, Joined}
+pub use Rattle.layer.specs.declared.JoinReply.{JoinReply}

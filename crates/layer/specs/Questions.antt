@@ -62,11 +62,11 @@ AfterCall w (answer kind accepted base) o =
 -- of every call on every lent world that row 1 lets pass
 abbrev pub QuestionsByRules : Layer → Type 0
 QuestionsByRules L =
-    (w : World) (ns : ℕ) (settings : Settings) (c : Call) → sound (sizeOf (w .state)) w (settings .page) ≡ true → AfterCall w c (L w ns settings c)
+    (w : World) (ns : ℕ) (settings : Settings) (c : Call) → sound (sizeOf (w .state)) w (settings .page) ≡ true → AfterCall w c (L .does w ns settings c)
 
 -- a reserve of 1 byte or more, rounded up to n whole chunks, asks for their bytes unless "that product, or it plus S, passes 2^64 − 1"
 abbrev pub ReservesAsk : Layer → Type 0
 ReservesAsk L =
     (w : World) (ns : ℕ) (settings : Settings) (size n : ℕ) (commit large exclusive : Bool) → sound (sizeOf (w .state)) w (settings .page) ≡ true → w .state .question ≡ Idle
     → 0 < size → size ≤ n * sizeOf (w .state) → n * sizeOf (w .state) < size + sizeOf (w .state) → n * sizeOf (w .state) + sizeOf (w .state) < 2 ^ 64
-    → L w ns settings (act (reserve size commit large exclusive)) .answer ≡ Asks (AskMemory (n * sizeOf (w .state)) (sizeOf (w .state)) commit large)
+    → L .does w ns settings (act (reserve size commit large exclusive)) .answer ≡ Asks (AskMemory (n * sizeOf (w .state)) (sizeOf (w .state)) commit large)

@@ -37,6 +37,6 @@ AskedFor S q (answer kind accepted base) a = Brought base q a
 abbrev pub NoneUnasked : Layer → Type 0
 NoneUnasked L =
     (w : World) (ns : ℕ) (settings : Settings) (c : Call) → sound (sizeOf (w .state)) w (settings .page) ≡ true
-    → let v = L w ns settings c .world in
+    → let v = L .does w ns settings c .world in
     (v .state .count ≡ w .state .count)
     ⊎ ((v .state .count ≡ suc (w .state .count)) × AskedFor (sizeOf (w .state)) (w .state .question) c (at (v .records) (w .state .count)))

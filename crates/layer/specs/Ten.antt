@@ -57,12 +57,12 @@ abbrev pub TenExactly : Layer → Type 0
 TenExactly L =
     (w : World) (ns : ℕ) (settings : Settings) (id : ℤ) (n : ℕ) (commits : Bool) → sound (sizeOf (w .state)) w (settings .page) ≡ true → w .state .question ≡ Idle
     → 1 ≤ n → arenaAllowed (settings .off) id ≡ true
-    → IsMiss (L w ns settings (act (claim id n commits)) .answer) ↔ NoneHas id n (w .records) (w .state .count)
+    → IsMiss (L .does w ns settings (act (claim id n commits)) .answer) ↔ NoneHas id n (w .records) (w .state .count)
 
 -- the same of a claim that waited for memory, once the memory is registered: it "searches once more"
 abbrev pub TenAfterMemory : Layer → Type 0
 TenAfterMemory L =
     (w : World) (ns : ℕ) (settings : Settings) (chunks bytes n base : ℕ) (commit exclusive commits : Bool) → sound (sizeOf (w .state)) w (settings .page) ≡ true
     → w .state .question ≡ Reserving chunks bytes commit exclusive (Claim n commits) → Registrable w base chunks
-    → IsMiss (L w ns settings (answer ForMemory true base) .answer)
+    → IsMiss (L .does w ns settings (answer ForMemory true base) .answer)
     ↔ NoneHas (negsuc 0) n (withRecord (w .records) (w .state .count) (reservedArena base chunks commit exclusive)) (suc (w .state .count))

@@ -129,3 +129,16 @@ pub struct Reply {
     pub answer: Answer,
     pub state: State,
 }
+
+// What a join of two tables answers: why it is turned down, or by how much the ids of the second's arenas rise.
+pub enum JoinAnswer {
+    NotJoined(refusals::Refusal),
+    Joined(usize),
+}
+
+// Its answer with the two states that it leaves.
+pub struct JoinReply {
+    pub answer: JoinAnswer,
+    pub first: State,
+    pub second: State,
+}

@@ -58,8 +58,7 @@ use Rattle.layer_samples.proofs.state_hash.hash as hash′
 use Rattle.layer_samples.proofs.state_hash.hash.Symbol.{name as #layer-samples·state-hash·hash}
 use Rattle.layer_samples.proofs.state_of as state-of′
 use Rattle.layer_samples.proofs.state_of.Symbol.{name as #layer-samples·state-of}
-use Rattle.walks.proofs.Two.{ss-call}
-use Rattle.walks.proofs.Shares.{shr2-call}
+use Rattle.walks.proofs.ShapeSs.{ll-call, ss-call}
 
 -- the contracts that a walk cites
 module _ {M : Type 1} (𝓤 : URA M) (H : Heap 𝓤) (A : Atoms 𝓤) (mem : Memory → SProp 𝓤) (run : Routine → Fun 𝓤) where
@@ -148,7 +147,7 @@ module _ {M : Type 1} {𝓤 : URA M} {H : Heap 𝓤} {A : Atoms 𝓤} {K : Type 
       → ((val′ : Val) → Is T-Session.the-row (hashedOf s l (hashOf records stamps (s .state))) (val′ ∷ []) → Seq K W ((‵ (lent T-Arena.the-row L-records records) ⊛ (‵ (lent u32 L-stamps stamps) ⊛ more)) ∷ Γ) (after val′))
       → Seq K W ((‵ (lent T-Arena.the-row L-records records) ⊛ (‵ (lent u32 L-stamps stamps) ⊛ more)) ∷ Γ) G
   hash-line-step bang site mem run known L-records records L-stamps stamps s v-s g-s l v-l g-l ops then′ =
-      shr2-call bang site T-Arena.the-row u32 L-records L-stamps T-Session.the-row (plain (λ _. T-Session.the-row) ∷ plain (λ _. T-Line.the-row) ∷ []) (yes, (yes, tt)) (hash-line′.clauses 𝓤 H A mem run) known records stamps (λ _. (s, (l, tt))) (λ _. (v-s ∷ [], (v-l ∷ [], tt)))
+      ll-call bang site T-Arena.the-row u32 L-records L-stamps T-Session.the-row (plain (λ _. T-Session.the-row) ∷ plain (λ _. T-Line.the-row) ∷ []) (yes, (yes, tt)) (hash-line′.clauses 𝓤 H A mem run) known records stamps (λ _. (s, (l, tt))) (λ _. (v-s ∷ [], (v-l ∷ [], tt)))
       (λ _. owns-make 𝓤 H A (T-Session.the-row ∷ T-Line.the-row ∷ []) (Ises (T-Session.the-row ∷ T-Line.the-row ∷ [])) (LL.makes T-Session.the-type L-Session.the-plain 𝓤 H A, (LL.makes T-Line.the-type L-Line.the-plain 𝓤 H A, tt)) (s, (l, tt)) (v-s ∷ [], (v-l ∷ [], tt)) (g-s, (g-l, tt))) (λ _ _ _. tt) (λ _ _ _. id⊢ 𝓤 _)
       (λ out. out ≡ hashedOf s l (hashOf records stamps (s .state))) (λ _ _ _ out ws. id⊢ 𝓤 _) (λ hd′ _. ops hd′) (λ val′ out rel′ eq′. then′ val′ (subst (λ (obj′ : Session). Is T-Session.the-row obj′ (val′ ∷ [])) eq′ rel′))
 

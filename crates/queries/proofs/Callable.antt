@@ -47,8 +47,7 @@ use Rattle.queries.proofs.owns_answer as owns-answer′
 use Rattle.queries.proofs.owns_answer.Symbol.{name as #queries·owns-answer}
 use Rattle.queries.proofs.place_of as place-of′
 use Rattle.queries.proofs.place_of.Symbol.{name as #queries·place-of}
-use Rattle.walks.proofs.Two.{ss-call}
-use Rattle.walks.proofs.Shares.{shr2-call}
+use Rattle.walks.proofs.ShapeSs.{ll-call, ss-call}
 
 -- the contracts that a walk cites
 module _ {M : Type 1} (𝓤 : URA M) (H : Heap 𝓤) (A : Atoms 𝓤) (mem : Memory → SProp 𝓤) (run : Routine → Fun 𝓤) where
@@ -119,7 +118,7 @@ module _ {M : Type 1} {𝓤 : URA M} {H : Heap 𝓤} {A : Atoms 𝓤} {K : Type 
       → ((val′ : Val) → Is T-Reply.the-row (replyIn (step (worldOf records stamps state) ns settings (query (area (toZ w32 id))))) (val′ ∷ []) → Seq K W ((‵ (lent T-Arena.the-row L-records records) ⊛ (‵ (lent u32 L-stamps stamps) ⊛ more)) ∷ Γ) (after val′))
       → Seq K W ((‵ (lent T-Arena.the-row L-records records) ⊛ (‵ (lent u32 L-stamps stamps) ⊛ more)) ∷ Γ) G
   arena-area-step bang site mem run known L-records records L-stamps stamps state v-state g-state ns f-ns settings v-settings g-settings id f-id ops then′ =
-      shr2-call bang site T-Arena.the-row u32 L-records L-stamps T-Reply.the-row (plain (λ _. T-State.the-row) ∷ plain (λ _. u64) ∷ plain (λ _. T-Settings.the-row) ∷ plain (λ _. i32) ∷ []) (yes, (yes, (yes, (yes, tt)))) (arena-area′.clauses 𝓤 H A mem run) known records stamps (λ _. (state, (ns, (settings, (toZ w32 id, tt))))) (λ _. (v-state ∷ [], (vint w64 ns ∷ [], (v-settings ∷ [], (vint w32 id ∷ [], tt)))))
+      ll-call bang site T-Arena.the-row u32 L-records L-stamps T-Reply.the-row (plain (λ _. T-State.the-row) ∷ plain (λ _. u64) ∷ plain (λ _. T-Settings.the-row) ∷ plain (λ _. i32) ∷ []) (yes, (yes, (yes, (yes, tt)))) (arena-area′.clauses 𝓤 H A mem run) known records stamps (λ _. (state, (ns, (settings, (toZ w32 id, tt))))) (λ _. (v-state ∷ [], (vint w64 ns ∷ [], (v-settings ∷ [], (vint w32 id ∷ [], tt)))))
       (λ _. owns-make 𝓤 H A (T-State.the-row ∷ u64 ∷ T-Settings.the-row ∷ i32 ∷ []) (Ises (T-State.the-row ∷ u64 ∷ T-Settings.the-row ∷ i32 ∷ [])) (LL.makes T-State.the-type L-State.the-plain 𝓤 H A, (uint-makes 𝓤 H A W w64, (LL.makes T-Settings.the-type L-Settings.the-plain 𝓤 H A, (sint-makes 𝓤 H A W w32, tt)))) (state, (ns, (settings, (toZ w32 id, tt)))) (v-state ∷ [], (vint w64 ns ∷ [], (v-settings ∷ [], (vint w32 id ∷ [], tt)))) (g-state, ((refl, f-ns), (g-settings, (signed f-id, tt))))) (λ _ _ _. tt) (λ _ _ _. id⊢ 𝓤 _)
       (λ out. out ≡ replyIn (step (worldOf records stamps state) ns settings (query (area (toZ w32 id))))) (λ _ _ _ out ws. id⊢ 𝓤 _) (λ hd′ _. ops hd′) (λ val′ out rel′ eq′. then′ val′ (subst (λ (obj′ : Reply). Is T-Reply.the-row obj′ (val′ ∷ [])) eq′ rel′))
 
@@ -168,7 +167,7 @@ module _ {M : Type 1} {𝓤 : URA M} {H : Heap 𝓤} {A : Atoms 𝓤} {K : Type 
       → ((val′ : Val) → Is T-Reply.the-row (replyIn (step (worldOf records stamps state) ns settings (query (owns address)))) (val′ ∷ []) → Seq K W ((‵ (lent T-Arena.the-row L-records records) ⊛ (‵ (lent u32 L-stamps stamps) ⊛ more)) ∷ Γ) (after val′))
       → Seq K W ((‵ (lent T-Arena.the-row L-records records) ⊛ (‵ (lent u32 L-stamps stamps) ⊛ more)) ∷ Γ) G
   owns-step bang site mem run known L-records records L-stamps stamps state v-state g-state ns f-ns settings v-settings g-settings address f-address ops then′ =
-      shr2-call bang site T-Arena.the-row u32 L-records L-stamps T-Reply.the-row (plain (λ _. T-State.the-row) ∷ plain (λ _. u64) ∷ plain (λ _. T-Settings.the-row) ∷ plain (λ _. u64) ∷ []) (yes, (yes, (yes, (yes, tt)))) (owns′.clauses 𝓤 H A mem run) known records stamps (λ _. (state, (ns, (settings, (address, tt))))) (λ _. (v-state ∷ [], (vint w64 ns ∷ [], (v-settings ∷ [], (vint w64 address ∷ [], tt)))))
+      ll-call bang site T-Arena.the-row u32 L-records L-stamps T-Reply.the-row (plain (λ _. T-State.the-row) ∷ plain (λ _. u64) ∷ plain (λ _. T-Settings.the-row) ∷ plain (λ _. u64) ∷ []) (yes, (yes, (yes, (yes, tt)))) (owns′.clauses 𝓤 H A mem run) known records stamps (λ _. (state, (ns, (settings, (address, tt))))) (λ _. (v-state ∷ [], (vint w64 ns ∷ [], (v-settings ∷ [], (vint w64 address ∷ [], tt)))))
       (λ _. owns-make 𝓤 H A (T-State.the-row ∷ u64 ∷ T-Settings.the-row ∷ u64 ∷ []) (Ises (T-State.the-row ∷ u64 ∷ T-Settings.the-row ∷ u64 ∷ [])) (LL.makes T-State.the-type L-State.the-plain 𝓤 H A, (uint-makes 𝓤 H A W w64, (LL.makes T-Settings.the-type L-Settings.the-plain 𝓤 H A, (uint-makes 𝓤 H A W w64, tt)))) (state, (ns, (settings, (address, tt)))) (v-state ∷ [], (vint w64 ns ∷ [], (v-settings ∷ [], (vint w64 address ∷ [], tt)))) (g-state, ((refl, f-ns), (g-settings, ((refl, f-address), tt))))) (λ _ _ _. tt) (λ _ _ _. id⊢ 𝓤 _)
       (λ out. out ≡ replyIn (step (worldOf records stamps state) ns settings (query (owns address)))) (λ _ _ _ out ws. id⊢ 𝓤 _) (λ hd′ _. ops hd′) (λ val′ out rel′ eq′. then′ val′ (subst (λ (obj′ : Reply). Is T-Reply.the-row obj′ (val′ ∷ [])) eq′ rel′))
 

@@ -1,4 +1,5 @@
-// Why a call is turned down: document 01's table "Turned down", one variant for each row.
+// Why a call is turned down: one variant for each row of document 01's table "Turned down", and for each refusal
+// that document 02 adds.
 ghost use mathlib.Core.Path.{_≡_};
 ghost use Rattle.refusals.specs.Number.{number};
 
@@ -35,9 +36,13 @@ pub enum Refusal {
     NoWholeChunk,
     // 16: in the segment map already, or not reserved
     HostRefused,
+    // 17: a range of one table overlaps a range of the other
+    TablesOverlap,
+    // 18: more than 32 arenas would result
+    TooManyArenas,
 }
 
-// The number by which document 01 and the C side name a refusal.
+// The number by which the papers and the C side name a refusal.
 pub fn refusal_number(r: Refusal) -> u32
     ensures { λ n. ⌜ n ≡ number r ⌝ }
 {
@@ -58,5 +63,7 @@ pub fn refusal_number(r: Refusal) -> u32
         Refusal::MemoryRefused => 14,
         Refusal::NoWholeChunk => 15,
         Refusal::HostRefused => 16,
+        Refusal::TablesOverlap => 17,
+        Refusal::TooManyArenas => 18,
     }
 }

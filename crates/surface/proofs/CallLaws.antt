@@ -1,12 +1,15 @@
--- An exported call is the layer's step in numbers. Assumes nothing.
-use Rattle.state.proofs.Prelude.{_≡_, refl, sym, ap, _∙_, true, false, List, ℕ, when, unless, Arena, Reply, Settings, World, Outcome, sizeOf, worldOf, Leaves, sound, Query, Call, query, rules, step}
+-- An exported call is the layer's step in numbers, and the exported join the layer's join. Assumes nothing.
+use Rattle.state.proofs.Prelude.{_≡_, refl, sym, ap, ap₂, _∙_, Bool, true, false, _&&_, List, ℕ, when, unless, Arena, Reply, Settings, World, Outcome, sizeOf, worldOf, Leaves, sound, Query, Call, query, rules, step}
+use Rattle.layer.specs.declared.JoinReply.{JoinReply}
 use Rattle.layer.specs.World.{replyIn}
+use Rattle.layer.specs.Joining.{JoinOutcome, join, LeavesBoth}
 use Rattle.layer.proofs.Tools.{by-not}
 use Rattle.surface.specs.declared.StateNumbers.{StateNumbers}
 use Rattle.surface.specs.declared.told.SettingsNumbers.{SettingsNumbers}
 use Rattle.surface.specs.Numbers.{stateOf, numbersOf, isState}
 use Rattle.surface.specs.Told.{settingsOf}
 use Rattle.surface.specs.Replies.{answerNumbers, brokenNumbers, replyOf, Left, inNumbers, stepNumbers, LeavesNumbers}
+use Rattle.surface.specs.Joins.{joinAnswerNumbers, brokenJoin, joinReplyOf, LeftBoth, bothInNumbers, joinNumbers, LeavesBothNumbers}
 use Rattle.surface.proofs.NumberLaws.{state-written}
 
 module _ (l : List Arena) (stamps : List ℕ) (f : StateNumbers) (ns : ℕ) (s : SettingsNumbers) (call : Call) where
@@ -54,3 +57,47 @@ module _ (l : List Arena) (stamps : List ℕ) (f : StateNumbers) (ns : ℕ) (s :
       ap (λ (x : Reply). answerNumbers (x .answer) f) h
       ∙ ap (answerNumbers (asked .answer)) (sym (ap numbersOf (query-leaves (worldOf l stamps (stateOf f)) ns (settingsOf s) c) ∙ state-written f e))
       ∙ ap (λ (o : Left). o .reply) (sym (a-state l stamps f ns s (query c) e))
+
+-- ---- a join
+
+module _ (l : List Arena) (stamps : List ℕ) (m : List Arena) (second-stamps : List ℕ) (f g : StateNumbers) (ns : ℕ) (s : SettingsNumbers) where
+  -- the layer's join
+  abbrev joined : JoinOutcome
+  joined = join (worldOf l stamps (stateOf f)) (worldOf m second-stamps (stateOf g)) ns (settingsOf s)
+
+  abbrev as-it-came : LeftBoth
+  as-it-came = record { reply = brokenJoin f g; records = l; stamps = stamps; second-records = m; second-stamps = second-stamps }
+
+  leaves : (o : LeftBoth) → o ≡ joinNumbers l stamps m second-stamps f g ns s
+      → LeavesBothNumbers (joinNumbers l stamps m second-stamps f g ns s) (o .reply) (o .records) (o .stamps) (o .second-records) (o .second-stamps)
+  leaves o d = (
+    ap (λ (x : LeftBoth). x .reply) d,
+    ap (λ (x : LeftBoth). x .records) d,
+    ap (λ (x : LeftBoth). x .stamps) d,
+    ap (λ (x : LeftBoth). x .second-records) d,
+    ap (λ (x : LeftBoth). x .second-stamps) d,
+  )
+
+  -- what the entry point leaves, in numbers
+  pub joins : isState f ≡ true → isState g ≡ true → (r : JoinReply) (zs : List Arena) (ts : List ℕ) (ys : List Arena) (us : List ℕ) → LeavesBoth joined r zs ts ys us
+      → LeavesBothNumbers (joinNumbers l stamps m second-stamps f g ns s) (joinReplyOf r) zs ts ys us
+  unfolding joinNumbers joinReplyOf
+  joins d e r zs ts ys us h =
+      let a = leaves (bothInNumbers joined) (sym (when (isState f && isState g) _ _ (ap₂ (λ (x y : Bool). x && y) d e))) in (
+        ap (λ (x : JoinReply). joinAnswerNumbers (x .answer) (numbersOf (x .first)) (numbersOf (x .second))) (h .0) ∙ a .0,
+        h .1 ∙ a .1,
+        h .2 ∙ a .2,
+        h .3 ∙ a .3,
+        h .4 ∙ a .4,
+      )
+
+  -- numbers that are no state's, on either side: 1, and all is left
+  no-states : (isState f && isState g) ≡ false → LeavesBothNumbers (joinNumbers l stamps m second-stamps f g ns s) (brokenJoin f g) l stamps m second-stamps
+  unfolding joinNumbers
+  no-states e = leaves as-it-came (sym (unless (isState f && isState g) _ _ e))
+
+  pub first-refuses : isState f ≡ false → LeavesBothNumbers (joinNumbers l stamps m second-stamps f g ns s) (brokenJoin f g) l stamps m second-stamps
+  first-refuses e = no-states (ap (λ (x : Bool). x && isState g) e)
+
+  pub second-refuses : isState f ≡ true → isState g ≡ false → LeavesBothNumbers (joinNumbers l stamps m second-stamps f g ns s) (brokenJoin f g) l stamps m second-stamps
+  second-refuses d e = no-states (ap₂ (λ (x y : Bool). x && y) d e)

@@ -1,9 +1,12 @@
--- Functions of `surface` that a walk calls, each in one step: is-state-step, answered-step, no-state-step, reply-of-step, state-of-step, kind-of-step, settings-of-step, told-of-step. Written by tools/walks.
+-- Functions of `surface` that a walk calls, each in one step: is-state-step, join-reply-of-step, no-join-step, answered-step, no-state-step, reply-of-step, state-of-step, kind-of-step, settings-of-step, told-of-step. Written by tools/walks.
 -- Assumes `Given`, the callee's theorem, and that the table of calls is monotone under a frame.
 use Rattle.walks.proofs.Walking.{_≡_, refl, sym, _∙_, ap, subst, ℕ, _<_, _^_, List, [], _∷_, w32, Operand, Val, vint, vbool, Fits, toZ, URA, SProp, id⊢, Memory, Routine, Heap, Env, Calls, Atoms, Given, Item, Goal, Seq, Opds, Fun, bool, u32, i32, yes, Is, Ises, owns-make, uint-makes, bool-tells, plain, sint-makes, only, tripleOf, Contract, Triple, signed, Site, plain-call}
 use Rattle.surface.proofs.StateNumbers as T-StateNumbers
 use Rattle.surface.proofs.StateNumbers.Laws as L-StateNumbers
 use denote.Struct.Laws as LL
+use Rattle.layer.proofs.JoinReply as T-JoinReply
+use Rattle.layer.proofs.JoinReply.Laws as L-JoinReply
+use Rattle.surface.proofs.joins.JoinNumbers as T-JoinNumbers
 use Rattle.layer.proofs.Reply as T-Reply
 use Rattle.layer.proofs.Reply.Laws as L-Reply
 use Rattle.surface.proofs.reply.ReplyNumbers as T-ReplyNumbers
@@ -15,6 +18,9 @@ use Rattle.layer.proofs.Settings as T-Settings
 use Rattle.arena.proofs.Commitment as T-Commitment
 use Rattle.surface.specs.declared.StateNumbers.{StateNumbers}
 use Rattle.surface.specs.Numbers.{isState, stateOf}
+use Rattle.layer.specs.declared.JoinReply.{JoinReply}
+use Rattle.surface.specs.declared.joins.JoinNumbers.{JoinNumbers}
+use Rattle.surface.specs.Joins.{joinReplyOf, brokenJoin}
 use Rattle.layer.specs.declared.Reply.{Reply}
 use Rattle.surface.specs.declared.reply.ReplyNumbers.{ReplyNumbers}
 use Rattle.surface.specs.Replies.{answerNumbers, brokenNumbers, replyOf}
@@ -26,6 +32,10 @@ use Rattle.layer.specs.declared.Settings.{Settings}
 use Rattle.arena.specs.declared.Commitment.{Commitment}
 use Rattle.surface.proofs.is_state as is-state′
 use Rattle.surface.proofs.is_state.Symbol.{name as #surface·is-state}
+use Rattle.surface.proofs.joins.join_reply_of as join-reply-of′
+use Rattle.surface.proofs.joins.join_reply_of.Symbol.{name as #surface·joins·join-reply-of}
+use Rattle.surface.proofs.joins.no_join as no-join′
+use Rattle.surface.proofs.joins.no_join.Symbol.{name as #surface·joins·no-join}
 use Rattle.surface.proofs.reply.answered as answered′
 use Rattle.surface.proofs.reply.answered.Symbol.{name as #surface·reply·answered}
 use Rattle.surface.proofs.reply.no_state as no-state′
@@ -45,6 +55,12 @@ use Rattle.surface.proofs.told.told_of.Symbol.{name as #surface·told·
 module _ {M : Type 1} (𝓤 : URA M) (H : Heap 𝓤) (A : Atoms 𝓤) (mem : Memory → SProp 𝓤) (run : Routine → Fun 𝓤) where
   abbrev pub IsStateSpec : Contract 𝓤
   IsStateSpec = tripleOf 𝓤 H A is-state′.signature (is-state′.spec 𝓤 H A mem run)
+
+  abbrev pub JoinReplyOfSpec : Contract 𝓤
+  JoinReplyOfSpec = tripleOf 𝓤 H A join-reply-of′.signature (join-reply-of′.spec 𝓤 H A mem run)
+
+  abbrev pub NoJoinSpec : Contract 𝓤
+  NoJoinSpec = tripleOf 𝓤 H A no-join′.signature (no-join′.spec 𝓤 H A mem run)
 
   abbrev pub AnsweredSpec : Contract 𝓤
   AnsweredSpec = tripleOf 𝓤 H A answered′.signature (answered′.spec 𝓤 H A mem run)
@@ -77,6 +93,26 @@ module _ {M : Type 1} {𝓤 : URA M} {H : Heap 𝓤} {A : Atoms 𝓤} {K : Type 
       plain-call bang site bool (plain (λ _. T-StateNumbers.the-row) ∷ []) (yes, tt) (is-state′.clauses 𝓤 H A mem run) known (f, tt) (v-f ∷ [], tt)
       (owns-make 𝓤 H A (T-StateNumbers.the-row ∷ []) (Ises (T-StateNumbers.the-row ∷ [])) (LL.makes T-StateNumbers.the-type L-StateNumbers.the-plain 𝓤 H A, tt) (f, tt) (v-f ∷ [], tt) (g-f, tt)) tt (id⊢ 𝓤 _)
       (λ out. out ≡ isState f) (λ out ws. id⊢ 𝓤 _) ops (λ val′ out rel′ eq′. subst (λ (new′ : Val). Seq K W (more ∷ Γ) (after new′)) (sym (ap only (bool-tells out (val′ ∷ []) rel′) ∙ ap vbool eq′)) (then′))
+
+  pub join-reply-of-step : K → Site K W Γ C E #surface·joins·join-reply-of xs G after → (mem : Memory → SProp 𝓤) (run : Routine → Fun 𝓤) → Triple 𝓤 (C #surface·joins·join-reply-of) (JoinReplyOfSpec 𝓤 H A mem run)
+      → (r : JoinReply) (v-r : Val) → Is T-JoinReply.the-row r (v-r ∷ [])
+      → ((hd′ : Item 𝓤) → Opds K W (hd′ ∷ Γ) E xs (v-r ∷ []))
+      → ((val′ : Val) → Is T-JoinNumbers.the-row (joinReplyOf r) (val′ ∷ []) → Seq K W (more ∷ Γ) (after val′))
+      → Seq K W (more ∷ Γ) G
+  join-reply-of-step bang site mem run known r v-r g-r ops then′ =
+      plain-call bang site T-JoinNumbers.the-row (plain (λ _. T-JoinReply.the-row) ∷ []) (yes, tt) (join-reply-of′.clauses 𝓤 H A mem run) known (r, tt) (v-r ∷ [], tt)
+      (owns-make 𝓤 H A (T-JoinReply.the-row ∷ []) (Ises (T-JoinReply.the-row ∷ [])) (LL.makes T-JoinReply.the-type L-JoinReply.the-plain 𝓤 H A, tt) (r, tt) (v-r ∷ [], tt) (g-r, tt)) tt (id⊢ 𝓤 _)
+      (λ out. out ≡ joinReplyOf r) (λ out ws. id⊢ 𝓤 _) ops (λ val′ out rel′ eq′. then′ val′ (subst (λ (obj′ : JoinNumbers). Is T-JoinNumbers.the-row obj′ (val′ ∷ [])) eq′ rel′))
+
+  pub no-join-step : K → Site K W Γ C E #surface·joins·no-join xs G after → (mem : Memory → SProp 𝓤) (run : Routine → Fun 𝓤) → Triple 𝓤 (C #surface·joins·no-join) (NoJoinSpec 𝓤 H A mem run)
+      → (f : StateNumbers) (v-f : Val) → Is T-StateNumbers.the-row f (v-f ∷ []) → (g : StateNumbers) (v-g : Val) → Is T-StateNumbers.the-row g (v-g ∷ [])
+      → ((hd′ : Item 𝓤) → Opds K W (hd′ ∷ Γ) E xs (v-f ∷ v-g ∷ []))
+      → ((val′ : Val) → Is T-JoinNumbers.the-row (brokenJoin f g) (val′ ∷ []) → Seq K W (more ∷ Γ) (after val′))
+      → Seq K W (more ∷ Γ) G
+  no-join-step bang site mem run known f v-f g-f g v-g g-g ops then′ =
+      plain-call bang site T-JoinNumbers.the-row (plain (λ _. T-StateNumbers.the-row) ∷ plain (λ _. T-StateNumbers.the-row) ∷ []) (yes, (yes, tt)) (no-join′.clauses 𝓤 H A mem run) known (f, (g, tt)) (v-f ∷ [], (v-g ∷ [], tt))
+      (owns-make 𝓤 H A (T-StateNumbers.the-row ∷ T-StateNumbers.the-row ∷ []) (Ises (T-StateNumbers.the-row ∷ T-StateNumbers.the-row ∷ [])) (LL.makes T-StateNumbers.the-type L-StateNumbers.the-plain 𝓤 H A, (LL.makes T-StateNumbers.the-type L-StateNumbers.the-plain 𝓤 H A, tt)) (f, (g, tt)) (v-f ∷ [], (v-g ∷ [], tt)) (g-f, (g-g, tt))) tt (id⊢ 𝓤 _)
+      (λ out. out ≡ brokenJoin f g) (λ out ws. id⊢ 𝓤 _) ops (λ val′ out rel′ eq′. then′ val′ (subst (λ (obj′ : JoinNumbers). Is T-JoinNumbers.the-row obj′ (val′ ∷ [])) eq′ rel′))
 
   pub answered-step : K → Site K W Γ C E #surface·reply·answered xs G after → (mem : Memory → SProp 𝓤) (run : Routine → Fun 𝓤) → Triple 𝓤 (C #surface·reply·answered) (AnsweredSpec 𝓤 H A mem run)
       → (r : Reply) (v-r : Val) → Is T-Reply.the-row r (v-r ∷ []) → (f : StateNumbers) (v-f : Val) → Is T-StateNumbers.the-row f (v-f ∷ [])

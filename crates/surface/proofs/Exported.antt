@@ -1,10 +1,15 @@
 -- Demand 3 of the exported calls: read back, they answer and leave what the rules say. Assumes nothing.
-use Rattle.state.proofs.Prelude.{_≡_, refl, sym, ap, ap₂, _∙_, subst, Bool, true, false, List, ℕ, suc, _+_, _-_, arith, ltb, pos, negsuc, by-cond, when, Refusal, Broken, QuestionOpen, NoSuchQuestion, Zero, ArenasOff, Range, NotWhole, NotInside, PastEnd, NoRun, CommitRefused, ChunkCount, TableFull, MemoryRefused, NoWholeChunk, HostRefused, Arena, Settings, State, Question, Idle, Committing, Purging, Reserving, GivingBack, Waiting, Reserve, Claim, Kind, AskCommit, AskPurge, AskMemory, Answer, Asks, Registered, Claimed, Released, Area, World, Outcome, sizeOf, worldOf, after, sound, askMemory, withRecord, withStamps, isFor, counted, failReply, resume, answerTo, answerOf as answerOn, Act, claim, release, sweep, Query, Call, act, query, answer, sweepOf, actOn, queryOn, rules, step}
+use Rattle.state.proofs.Prelude.{_≡_, refl, sym, ap, ap₂, _∙_, subst, Bool, true, false, List, ℕ, suc, _+_, _-_, _&&_, arith, eqb, ltb, pos, negsuc, by-cond, when, unless, Refusal, Broken, QuestionOpen, NoSuchQuestion, Zero, ArenasOff, Range, NotWhole, NotInside, PastEnd, NoRun, CommitRefused, ChunkCount, TableFull, MemoryRefused, NoWholeChunk, HostRefused, Arena, Settings, State, Question, Idle, Committing, Purging, Reserving, GivingBack, Waiting, Reserve, Claim, Kind, AskCommit, AskPurge, AskMemory, Answer, Asks, Registered, Claimed, Released, Area, World, Outcome, sizeOf, worldOf, after, sound, askMemory, withRecord, withStamps, isFor, counted, failReply, resume, answerTo, answerOf as answerOn, Act, claim, release, sweep, Query, Call, act, query, answer, sweepOf, actOn, queryOn, rules, step}
+use Rattle.refusals.specs.declared.Refusal.the-variants.{TablesOverlap, TooManyArenas}
+use Rattle.refusals.specs.Number.{number}
 use Rattle.arena.proofs.FlagLaws.{flag-read}
 use Rattle.layer.specs.declared.Ask.the-variants.{AskGiveBack}
 use Rattle.layer.specs.declared.Answer.the-variants.{Refused, Swept, Owns}
+use Rattle.layer.specs.declared.JoinAnswer.{JoinAnswer}
+use Rattle.layer.specs.declared.JoinAnswer.the-variants.{NotJoined, Joined}
 use Rattle.layer.specs.World.{outcome}
 use Rattle.layer.specs.Step.{reserve, manage, adopt, owns, area, stepOn}
+use Rattle.layer.specs.Joining.{JoinOutcome, joinOutcome, join}
 use Rattle.layer.specs.Demand.{Demand3}
 use Rattle.layer.proofs.Tools.{by-not}
 use Rattle.layer.proofs.Rules.{Again, again}
@@ -15,7 +20,8 @@ use Rattle.surface.specs.declared.StateNumbers.{StateNumbers}
 use Rattle.surface.specs.Numbers.{stateOf, numbersOf, isState}
 use Rattle.surface.specs.Told.{settingsOf}
 use Rattle.surface.specs.Replies.{answerNumbers, inNumbers, stepNumbers}
-use Rattle.surface.specs.Exported.{settingsNumbers, Grant, registering, claiming, releasing, sweeping, owning, lying, grantOfAct, grantOfQuery, grantOfWaiting, grantOfQuestion, grantOf, granting, answerOf, readBack, exported}
+use Rattle.surface.specs.Joins.{joinAnswerNumbers, bothInNumbers, joinNumbers}
+use Rattle.surface.specs.Exported.{settingsNumbers, Grant, registering, claiming, releasing, sweeping, owning, lying, grantOfAct, grantOfQuery, grantOfWaiting, grantOfQuestion, grantOf, granting, refusalOf, answerOf, joinAnswerOf, readBack, readBothBack, exported}
 use Rattle.surface.proofs.NumberLaws.{state-read, is-state}
 
 -- ---- what is granted is of the call's kind
@@ -99,23 +105,33 @@ module _ (S : ℕ) (l : List Arena) (stamps : List ℕ) (k : ℕ) (mark : Bool) 
 
 -- ---- an answer is read as it was written
 
+-- no refusal's number is that of a grant or of a question, and each is read as the refusal that it is of
+abbrev IsRefusal : Refusal → Type 0
+IsRefusal why = (eqb (number why) 0 ≡ false) × (eqb (number why) 255 ≡ false) × (refusalOf (number why) ≡ why)
+
+is-refusal : (why : Refusal) → IsRefusal why
+is-refusal Broken = (refl, refl, refl)
+is-refusal QuestionOpen = (refl, refl, refl)
+is-refusal NoSuchQuestion = (refl, refl, refl)
+is-refusal Zero = (refl, refl, refl)
+is-refusal ArenasOff = (refl, refl, refl)
+is-refusal Range = (refl, refl, refl)
+is-refusal NotWhole = (refl, refl, refl)
+is-refusal NotInside = (refl, refl, refl)
+is-refusal PastEnd = (refl, refl, refl)
+is-refusal NoRun = (refl, refl, refl)
+is-refusal CommitRefused = (refl, refl, refl)
+is-refusal ChunkCount = (refl, refl, refl)
+is-refusal TableFull = (refl, refl, refl)
+is-refusal MemoryRefused = (refl, refl, refl)
+is-refusal NoWholeChunk = (refl, refl, refl)
+is-refusal HostRefused = (refl, refl, refl)
+is-refusal TablesOverlap = (refl, refl, refl)
+is-refusal TooManyArenas = (refl, refl, refl)
+
 answer-read : (q : Question) (c : Call) (r : Answer) (st : StateNumbers) → Shape (grantOf q c) r → answerOf q c (answerNumbers r st) ≡ r
-answer-read q c (Refused Broken) st h = refl
-answer-read q c (Refused QuestionOpen) st h = refl
-answer-read q c (Refused NoSuchQuestion) st h = refl
-answer-read q c (Refused Zero) st h = refl
-answer-read q c (Refused ArenasOff) st h = refl
-answer-read q c (Refused Range) st h = refl
-answer-read q c (Refused NotWhole) st h = refl
-answer-read q c (Refused NotInside) st h = refl
-answer-read q c (Refused PastEnd) st h = refl
-answer-read q c (Refused NoRun) st h = refl
-answer-read q c (Refused CommitRefused) st h = refl
-answer-read q c (Refused ChunkCount) st h = refl
-answer-read q c (Refused TableFull) st h = refl
-answer-read q c (Refused MemoryRefused) st h = refl
-answer-read q c (Refused NoWholeChunk) st h = refl
-answer-read q c (Refused HostRefused) st h = refl
+answer-read q c (Refused why) st h =
+    let n : IsRefusal why = is-refusal why in unless (eqb (number why) 0) _ _ (n .0) ∙ unless (eqb (number why) 255) _ _ (n .1) ∙ ap Refused (n .2)
 answer-read q c (Asks (AskCommit address bytes)) st h = refl
 answer-read q c (Asks (AskPurge address bytes decommit)) st h = refl
 answer-read q c (Asks (AskMemory bytes align commit large)) st h = refl
@@ -141,6 +157,19 @@ reply-state (Swept count) st = refl
 reply-state (Owns whether) st = refl
 reply-state (Area base bytes) st = refl
 
+join-answer-read : (r : JoinAnswer) (f g : StateNumbers) → joinAnswerOf (joinAnswerNumbers r f g) ≡ r
+join-answer-read (NotJoined why) f g = let n : IsRefusal why = is-refusal why in unless (eqb (number why) 0) _ _ (n .0) ∙ ap NotJoined (n .2)
+join-answer-read (Joined rise) f g = refl
+
+-- and a join's has those of both
+first-state : (r : JoinAnswer) (f g : StateNumbers) → joinAnswerNumbers r f g .first ≡ f
+first-state (NotJoined why) f g = refl
+first-state (Joined rise) f g = refl
+
+second-state : (r : JoinAnswer) (f g : StateNumbers) → joinAnswerNumbers r f g .second ≡ g
+second-state (NotJoined why) f g = refl
+second-state (Joined rise) f g = refl
+
 settings-read : (s : Settings) → settingsOf (settingsNumbers s) ≡ s
 unfolding settingsOf
 settings-read s = λ i. record { delay = s .delay; decommits = flag-read (s .decommits) i; off = flag-read (s .off) i; reserve = s .reserve; page = s .page }
@@ -153,7 +182,7 @@ step-shape w ns settings c =
     by-not (ShapeOf (grantOf (w .state .question) c)) (sound (sizeOf (w .state)) w (settings .page)) _ _
     (λ e. call-shape (sizeOf (w .state)) (w .records) (w .stamps) (w .state .count) (w .state .mark) (w .state .question) ns settings c) (λ e. tt)
 
-pub exported-rules : (w : World) (ns : ℕ) (settings : Settings) (c : Call) → exported w ns settings c ≡ step w ns settings c
+pub exported-rules : (w : World) (ns : ℕ) (settings : Settings) (c : Call) → exported .does w ns settings c ≡ step w ns settings c
 unfolding stepNumbers
 exported-rules w ns settings c =
     let o : Outcome = step w ns settings c in
@@ -163,6 +192,18 @@ exported-rules w ns settings c =
     (answer-read (w .state .question) c (o .answer) (numbersOf (o .world .state)) (step-shape w ns settings c))
     (ap stateOf (reply-state (o .answer) (numbersOf (o .world .state))) ∙ state-read (o .world .state))
 
+pub exported-join : (w v : World) (ns : ℕ) (settings : Settings) → exported .joins w v ns settings ≡ join w v ns settings
+unfolding joinNumbers
+exported-join w v ns settings =
+    let o : JoinOutcome = join w v ns settings in
+    let f : StateNumbers = numbersOf (o .first .state) in
+    let g : StateNumbers = numbersOf (o .second .state) in
+    ap readBothBack (when (isState (numbersOf (w .state)) && isState (numbersOf (v .state))) _ _ (ap₂ (λ (a b : Bool). a && b) (is-state (w .state)) (is-state (v .state))))
+    ∙ (λ i. readBothBack (bothInNumbers (join (worldOf (w .records) (w .stamps) (state-read (w .state) i)) (worldOf (v .records) (v .stamps) (state-read (v .state) i)) ns (settings-read settings i))))
+    ∙ (λ i. joinOutcome (join-answer-read (o .answer) f g i)
+    (worldOf (o .first .records) (o .first .stamps) ((ap stateOf (first-state (o .answer) f g) ∙ state-read (o .first .state)) i))
+    (worldOf (o .second .records) (o .second .stamps) ((ap stateOf (second-state (o .answer) f g) ∙ state-read (o .second .state)) i)))
+
 -- DEMAND 3, of what people link
 pub demand3-exported : Demand3 exported
-demand3-exported = demand3 exported exported-rules
+demand3-exported = demand3 exported exported-rules exported-join

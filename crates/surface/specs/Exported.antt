@@ -4,7 +4,7 @@ use mathlib.Core.Bool.{cond}
 use Prim.Native.Nat.{ℕ}
 use lib.Dec.{eqb}
 use Rattle.refusals.specs.declared.Refusal.{Refusal}
-use Rattle.refusals.specs.declared.Refusal.the-variants.{Broken, QuestionOpen, NoSuchQuestion, Zero, ArenasOff, Range, NotWhole, NotInside, PastEnd, NoRun, CommitRefused, ChunkCount, TableFull, MemoryRefused, NoWholeChunk, HostRefused}
+use Rattle.refusals.specs.declared.Refusal.the-variants.{Broken, QuestionOpen, NoSuchQuestion, Zero, ArenasOff, Range, NotWhole, NotInside, PastEnd, NoRun, CommitRefused, ChunkCount, TableFull, MemoryRefused, NoWholeChunk, HostRefused, TablesOverlap, TooManyArenas}
 use Rattle.arena.specs.Flags.{asFlag}
 use Rattle.layer.specs.declared.Settings.{Settings}
 use Rattle.layer.specs.declared.Question.{Question}
@@ -15,13 +15,18 @@ use Rattle.layer.specs.declared.Ask.{Ask}
 use Rattle.layer.specs.declared.Ask.the-variants.{AskCommit, AskPurge, AskMemory, AskGiveBack}
 use Rattle.layer.specs.declared.Answer.{Answer}
 use Rattle.layer.specs.declared.Answer.the-variants.{Refused, Asks, Registered, Claimed, Released, Swept, Owns, Area}
+use Rattle.layer.specs.declared.JoinAnswer.{JoinAnswer}
+use Rattle.layer.specs.declared.JoinAnswer.the-variants.{NotJoined, Joined}
 use Rattle.layer.specs.World.{World, Outcome, outcome, worldOf}
 use Rattle.layer.specs.Step.{Act, reserve, manage, adopt, claim, release, sweep, Query, owns, area, Call, act, query, answer}
+use Rattle.layer.specs.Joining.{JoinOutcome, joinOutcome}
 use Rattle.layer.specs.History.{Layer}
 use Rattle.surface.specs.Numbers.{stateOf, numbersOf}
 use Rattle.surface.specs.declared.told.SettingsNumbers.{SettingsNumbers}
 use Rattle.surface.specs.declared.reply.ReplyNumbers.{ReplyNumbers}
 use Rattle.surface.specs.Replies.{Left, stepNumbers}
+use Rattle.surface.specs.declared.joins.JoinNumbers.{JoinNumbers}
+use Rattle.surface.specs.Joins.{LeftBoth, joinNumbers}
 
 -- the settings, written in numbers
 abbrev pub settingsNumbers : Settings → SettingsNumbers
@@ -99,16 +104,31 @@ refusalOf n =
     (cond (eqb n 12) ChunkCount
     (cond (eqb n 13) TableFull
     (cond (eqb n 14) MemoryRefused
-    (cond (eqb n 15) NoWholeChunk HostRefused))))))))))))))
+    (cond (eqb n 15) NoWholeChunk
+    (cond (eqb n 16) HostRefused
+    (cond (eqb n 17) TablesOverlap TooManyArenas))))))))))))))))
 
 -- the reply's number, as include/sirqobal.h has it: 0 granted, 255 a question, else the refusal
 abbrev pub answerOf : Question → Call → ReplyNumbers → Answer
 answerOf q c r = cond (eqb (r .number) 0) (granting (grantOf q c) r) (cond (eqb (r .number) 255) (Asks (askOf r)) (Refused (refusalOf (r .number))))
+
+-- of a join: 0 joined, else the refusal
+abbrev pub joinAnswerOf : JoinNumbers → JoinAnswer
+joinAnswerOf r = cond (eqb (r .number) 0) (Joined (r .rise)) (NotJoined (refusalOf (r .number)))
 
 -- ---- the layer
 
 abbrev pub readBack : World → Call → Left → Outcome
 readBack w c o = outcome (answerOf (w .state .question) c (o .reply)) (worldOf (o .records) (o .stamps) (stateOf (o .reply .state)))
 
+abbrev pub readBothBack : LeftBoth → JoinOutcome
+readBothBack o =
+    joinOutcome (joinAnswerOf (o .reply)) (worldOf (o .records) (o .stamps) (stateOf (o .reply .first)))
+    (worldOf (o .second-records) (o .second-stamps) (stateOf (o .reply .second)))
+
 abbrev pub exported : Layer
-exported w ns settings c = readBack w c (stepNumbers (w .records) (w .stamps) (numbersOf (w .state)) ns (settingsNumbers settings) c)
+exported =
+    record {
+      does = λ w ns settings c. readBack w c (stepNumbers (w .records) (w .stamps) (numbersOf (w .state)) ns (settingsNumbers settings) c);
+      joins = λ w v ns settings. readBothBack (joinNumbers (w .records) (w .stamps) (v .records) (v .stamps) (numbersOf (w .state)) (numbersOf (v .state)) ns (settingsNumbers settings));
+    }

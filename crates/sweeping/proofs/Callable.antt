@@ -1,6 +1,6 @@
 -- Functions of `sweeping` that a walk calls, each in one step: answer-purge-step, behind-step, chunk-of-step, count-answer-step, deadline-anew-step, deadline-without-step, decommits-step, is-due-at-step, next-chunk-step, purge-due-step, purge-question-step, question-at-step, sweep-step, sweep-of-step, sweep-on-step, swept-step, visit-step. Written by tools/walks.
 -- Assumes `Given`, the callee's theorem, and that the table of calls is monotone under a frame.
-use Rattle.walks.proofs.Walking.{_≡_, refl, sym, _∙_, ap, subst, Bool, true, ℕ, _<_, _≤_, _+_, _*_, _^_, List, [], _∷_, length, set, w32, w64, Operand, Val, vint, vbool, URA, SProp, emp, id⊢, Memory, Routine, Heap, Env, Calls, Atoms, Given, Item, Goal, Seq, ‵, _⊛_, Opds, from, Fun, factI, bool, u32, u64, usize, yes, Is, Ises, owns-make, uint-makes, bool-tells, bool-makes, plain, only, tripleOf, Contract, Triple, Loan, lent, sliceOf, Site, plain-call, shr-call, mut2-call}
+use Rattle.walks.proofs.Walking.{_≡_, refl, sym, _∙_, ap, subst, Bool, true, ℕ, _<_, _≤_, _+_, _*_, _^_, List, [], _∷_, length, set, w32, w64, Operand, Val, vint, vbool, URA, SProp, emp, id⊢, Memory, Routine, Heap, Env, Calls, Atoms, Given, Item, Goal, Seq, ‵, _⊛_, Opds, Fun, factI, bool, u32, u64, usize, yes, Is, Ises, owns-make, uint-makes, bool-tells, bool-makes, plain, only, tripleOf, Contract, Triple, Loan, lent, sliceOf, Site, plain-call, shr-call, mut2-call}
 use Rattle.layer.proofs.State as T-State
 use Rattle.layer.proofs.State.Laws as L-State
 use denote.Struct.Laws as LL
@@ -206,14 +206,14 @@ module _ {M : Type 1} {𝓤 : URA M} {H : Heap 𝓤} {A : Atoms 𝓤} {K : Type 
       (λ out. out ≡ sweepDue (at records i) (w .force) (w .now)) (λ _ _ out ws. id⊢ 𝓤 _) (λ hd′ _. ops hd′) (λ val′ out rel′ eq′. subst (λ (new′ : Val). Seq K W ((‵ (lent T-Arena.the-row L-records records) ⊛ more) ∷ Γ) (after new′)) (sym (ap only (bool-tells out (val′ ∷ []) rel′) ∙ ap vbool eq′)) (then′))
 
   pub next-chunk-step : K → Site K W Γ C E #sweeping·next-chunk xs G after → (mem : Memory → SProp 𝓤) (run : Routine → Fun 𝓤) → Triple 𝓤 (C #sweeping·next-chunk) (NextChunkSpec 𝓤 H A mem run)
-      → (L-stamps : Loan) (stamps : List ℕ) → (a : Arena) (v-a : Val) → Is T-Arena.the-row a (v-a ∷ []) → (i : ℕ) → i < 2 ^ 64 → (w : Sweep) (v-w : Val) → Is T-Sweep.the-row w (v-w ∷ []) → (from : ℕ) → from < 2 ^ 64 → ((a .chunks ≤ 1024) × (i < 32) × Stamped stamps)
-      → ((hd′ : Item 𝓤) → Opds K W (hd′ ∷ Γ) E xs (sliceOf L-stamps ∷ v-a ∷ vint w64 i ∷ v-w ∷ vint w64 from ∷ []))
-      → ((val′ : Val) → Is T-Found.the-row (nextAsked a (stampsOf stamps i) (w .force) (w .now) (w .delay) from) (val′ ∷ []) → Seq K W ((‵ (lent u32 L-stamps stamps) ⊛ more) ∷ Γ) (after val′))
+      → (L-stamps : Loan) (stamps : List ℕ) → (a : Arena) (v-a : Val) → Is T-Arena.the-row a (v-a ∷ []) → (i : ℕ) → i < 2 ^ 64 → (w : Sweep) (v-w : Val) → Is T-Sweep.the-row w (v-w ∷ []) → (from′ : ℕ) → from′ < 2 ^ 64 → ((a .chunks ≤ 1024) × (i < 32) × Stamped stamps)
+      → ((hd′ : Item 𝓤) → Opds K W (hd′ ∷ Γ) E xs (sliceOf L-stamps ∷ v-a ∷ vint w64 i ∷ v-w ∷ vint w64 from′ ∷ []))
+      → ((val′ : Val) → Is T-Found.the-row (nextAsked a (stampsOf stamps i) (w .force) (w .now) (w .delay) from′) (val′ ∷ []) → Seq K W ((‵ (lent u32 L-stamps stamps) ⊛ more) ∷ Γ) (after val′))
       → Seq K W ((‵ (lent u32 L-stamps stamps) ⊛ more) ∷ Γ) G
-  next-chunk-step bang site mem run known L-stamps stamps a v-a g-a i f-i w v-w g-w from f-from need ops then′ =
-      shr-call bang site u32 L-stamps T-Found.the-row (plain (λ _. T-Arena.the-row) ∷ plain (λ _. usize) ∷ plain (λ _. T-Sweep.the-row) ∷ plain (λ _. usize) ∷ []) (yes, (yes, (yes, (yes, tt)))) (next-chunk′.clauses 𝓤 H A mem run) known stamps (λ _. (a, (i, (w, (from, tt))))) (λ _. (v-a ∷ [], (vint w64 i ∷ [], (v-w ∷ [], (vint w64 from ∷ [], tt)))))
-      (λ _. owns-make 𝓤 H A (T-Arena.the-row ∷ usize ∷ T-Sweep.the-row ∷ usize ∷ []) (Ises (T-Arena.the-row ∷ usize ∷ T-Sweep.the-row ∷ usize ∷ [])) (LL.makes T-Arena.the-type L-Arena.the-plain 𝓤 H A, (uint-makes 𝓤 H A W w64, (LL.makes T-Sweep.the-type L-Sweep.the-plain 𝓤 H A, (uint-makes 𝓤 H A W w64, tt)))) (a, (i, (w, (from, tt)))) (v-a ∷ [], (vint w64 i ∷ [], (v-w ∷ [], (vint w64 from ∷ [], tt)))) (g-a, ((refl, f-i), (g-w, ((refl, f-from), tt))))) (λ _ _. tt) (λ _ _. factI 𝓤 _ (emp 𝓤) need)
-      (λ out. out ≡ nextAsked a (stampsOf stamps i) (w .force) (w .now) (w .delay) from) (λ _ _ out ws. id⊢ 𝓤 _) (λ hd′ _. ops hd′) (λ val′ out rel′ eq′. then′ val′ (subst (λ (obj′ : Found). Is T-Found.the-row obj′ (val′ ∷ [])) eq′ rel′))
+  next-chunk-step bang site mem run known L-stamps stamps a v-a g-a i f-i w v-w g-w from′ f-from′ need ops then′ =
+      shr-call bang site u32 L-stamps T-Found.the-row (plain (λ _. T-Arena.the-row) ∷ plain (λ _. usize) ∷ plain (λ _. T-Sweep.the-row) ∷ plain (λ _. usize) ∷ []) (yes, (yes, (yes, (yes, tt)))) (next-chunk′.clauses 𝓤 H A mem run) known stamps (λ _. (a, (i, (w, (from′, tt))))) (λ _. (v-a ∷ [], (vint w64 i ∷ [], (v-w ∷ [], (vint w64 from′ ∷ [], tt)))))
+      (λ _. owns-make 𝓤 H A (T-Arena.the-row ∷ usize ∷ T-Sweep.the-row ∷ usize ∷ []) (Ises (T-Arena.the-row ∷ usize ∷ T-Sweep.the-row ∷ usize ∷ [])) (LL.makes T-Arena.the-type L-Arena.the-plain 𝓤 H A, (uint-makes 𝓤 H A W w64, (LL.makes T-Sweep.the-type L-Sweep.the-plain 𝓤 H A, (uint-makes 𝓤 H A W w64, tt)))) (a, (i, (w, (from′, tt)))) (v-a ∷ [], (vint w64 i ∷ [], (v-w ∷ [], (vint w64 from′ ∷ [], tt)))) (g-a, ((refl, f-i), (g-w, ((refl, f-from′), tt))))) (λ _ _. tt) (λ _ _. factI 𝓤 _ (emp 𝓤) need)
+      (λ out. out ≡ nextAsked a (stampsOf stamps i) (w .force) (w .now) (w .delay) from′) (λ _ _ out ws. id⊢ 𝓤 _) (λ hd′ _. ops hd′) (λ val′ out rel′ eq′. then′ val′ (subst (λ (obj′ : Found). Is T-Found.the-row obj′ (val′ ∷ [])) eq′ rel′))
 
   pub purge-due-step : K → Site K W Γ C E #sweeping·purge-due xs G after → (mem : Memory → SProp 𝓤) (run : Routine → Fun 𝓤) → Triple 𝓤 (C #sweeping·purge-due) (PurgeDueSpec 𝓤 H A mem run)
       → (L-records : Loan) (records : List Arena) → (L-stamps : Loan) (stamps : List ℕ) → (state : State) (v-state : Val) → Is T-State.the-row state (v-state ∷ []) → (ns : ℕ) → ns < 2 ^ 64 → (settings : Settings) (v-settings : Val) → Is T-Settings.the-row settings (v-settings ∷ []) → (force : Bool)
@@ -266,14 +266,14 @@ module _ {M : Type 1} {𝓤 : URA M} {H : Heap 𝓤} {A : Atoms 𝓤} {K : Type 
       (λ out. out ≡ sweepOf force ns settings) (λ out ws. id⊢ 𝓤 _) ops (λ val′ out rel′ eq′. then′ val′ (subst (λ (obj′ : Sweep). Is T-Sweep.the-row obj′ (val′ ∷ [])) eq′ rel′))
 
   pub sweep-on-step : K → Site K W Γ C E #sweeping·sweep-on xs G after → (mem : Memory → SProp 𝓤) (run : Routine → Fun 𝓤) → Triple 𝓤 (C #sweeping·sweep-on) (SweepOnSpec 𝓤 H A mem run)
-      → (L-records : Loan) (records : List Arena) → (L-stamps : Loan) (stamps : List ℕ) → (state : State) (v-state : Val) → Is T-State.the-row state (v-state ∷ []) → (from : ℕ) → from < 2 ^ 64 → (w : Sweep) (v-w : Val) → Is T-Sweep.the-row w (v-w ∷ []) → (Sweepable records state × Stamped stamps)
-      → ((hd′ : Item 𝓤) → Opds K W (hd′ ∷ Γ) E xs (sliceOf L-records ∷ sliceOf L-stamps ∷ v-state ∷ vint w64 from ∷ v-w ∷ []))
-      → ((val′ : Val) (out : Reply) (records-exit : List Arena) (stamps-exit : List ℕ) → Is T-Reply.the-row out (val′ ∷ []) → Leaves (sweepFrom (sizeOf state) stamps (state .count) (state .mark) w (state .count - from) from records) out records-exit stamps-exit → length records-exit ≡ length records → length stamps-exit ≡ length stamps → Seq K W ((‵ (lent T-Arena.the-row L-records records-exit) ⊛ (‵ (lent u32 L-stamps stamps-exit) ⊛ more)) ∷ Γ) (after val′))
+      → (L-records : Loan) (records : List Arena) → (L-stamps : Loan) (stamps : List ℕ) → (state : State) (v-state : Val) → Is T-State.the-row state (v-state ∷ []) → (from′ : ℕ) → from′ < 2 ^ 64 → (w : Sweep) (v-w : Val) → Is T-Sweep.the-row w (v-w ∷ []) → (Sweepable records state × Stamped stamps)
+      → ((hd′ : Item 𝓤) → Opds K W (hd′ ∷ Γ) E xs (sliceOf L-records ∷ sliceOf L-stamps ∷ v-state ∷ vint w64 from′ ∷ v-w ∷ []))
+      → ((val′ : Val) (out : Reply) (records-exit : List Arena) (stamps-exit : List ℕ) → Is T-Reply.the-row out (val′ ∷ []) → Leaves (sweepFrom (sizeOf state) stamps (state .count) (state .mark) w (state .count - from′) from′ records) out records-exit stamps-exit → length records-exit ≡ length records → length stamps-exit ≡ length stamps → Seq K W ((‵ (lent T-Arena.the-row L-records records-exit) ⊛ (‵ (lent u32 L-stamps stamps-exit) ⊛ more)) ∷ Γ) (after val′))
       → Seq K W ((‵ (lent T-Arena.the-row L-records records) ⊛ (‵ (lent u32 L-stamps stamps) ⊛ more)) ∷ Γ) G
-  sweep-on-step bang site mem run known L-records records L-stamps stamps state v-state g-state from f-from w v-w g-w need ops then′ =
-      mut2-call bang site T-Arena.the-row u32 L-records L-stamps T-Reply.the-row (plain (λ _. T-State.the-row) ∷ plain (λ _. usize) ∷ plain (λ _. T-Sweep.the-row) ∷ []) (yes, (yes, (yes, tt))) (sweep-on′.clauses 𝓤 H A mem run) known records stamps (λ _. (state, (from, (w, tt)))) (λ _. (v-state ∷ [], (vint w64 from ∷ [], (v-w ∷ [], tt))))
-      (λ _. owns-make 𝓤 H A (T-State.the-row ∷ usize ∷ T-Sweep.the-row ∷ []) (Ises (T-State.the-row ∷ usize ∷ T-Sweep.the-row ∷ [])) (LL.makes T-State.the-type L-State.the-plain 𝓤 H A, (uint-makes 𝓤 H A W w64, (LL.makes T-Sweep.the-type L-Sweep.the-plain 𝓤 H A, tt))) (state, (from, (w, tt))) (v-state ∷ [], (vint w64 from ∷ [], (v-w ∷ [], tt))) (g-state, ((refl, f-from), (g-w, tt)))) (λ _ _ _. tt) (λ _ _ _. factI 𝓤 _ (emp 𝓤) need)
-      (λ out records-exit stamps-exit. Leaves (sweepFrom (sizeOf state) stamps (state .count) (state .mark) w (state .count - from) from records) out records-exit stamps-exit) (λ _ _ _ out ws. id⊢ 𝓤 _) (λ hd′ _. ops hd′) (λ val′ out records-exit stamps-exit rel′ eq′ l-records l-stamps. then′ val′ out records-exit stamps-exit rel′ eq′ l-records l-stamps)
+  sweep-on-step bang site mem run known L-records records L-stamps stamps state v-state g-state from′ f-from′ w v-w g-w need ops then′ =
+      mut2-call bang site T-Arena.the-row u32 L-records L-stamps T-Reply.the-row (plain (λ _. T-State.the-row) ∷ plain (λ _. usize) ∷ plain (λ _. T-Sweep.the-row) ∷ []) (yes, (yes, (yes, tt))) (sweep-on′.clauses 𝓤 H A mem run) known records stamps (λ _. (state, (from′, (w, tt)))) (λ _. (v-state ∷ [], (vint w64 from′ ∷ [], (v-w ∷ [], tt))))
+      (λ _. owns-make 𝓤 H A (T-State.the-row ∷ usize ∷ T-Sweep.the-row ∷ []) (Ises (T-State.the-row ∷ usize ∷ T-Sweep.the-row ∷ [])) (LL.makes T-State.the-type L-State.the-plain 𝓤 H A, (uint-makes 𝓤 H A W w64, (LL.makes T-Sweep.the-type L-Sweep.the-plain 𝓤 H A, tt))) (state, (from′, (w, tt))) (v-state ∷ [], (vint w64 from′ ∷ [], (v-w ∷ [], tt))) (g-state, ((refl, f-from′), (g-w, tt)))) (λ _ _ _. tt) (λ _ _ _. factI 𝓤 _ (emp 𝓤) need)
+      (λ out records-exit stamps-exit. Leaves (sweepFrom (sizeOf state) stamps (state .count) (state .mark) w (state .count - from′) from′ records) out records-exit stamps-exit) (λ _ _ _ out ws. id⊢ 𝓤 _) (λ hd′ _. ops hd′) (λ val′ out records-exit stamps-exit rel′ eq′ l-records l-stamps. then′ val′ out records-exit stamps-exit rel′ eq′ l-records l-stamps)
 
   pub swept-step : K → Site K W Γ C E #sweeping·swept xs G after → (mem : Memory → SProp 𝓤) (run : Routine → Fun 𝓤) → Triple 𝓤 (C #sweeping·swept) (SweptSpec 𝓤 H A mem run)
       → (state : State) (v-state : Val) → Is T-State.the-row state (v-state ∷ []) → (w : Sweep) (v-w : Val) → Is T-Sweep.the-row w (v-w ∷ [])

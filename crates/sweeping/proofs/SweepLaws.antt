@@ -1,13 +1,20 @@
 -- A sweep over the arenas, turn by turn, and what its core is handed. S is the size of a chunk. Assumes nothing.
-use Rattle.state.proofs.Prelude.{_≡_, refl, sym, ap, ap₂, _∙_, subst, Bool, true, false, cond, true≢false, List, ℕ, suc, _+_, _-_, _*_, _^_, _<_, _≤_, arith, length, set, length-set, set-getD, when, unless, by-cond, Found, At, Nothing, Arena, sweepDue, disarm, stampsOf, State, Sweep, AskPurge, Asks, Purging, Reply, stateWith, reply, after, Leaves, blank, at, isAt, purgeReply, sweptReply, visitAt, visit, sweepFrom}
+use Rattle.state.proofs.Prelude.{_≡_, refl, sym, ap, ap₂, _∙_, subst, Bool, true, false, cond, true≢false, List, ℕ, suc, _+_, _-_, _*_, _^_, _<_, _≤_, arith, length, set, length-set, set-getD, when, unless, by-cond, Found, At, Nothing, Arena, sweepDue, disarm, stampsOf, State, Sweep, AskPurge, Asks, Purging, Reply, Outcome, stateWith, reply, after, Leaves, blank, at, isAt, purgeReply, sweptReply, visitAt, visit, sweepFrom}
 use Rattle.layer.proofs.Tools.{by-set, at-same}
 use Rattle.layer.proofs.Kept.{disarm-range}
 use Rattle.state.specs.Ready.{Standing}
-use Rattle.state.proofs.Entry.{stands}
+use Rattle.state.proofs.Entry.{stands, comes}
 use Rattle.sweeping.specs.Visit.{chunkOf, askedAt, leftBy, visited, Ranged, Sweepable}
 use Rattle.sweeping.proofs.VisitLaws.{next, next-inside, chunk-room, visited-range}
 
 -- ---- ranges
+
+-- an arena that stands has a record
+pub is-lent : (k i n m : ℕ) → k ≤ n → m ≡ n → i < k → i < m
+is-lent k i n m few long lt = omega (arith, few, long, lt)
+
+pub is-few : (k i : ℕ) → k ≤ 32 → i < k → i < 32
+is-few k i few lt = omega (arith, few, lt)
 
 -- what row 1 says of the arenas
 pub sweepable : (l : List Arena) (state : State) → Standing l state → Sweepable l state
@@ -89,6 +96,27 @@ module _ (S : ℕ) (stamps : List ℕ) (k : ℕ) (mark : Bool) (w : Sweep) where
       subst (λ (b : Arena). b .base + chunkOf asked * S < 2 ^ 64) (sym (at-same l i (visited w a own) v))
           (subst (λ (b : ℕ). b + chunkOf asked * S < 2 ^ 64) (sym (visited-range w a own .0)) (chunk-room S a (chunkOf asked) (inside e) (h i u .1))),
     )
+
+  -- ---- the loop: from arena `begin` on over the records l, it has come to arena i with the records m, and no question was put before
+
+  module _ (begin : ℕ) (l : List Arena) where
+    abbrev all : Outcome
+    all = sweepFrom S stamps k mark w (k - begin) begin l
+
+    abbrev pub Going : ℕ → List Arena → Type 0
+    Going i m = Ranged S m k × (sweepFrom S stamps k mark w (k - i) i m ≡ all)
+
+    module _ (i : ℕ) (m : List Arena) (going : Going i m) where
+      pub goes-on : i < k → k ≤ length l → length m ≡ length l → isAt (asked m i) ≡ false → Going (i + 1) (on m i)
+      goes-on lt lent long e =
+          let r = visited-range w (at m i) (stampsOf stamps i) in
+          (ranged-put S m k i (visited w (at m i) (stampsOf stamps i)) (going .0) lt (omega (arith, lent, long)) (r .0) (r .1), sym (passed-turn m i lt e) ∙ going .1)
+
+      pub asks-there : i < k → i < length m → isAt (asked m i) ≡ true → Leaves all (purgeReply S k mark w i (at (on m i) i) (chunkOf (asked m i))) (on m i) stamps
+      asks-there lt here e = comes all _ (on m i) stamps (sym (going .1) ∙ asked-turn m i lt here e)
+
+      pub asks-none : k ≤ i → Leaves all (sweptReply k mark w) m stamps
+      asks-none past = comes all _ m stamps (sym (going .1) ∙ ended (k - i) i m (omega (arith, past)))
 
   -- the whole sweep is the sweep from the first arena on
   pub from-first : (l : List Arena) (r : Reply) (m : List Arena) (ts : List ℕ) → Leaves (sweepFrom S stamps k mark w (k - 0) 0 l) r m ts → Leaves (sweepFrom S stamps k mark w k 0 l) r m ts

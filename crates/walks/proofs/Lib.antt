@@ -5,6 +5,8 @@ pub mod Locals
 pub mod Operands
 pub mod Calls
 pub mod Frame
-pub mod Two
-pub mod Shares
 pub mod Walking
+pub mod ShapeMmmm
+pub mod ShapeMs
+pub mod Rotations
+pub mod ShapeSs

@@ -75,7 +75,7 @@ opening = record {
 abbrev pub opened : Trail
 opened = stand clear 9 manages
 
-pub opens : (L : Layer) → L empty 0 plain (manages .call) ≡ outcome (Registered 0) clear → After L 7 arena (next begin manages) opened clear [] []
+pub opens : (L : Layer) → L .does empty 0 plain (manages .call) ≡ outcome (Registered 0) clear → After L 7 arena (next begin manages) opened clear [] []
 unfolding empty opening
 opens L e =
     open-made L 7 begin start empty (at-start L) manages (outcome (Registered 0) clear) (outcome (Registered 0) clear) opening

@@ -37,7 +37,7 @@ abbrev word : List ℕ → ℕ
 word [] = 0
 word (w ∷ ws) = w
 
-dirty-before-yes : ((w : World) (ns : ℕ) (settings : Settings) (c : Call) → dirtyBeforeYes w ns settings c ≡ step w ns settings c) → ⊥
+dirty-before-yes : ((w : World) (ns : ℕ) (settings : Settings) (c : Call) → dirtyBeforeYes .does w ns settings c ≡ step w ns settings c) → ⊥
 dirty-before-yes same =
     let e : _≡_ {A = ℕ} (word (dirtyRun (one 1 0 0 0) 0 1 .dirty)) 0 =
     sym (ap (λ (o : Outcome). word (at (dirtied (o .world .records) (o .world .state .question)) 0 .dirty)) (facts .claimed))
@@ -45,19 +45,19 @@ dirty-before-yes same =
     let z : _≡_ {A = ℕ} 1 0 = sym (ap word (facts .dirtied-row)) ∙ e in
     omega (arith, z)
 
-invents-count : ((w : World) (ns : ℕ) (settings : Settings) (c : Call) → inventsCount w ns settings c ≡ step w ns settings c) → ⊥
+invents-count : ((w : World) (ns : ℕ) (settings : Settings) (c : Call) → inventsCount .does w ns settings c ≡ step w ns settings c) → ⊥
 invents-count same =
     let e : Swept 1 ≡ Swept 0 = sym (ap (λ (o : Outcome). oneMore (o .answer)) (facts .swept)) ∙ ap (λ (o : Outcome). o .answer) (same empty 0 plain (act (sweep true)) ∙ facts .swept) in
     let z : _≡_ {A = ℕ} 1 0 = cc in
     omega (arith, z)
 
-asks-once : ((w : World) (ns : ℕ) (settings : Settings) (c : Call) → asksOnce w ns settings c ≡ step w ns settings c) → ⊥
+asks-once : ((w : World) (ns : ℕ) (settings : Settings) (c : Call) → asksOnce .does w ns settings c ≡ step w ns settings c) → ⊥
 asks-once same =
     let e : Swept 2 ≡ Asks (AskPurge (S + S) S false) = ap (λ (o : Outcome). o .answer) (same (world (one 1 0 3 0) sweeping) 0 plain (answer ForPurge true 0)) ∙ facts .asked-again in
     let z : _≡_ {A = ℕ} 0 1 = cc in
     omega arith
 
-clears-pending : ((w : World) (ns : ℕ) (settings : Settings) (c : Call) → clearsPending w ns settings c ≡ step w ns settings c) → ⊥
+clears-pending : ((w : World) (ns : ℕ) (settings : Settings) (c : Call) → clearsPending .does w ns settings c ≡ step w ns settings c) → ⊥
 clears-pending same =
     let e : _≡_ {A = ℕ} 0 1 =
     sym (ap (λ (o : Outcome). word (at (set (o .world .records) 0 (withPending (at (o .world .records) 0) noBits)) 0 .pending)) (facts .passed-over))

@@ -25,6 +25,7 @@ use Rattle.layer.specs.World.{World, Outcome, outcome, worldOf, stateWith, size
 use Rattle.layer.specs.Table.{at}
 use Rattle.layer.specs.Answering.{kindOpen}
 use Rattle.layer.specs.Step.{reserve, manage, adopt, claim, release, sweep, Call, act, query, answer, step}
+use Rattle.layer.specs.Joining.{join}
 use Rattle.layer.specs.History.{Layer, isAnswer}
 use Rattle.layer.specs.Demand.{Demand3}
 use Rattle.layer.specs.Ten.{TenExactly}
@@ -90,9 +91,13 @@ managedEnd (answer kind accepted base) = 0
 
 -- ---- what it does instead
 
+-- it joins as the rules do
+abbrev pub butCalls : (World → ℕ → Settings → Call → Outcome) → Layer
+butCalls does = record { does = does; joins = join }
+
 -- the rules, but where the test holds
 abbrev pub butWhere : (World → Call → Bool) → (World → Outcome → Outcome) → Layer
-butWhere test wrong w ns settings c = cond (test w c) (wrong w (step w ns settings c)) (step w ns settings c)
+butWhere test wrong = butCalls (λ w ns settings c. cond (test w c) (wrong w (step w ns settings c)) (step w ns settings c))
 
 abbrev pub refuses : Refusal → World → Outcome → Outcome
 refuses why w o = outcome (Refused why) w
@@ -235,7 +240,7 @@ clearsPending = butWhere (λ w c. not (isAnswer c)) (λ w o. outcome (o .answer)
 
 -- it answers and leaves what the rules say
 abbrev pub IsRules : Layer → Type 0
-IsRules L = (w : World) (ns : ℕ) (settings : Settings) (c : Call) → L w ns settings c ≡ step w ns settings c
+IsRules L = (w : World) (ns : ℕ) (settings : Settings) (c : Call) → L .does w ns settings c ≡ step w ns settings c
 
 pub record ClaimsFail : Type 0 where
   pub ten-always : Demand3 tenAlways → ⊥

@@ -1,1 +1,1 @@
-// A sequence of calls that meets the premises of demand 3, computed: specs/Example.antt. No code stands here.
+// Wrong layers and wrong joins, with theorems of what each fails: specs/ has them. No code stands here.

@@ -1,8 +1,8 @@
--- The laws of a run of stamps: none, one more, its length, and a run in a part of a list as a run in the whole. Assumes nothing.
+-- The laws of a run of stamps: none, one more, its length, all of them, and a run in a part of a list as a run in the whole. Assumes nothing.
 use Rattle.arena.proofs.Prelude.{_≡_, sym, ap, ap₂, _∙_, List, [], _++_, ℕ, suc, _+_, _-_, _*_, _≤_, _<_, arith, length, getD, set, take, drop, replicate, length-replicate, stampRun}
-use mathlib.Core.List.{_∷_, append-assoc}
+use mathlib.Core.List.{_∷_, append-assoc, append-nil}
 use native.Mathlib.Nat.{add-zero}
-use lib.ListN.{length-append, length-take, length-drop, take-append-drop, replicate-append-replicate}
+use lib.ListN.{drop-of-length-le, length-append, length-take, length-drop, take-append-drop, replicate-append-replicate}
 use lib.Seq.{set-at, drop-cons, take-take, take-add, drop-drop, drop-append-le}
 use Rattle.arena.specs.Stamps.{stampsOf}
 
@@ -26,6 +26,11 @@ stamp-more xs s n at l =
     ∙ ap (λ (t : List ℕ). take s xs ++ t)
     (sym (append-assoc (replicate n at) (at ∷ []) rest)
     ∙ ap₂ _++_ (replicate-append-replicate n 1 at) (ap (λ (k : ℕ). drop k xs) (let z : suc (s + n) ≡ s + (n + 1) = omega arith in z)))
+
+-- all of a list
+pub stamp-all : (xs : List ℕ) (n at : ℕ) → length xs ≡ n → stampRun xs 0 n at ≡ replicate n at
+unfolding stampRun
+stamp-all xs n at e = ap (λ (t : List ℕ). replicate n at ++ t) (drop-of-length-le xs {i = 0 + n} (omega arith)) ∙ append-nil (replicate n at)
 
 -- ---- a part of a list
 

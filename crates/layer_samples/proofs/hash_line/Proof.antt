@@ -15,7 +15,7 @@ use Rattle.arena.specs.declared.Arena.{Arena}
 use Rattle.layer_samples.specs.StateHash.{hashOf}
 use Rattle.layer_samples.specs.Session.{hashedOf}
 use Rattle.layer.specs.declared.State.{State}
-use Rattle.walks.proofs.Two.{Done, finish, meets}
+use Rattle.walks.proofs.ShapeSs.{Done, finish, meets}
 use Rattle.layer_samples.proofs.state_of.Symbol as state-of-def
 use Rattle.layer_samples.proofs.state_of.Symbol.{name as #layer-samples·state-of}
 use Rattle.layer_samples.proofs.state_of.Met as state-of-thm

@@ -34,7 +34,7 @@ use Rattle.walks.proofs.Walk.{Loan, Known, shared, sliceOf}
 use Rattle.walks.proofs.Locals.{Blocks, envOf, rooms, enters, used, room, tests, whiles}
 use Rattle.walks.proofs.Calls.{in-seq, swaps}
 use Rattle.table.proofs.Callable.{LoadOrSpec, load-or-pass}
-use Rattle.walks.proofs.Two.{Done, finish, meets}
+use Rattle.walks.proofs.ShapeSs.{Done, finish, meets}
 use Rattle.layer_samples.specs.StateHash.{withArena, withStamps, ofState, withArenas, hashOf}
 use Rattle.layer_samples.proofs.state_hash.Steps.{CountOf, OfState, WithArena, WithStamps, count-of-step, of-state-step, with-arena-step, with-stamps-pass}
 use Rattle.table.proofs.records.load_or.Symbol as load-def

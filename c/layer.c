@@ -1,5 +1,5 @@
-/* The layer through its C surface: the layout of what is lent, and one sequence of calls whose answers document 01
- * gives. It prints each step, and exits with 0 only if every answer, and what it left in the records, is as it
+/* The layer through its C surface: the layout of what is lent, and one sequence of calls whose answers documents 01
+ * and 02 give. It prints each step, and exits with 0 only if every answer, and what it left in the records, is as it
  * should be.
  *
  *     bash library.sh
@@ -43,6 +43,12 @@ _Static_assert(PAST(pending) == sizeof(struct sirqobal_arena), "pending, then th
 _Static_assert(sizeof(struct sirqobal_state) == 104, "state");
 _Static_assert(sizeof(struct sirqobal_settings) == 32, "settings");
 _Static_assert(sizeof(struct sirqobal_reply) == 160, "reply");
+_Static_assert(sizeof(struct sirqobal_join_reply) == 224, "join reply");
+_Static_assert(offsetof(struct sirqobal_join_reply, number) == 0, "number");
+_Static_assert(offsetof(struct sirqobal_join_reply, spare) == 4, "spare");
+_Static_assert(offsetof(struct sirqobal_join_reply, rise) == 8, "rise");
+_Static_assert(offsetof(struct sirqobal_join_reply, first) == 16, "first");
+_Static_assert(offsetof(struct sirqobal_join_reply, second) == 120, "second");
 
 static struct sirqobal_arena records[SIRQOBAL_RECORDS];
 static uint32_t stamps[SIRQOBAL_STAMPS];
@@ -261,6 +267,155 @@ static void flags(void)
           state.count == 3 && records[0].chunks == 5 && records[0].owned == UINT32_MAX);
 }
 
+/* ---- two tables joined */
+
+static struct sirqobal_arena other_records[SIRQOBAL_RECORDS], other_before[SIRQOBAL_RECORDS];
+static uint32_t other_stamps[SIRQOBAL_STAMPS], other_stamped[SIRQOBAL_STAMPS];
+static struct sirqobal_state other;
+
+#define OTHER other_records, SIRQOBAL_RECORDS, other_stamps, SIRQOBAL_STAMPS, other, ns, settings
+#define BOTH                                                                                                 \
+    records, SIRQOBAL_RECORDS, stamps, SIRQOBAL_STAMPS, other_records, SIRQOBAL_RECORDS, other_stamps,       \
+        SIRQOBAL_STAMPS, state, other, ns, settings
+
+/* A step of the other table. */
+static struct sirqobal_reply other_step(const char *what, struct sirqobal_reply r, uint32_t number, uint32_t kind,
+                                        uint64_t address, uint64_t bytes)
+{
+    struct sirqobal_state first = state;
+    step(what, r, number, kind, address, bytes);
+    other = state;
+    state = first;
+    return r;
+}
+
+static void join_step(const char *what, struct sirqobal_join_reply r, uint32_t number, size_t rise)
+{
+    int fine = r.number == number && r.rise == rise && r.spare == 0;
+    printf("%-52s %3u rise %zu%s\n", what, r.number, r.rise, fine ? "" : "   WRONG");
+    failures += !fine;
+    state = r.first;
+    other = r.second;
+}
+
+/* What stands in both tables, to be compared. */
+static void remember(void)
+{
+    memcpy(before, records, sizeof before);
+    memcpy(stamped, stamps, sizeof stamped);
+    memcpy(other_before, other_records, sizeof other_before);
+    memcpy(other_stamped, other_stamps, sizeof other_stamped);
+}
+
+/* A join that is refused leaves both tables. */
+static void turned_down(const char *what, struct sirqobal_join_reply r, uint32_t number)
+{
+    struct sirqobal_state first = state, second = other;
+    join_step(what, r, number, 0);
+    check("  both tables are left", memcmp(records, before, sizeof records) == 0 &&
+                                        memcmp(stamps, stamped, sizeof stamps) == 0 &&
+                                        memcmp(other_records, other_before, sizeof other_records) == 0 &&
+                                        memcmp(other_stamps, other_stamped, sizeof other_stamps) == 0);
+    check("  both states are left", same(&state, &first) && same(&other, &second));
+}
+
+/* Two arenas: one shared, a chunk of it pending; one exclusive, all of it held. Past the count anything may stand. */
+static void second_table(void)
+{
+    memset(&other_records[2], 0xa5, 30 * sizeof other_records[0]);
+    memset(&other_stamps[2048], 0xa5, 30 * 4096);
+    other_step("second: adopt 3 chunks", sirqobal_adopt_os_block(OTHER, 300 * S, 3 * S), 0, 0, 0, 0);
+    other_step("second: manage 2 chunks, exclusive",
+               sirqobal_manage_os_memory_ex(OTHER, 9 * S, 2 * S, true, false, false, 5, true, false, true), 0, 0, 0, 0);
+    other_step("second: a run of 2 in its arena 1", sirqobal_chunk_alloc_n(OTHER, 1, 2), 0, 0, 9 * S, 0);
+    other_step("second: release a chunk, pending", sirqobal_chunk_release(OTHER, 301 * S, 1, -1, true), 0, 0, 0, 0);
+    check("  its deadline and stamp",
+          other_records[0].deadline == sirqobal_now_ms(ns) + 10 && other_stamps[1] == sirqobal_now_ms(ns));
+}
+
+static void before_joining(void)
+{
+    struct sirqobal_state idle = state;
+    remember();
+    turned_down("join: 31 records of the second",
+                sirqobal_join_tables(records, SIRQOBAL_RECORDS, stamps, SIRQOBAL_STAMPS, other_records, 31,
+                                     other_stamps, SIRQOBAL_STAMPS, state, other, ns, settings),
+                SIRQOBAL_BROKEN);
+    state.question = 5;
+    turned_down("join: a question of no kind", sirqobal_join_tables(BOTH), SIRQOBAL_BROKEN);
+    state = idle;
+
+    step("reserve 1 chunk", sirqobal_reserve_os_memory_ex(LENT, S, true, false, false), 255, SIRQOBAL_MEMORY, 0, S);
+    turned_down("join: the first's question is open", sirqobal_join_tables(BOTH), SIRQOBAL_QUESTION_OPEN);
+    step("there is no memory", sirqobal_answer(LENT, SIRQOBAL_MEMORY, false, 0), SIRQOBAL_MEMORY_REFUSED, 0, 0, 0);
+
+    other_step("second: adopt the first's chunk", sirqobal_adopt_os_block(OTHER, 64 * S, S), 0, 0, 0, 0);
+    remember();
+    turned_down("join: a range in both", sirqobal_join_tables(BOTH), SIRQOBAL_TABLES_OVERLAP);
+    other.count = 2;
+    memset(&other_records[2], 0xa5, sizeof other_records[0]);
+    memset(&other_stamps[2048], 0xa5, 4096);
+}
+
+/* The second's arenas 0 and 1 are 3 and 4 from now on; its arena 1 stands right behind arena 0, and stays apart. */
+static void joining(void)
+{
+    static const struct sirqobal_arena blank[SIRQOBAL_RECORDS];
+    static const uint32_t no_stamps[SIRQOBAL_STAMPS];
+    struct sirqobal_state empty = {0}, five = state;
+    five.count = 5;
+    memset(&records[5], 0x5a, 27 * sizeof records[0]);
+    memset(&stamps[5120], 0x5a, 27 * 4096);
+    remember();
+    join_step("join", sirqobal_join_tables(BOTH), 0, 3);
+    check("  both states", same(&state, &five) && same(&other, &empty));
+    check("  the first's records keep their place", memcmp(records, before, 3 * sizeof records[0]) == 0);
+    check("  the second's records follow", memcmp(&records[3], other_before, 2 * sizeof records[0]) == 0);
+    check("  what stood behind them stands", memcmp(&records[5], &before[5], 27 * sizeof records[0]) == 0);
+    check("  the stamps likewise", memcmp(stamps, stamped, 3 * 4096) == 0 &&
+                                       memcmp(&stamps[3072], other_stamped, 2 * 4096) == 0 &&
+                                       memcmp(&stamps[5120], &stamped[5120], 27 * 4096) == 0);
+    check("  the second is empty", memcmp(other_records, blank, sizeof blank) == 0 &&
+                                       memcmp(other_stamps, no_stamps, sizeof no_stamps) == 0);
+}
+
+static void after_joining(void)
+{
+    struct sirqobal_reply r;
+    step("a claim in arena 4, which is full", sirqobal_chunk_alloc(LENT, 4), SIRQOBAL_NO_RUN, 0, 0, 0);
+    step("adopt at the seam of two arenas", sirqobal_adopt_os_block(LENT, 9 * S, S), SIRQOBAL_RANGE, 0, 0, 0);
+    step("its holder releases a chunk", sirqobal_chunk_release(LENT, 10 * S, 1, -1, false), 0, 0, 0, 0);
+    r = step("and claims it again", sirqobal_chunk_alloc(LENT, 4), 0, 0, 10 * S, 0);
+    check("  not fresh", !r.fresh);
+    step("area 4", sirqobal_arena_area(LENT, 4), 0, 0, 9 * S, 2 * S);
+    ns += 20000000;
+    step("the sweep asks about what was pending", sirqobal_purge_due(LENT, false), 255, SIRQOBAL_PURGE, 301 * S, S);
+    r = step("purged; the sweep ends", sirqobal_answer(LENT, SIRQOBAL_PURGE, true, 0), 0, 0, 0, 0);
+    check("  one was purged", r.count == 1 && records[3].committed[0] == 5);
+}
+
+/* The emptied table is used and joined again, until 32 arenas stand; the give-up mark stands if it stood in both. */
+static void joining_again(void)
+{
+    for (uint64_t i = 0; i < 27; i++)
+        other = sirqobal_adopt_os_block(OTHER, (1000 + 2 * i) * S, S).state;
+    check("  27 arenas in the second", other.count == 27);
+    other.mark = 1;
+    join_step("join: 32 arenas", sirqobal_join_tables(BOTH), 0, 5);
+    check("  the mark stood in one", state.count == 32 && state.mark == 0 && other.mark == 0);
+    state.mark = 1;
+    other_step("second: adopt", sirqobal_adopt_os_block(OTHER, 3000 * S, S), 0, 0, 0, 0);
+    remember();
+    turned_down("join: a 33rd arena", sirqobal_join_tables(BOTH), SIRQOBAL_TOO_MANY_ARENAS);
+    other_step("second: adopt one of the first's", sirqobal_adopt_os_block(OTHER, 4 * S, S), 0, 0, 0, 0);
+    remember();
+    turned_down("join: in both, and a 33rd", sirqobal_join_tables(BOTH), SIRQOBAL_TABLES_OVERLAP);
+    memset(&other, 0, sizeof other);
+    other.mark = 1;
+    join_step("join: nothing", sirqobal_join_tables(BOTH), 0, 32);
+    check("  the mark stood in both", state.count == 32 && state.mark == 1 && other.mark == 0);
+}
+
 int main(void)
 {
     registering();
@@ -270,6 +425,11 @@ int main(void)
     queries();
     broken();
     flags();
+    second_table();
+    before_joining();
+    joining();
+    after_joining();
+    joining_again();
     printf("%d wrong\n", failures);
     return failures != 0;
 }

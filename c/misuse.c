@@ -1,6 +1,6 @@
-/* The headers used wrongly, and at their edges: each refusal with document 01's example and what it leaves, NULL, hosts
- * that answer nonsense, broken tables drawn, products of many chunks. It prints what is not as it should be, and exits
- * with 0 only if nothing is. It is C and C++ at once:
+/* The headers used wrongly, and at their edges: each refusal with document 01's example and what it leaves, NULL, joins
+ * of what cannot be joined, hosts that answer nonsense, broken tables drawn, products of many chunks. It prints what is
+ * not as it should be, and exits with 0 only if nothing is. It is C and C++ at once:
  *
  *     gcc -std=c11 -Wall -Wextra -Wpedantic -Werror -Iinclude c/misuse.c build/lib/libsirqobal.a -o misuse
  *     g++ -x c++ -std=c++17 -Iinclude c/misuse.c -x none build/lib/libsirqobal.a -o misuse */
@@ -24,9 +24,10 @@ static_assert(sizeof(200 * SIRQOBAL_CHUNK) == 8, "a product of chunks has 64 bit
 static_assert(sizeof(SIRQOBAL_SLICES * SIRQOBAL_SLICE) == 8, "a product of slices has 64 bits");
 static_assert(sizeof(struct sirqobal_state) == 104 && sizeof(struct sirqobal_arena) == 544, "a saved table's parts");
 static_assert(sizeof(struct sirqobal_settings) == 32 && sizeof(struct sirqobal_reply) == 160, "what is passed");
+static_assert(sizeof(struct sirqobal_join_reply) == 224, "what a join answers");
 
-static struct sirqobal_table table, before;
-static struct sirqobal_memory memory;
+static struct sirqobal_table table, before, second, second_before;
+static struct sirqobal_memory memory, second_memory;
 static int checks, failures;
 
 static void check(const char *what, bool so)
@@ -94,10 +95,10 @@ static void example(void)
 
 static void texts(void)
 {
-    for (uint32_t i = 0; i <= 17; i++) {
-        uint32_t number = i == 17 ? SIRQOBAL_QUESTION : i;
+    for (uint32_t i = 0; i <= 19; i++) {
+        uint32_t number = i == 19 ? SIRQOBAL_QUESTION : i;
         check("a number has a text", strlen(sirqobal_refusal_text(number)) > 5);
-        check("it is no other's", strcmp(sirqobal_refusal_text(number), sirqobal_refusal_text(17)) != 0);
+        check("it is no other's", strcmp(sirqobal_refusal_text(number), sirqobal_refusal_text(19)) != 0);
         for (uint32_t j = 0; j < i; j++)
             check("two numbers have two texts", strcmp(sirqobal_refusal_text(number), sirqobal_refusal_text(j)) != 0);
     }
@@ -362,6 +363,251 @@ static void settle_to_the_end(void)
     check("counts 3", r.count == 3 && host.asked[SIRQOBAL_PURGE] == 3);
 }
 
+/* ---- joins */
+
+/* The example, and a second table with a held chunk, a pending one and the give-up mark. */
+static void two_tables(void)
+{
+    example();
+    sirqobal_table_init(&second);
+    check("a block", sirqobal_table_adopt(&second, 5 * BASE, 3 * S).number == SIRQOBAL_GRANTED);
+    check("a claim", sirqobal_table_claim(&second, 0, 1).number == SIRQOBAL_GRANTED);
+    check("a release", sirqobal_table_release(&second, 5000000, 5 * BASE + 2 * S, 1, SIRQOBAL_TOLD_NOTHING, true)
+                               .number == SIRQOBAL_GRANTED);
+    second.records[0].owned = 77; /* on, as every number but 0 */
+    second.state.mark = 1;
+    second_before = second;
+}
+
+/* A join that is refused has nothing but its number, and leaves both tables as they are remembered. */
+static void left_both(const char *what, struct sirqobal_join_reply r, uint32_t number)
+{
+    check(what, r.number == number && r.spare == 0 && r.rise == 0);
+    check("both states come back", same_state(&r.first, &before.state) && same_state(&r.second, &second_before.state));
+    check("both states are left",
+          same_state(&table.state, &before.state) && same_state(&second.state, &second_before.state));
+    check("both tables are left", same_lent(&table, &before) && same_lent(&second, &second_before));
+    check("no id rises", sirqobal_risen(&r, 0) == 0 && sirqobal_risen(&r, 31) == 31);
+}
+
+/* The same, of the two tables as they are now. */
+static void refuses_join(const char *what, uint32_t number)
+{
+    before = table;
+    second_before = second;
+    left_both(what, sirqobal_table_join(&table, &second), number);
+}
+
+/* A table's two arrays with the lengths that are passed for them. */
+struct lent {
+    struct sirqobal_arena *records;
+    size_t record_count;
+    uint32_t *stamps;
+    size_t stamp_count;
+};
+
+static struct lent lent_of(struct sirqobal_table *of, size_t record_count, size_t stamp_count)
+{
+    struct lent lent = {record_count == 0 ? NULL : of->records, record_count, stamp_count == 0 ? NULL : of->stamps,
+                        stamp_count};
+    return lent;
+}
+
+static struct sirqobal_join_reply join(struct lent a, struct lent b)
+{
+    return sirqobal_join_tables(a.records, a.record_count, a.stamps, a.stamp_count, b.records, b.record_count, b.stamps,
+                                b.stamp_count, table.state, second.state, 1, table.settings);
+}
+
+/* Too few, none, and one too many, of the records and the stamps of either side. */
+static void join_lengths(void)
+{
+    static struct sirqobal_arena records[SIRQOBAL_RECORDS + 1];
+    static uint32_t stamps[SIRQOBAL_STAMPS + 1];
+    const size_t fewer[][2] = {{0, 0}, {0, SIRQOBAL_STAMPS}, {SIRQOBAL_RECORDS, 0}, {1, 1024},
+                               {SIRQOBAL_RECORDS - 1, SIRQOBAL_STAMPS}, {SIRQOBAL_RECORDS, SIRQOBAL_STAMPS - 1}};
+    two_tables();
+    struct lent first = lent_of(&table, SIRQOBAL_RECORDS, SIRQOBAL_STAMPS);
+    struct lent other = lent_of(&second, SIRQOBAL_RECORDS, SIRQOBAL_STAMPS);
+    for (size_t i = 0; i < sizeof fewer / sizeof fewer[0]; i++) {
+        left_both("the first is short", join(lent_of(&table, fewer[i][0], fewer[i][1]), other), SIRQOBAL_BROKEN);
+        left_both("the second is short", join(first, lent_of(&second, fewer[i][0], fewer[i][1])), SIRQOBAL_BROKEN);
+    }
+    struct lent longer = {records, SIRQOBAL_RECORDS + 1, table.stamps, SIRQOBAL_STAMPS};
+    left_both("33 records of the first", join(longer, other), SIRQOBAL_BROKEN);
+    longer.stamps = second.stamps;
+    left_both("33 records of the second", join(first, longer), SIRQOBAL_BROKEN);
+    struct lent stamped = {table.records, SIRQOBAL_RECORDS, stamps, SIRQOBAL_STAMPS + 1};
+    left_both("32,769 stamps of the first", join(stamped, other), SIRQOBAL_BROKEN);
+    stamped.records = second.records;
+    left_both("32,769 stamps of the second", join(first, stamped), SIRQOBAL_BROKEN);
+}
+
+/* A page size, a state's number and a record that make a table broken, on either side. */
+static void broken_joins(void)
+{
+    two_tables();
+    table.settings.page = 5000;
+    refuses_join("an unsound page size", SIRQOBAL_BROKEN);
+    for (int side = 0; side < 2; side++) {
+        two_tables();
+        struct sirqobal_table *bad = side == 0 ? &table : &second;
+        struct sirqobal_state sound = bad->state;
+        bad->state.mark = 2;
+        refuses_join("a mark that is none", SIRQOBAL_BROKEN);
+        bad->state = sound;
+        bad->state.question = 5;
+        refuses_join("a question of no kind", SIRQOBAL_BROKEN);
+        bad->state = sound;
+        bad->state.purged = SIZE_MAX;
+        refuses_join("a number that the state does not use", SIRQOBAL_BROKEN);
+        bad->state = sound;
+        bad->state.count = SIRQOBAL_RECORDS + 1;
+        refuses_join("33 arenas on one side", SIRQOBAL_BROKEN);
+        bad->state.count = SIZE_MAX;
+        refuses_join("more than that", SIRQOBAL_BROKEN);
+        bad->state = sound;
+        bad->records[0].pending[31] = 1;
+        refuses_join("a bit past the last chunk", SIRQOBAL_BROKEN);
+        bad->records[0].pending[31] = 0;
+    }
+    sirqobal_table_init(&table);
+    table.settings.page = 0;
+    sirqobal_table_init(&second);
+    refuses_join("two empty tables, no page size", SIRQOBAL_BROKEN);
+}
+
+/* A table with a question of this kind open. */
+static void open_question(struct sirqobal_table *asking, uint32_t kind, uint64_t at)
+{
+    sirqobal_table_init(asking);
+    struct sirqobal_reply r = sirqobal_table_reserve(asking, S, false, false, true);
+    if (kind == SIRQOBAL_GIVE_BACK)
+        r = sirqobal_table_answer(asking, SIRQOBAL_MEMORY, true, at + 4096);
+    if (kind == SIRQOBAL_COMMIT || kind == SIRQOBAL_PURGE) {
+        check("an arena", sirqobal_table_answer(asking, SIRQOBAL_MEMORY, true, at).number == SIRQOBAL_GRANTED);
+        r = sirqobal_table_claim(asking, 0, 1);
+    }
+    if (kind == SIRQOBAL_PURGE) {
+        check("a chunk", sirqobal_table_answer(asking, SIRQOBAL_COMMIT, true, 0).number == SIRQOBAL_GRANTED);
+        check("goes", sirqobal_table_release(asking, 1, at, 1, SIRQOBAL_TOLD_NOTHING, true).number == SIRQOBAL_GRANTED);
+        r = sirqobal_table_sweep(asking, 1, true);
+    }
+    check("it asks", r.number == SIRQOBAL_QUESTION && asking->state.question == kind);
+}
+
+static void joins_while_open(void)
+{
+    for (uint32_t kind = SIRQOBAL_COMMIT; kind <= SIRQOBAL_GIVE_BACK; kind++) {
+        two_tables();
+        open_question(&table, kind, 9 * BASE);
+        refuses_join("2: the first asks", SIRQOBAL_QUESTION_OPEN);
+        open_question(&second, kind, 9 * BASE);
+        refuses_join("2 before 17: both ask", SIRQOBAL_QUESTION_OPEN);
+        check("both questions are there", table.asked.kind == kind && second.asked.kind == kind);
+        example();
+        refuses_join("2: the second asks", SIRQOBAL_QUESTION_OPEN);
+        table.state.mark = 7;
+        refuses_join("1 of the first before 2 of the second", SIRQOBAL_BROKEN);
+        open_question(&table, kind, 9 * BASE);
+        second.records[0].base = 1;
+        second.state.count = 1;
+        refuses_join("1 of the second before 2 of the first", SIRQOBAL_BROKEN);
+    }
+}
+
+static void joins_of_the_same_range(void)
+{
+    two_tables();
+    second = table;
+    refuses_join("17: a copy", SIRQOBAL_TABLES_OVERLAP);
+    refuses_join("17: and again", SIRQOBAL_TABLES_OVERLAP);
+    for (uint64_t start = 0; start <= 8; start++) {
+        two_tables();
+        check("a block about the arena",
+              sirqobal_table_adopt(&second, BASE + (start - 4) * S, 4 * S).number == SIRQOBAL_GRANTED);
+        second_before = second;
+        if (start != 0 && start != 8)
+            refuses_join("17: some of its chunks", SIRQOBAL_TABLES_OVERLAP);
+        else
+            check("neighbours are joined", sirqobal_table_join(&table, &second).rise == 1 && table.state.count == 3);
+    }
+    two_tables();
+    struct sirqobal_join_reply r = sirqobal_table_join(&table, &table);
+    check("17: with itself", r.number == SIRQOBAL_TABLES_OVERLAP && r.rise == 0);
+    check("it is left", same_lent(&table, &before) && same_state(&table.state, &before.state) &&
+                            same_state(&r.first, &before.state) && same_state(&r.second, &before.state));
+}
+
+static void joins_of_many(void)
+{
+    two_tables();
+    for (uint64_t i = 1; i < SIRQOBAL_RECORDS; i++)
+        check("an arena", sirqobal_table_adopt(&second, 5 * BASE + 8 * i * S, S).id == i);
+    refuses_join("18: 33 arenas", SIRQOBAL_TOO_MANY_ARENAS);
+    grants("one of the second's", sirqobal_table_adopt(&table, 5 * BASE + 8 * 31 * S, S));
+    refuses_join("17 before 18", SIRQOBAL_TABLES_OVERLAP);
+    two_tables();
+    for (uint64_t i = 1; i < SIRQOBAL_RECORDS - 1; i++)
+        grants("an arena", sirqobal_table_adopt(&table, 20 * BASE + 8 * i * S, S));
+    before = table;
+    struct sirqobal_join_reply r = sirqobal_table_join(&table, &second);
+    check("32 are joined", r.number == SIRQOBAL_GRANTED && r.rise == 31 && table.state.count == 32);
+    check("the last is the second's", memcmp(&table.records[31], &second_before.records[0],
+                                             sizeof table.records[0]) == 0 &&
+                                          memcmp(&table.stamps[31 * 1024], second_before.stamps, 4096) == 0);
+    check("the others are the first's", memcmp(table.records, before.records, 31 * sizeof table.records[0]) == 0 &&
+                                            memcmp(table.stamps, before.stamps, 31 * 4096) == 0);
+    check("ids rise", sirqobal_risen(&r, 0) == 31 && sirqobal_risen(&r, 1) == 32 && sirqobal_risen(&r, 31) == 62);
+    const int32_t no_arena[] = {SIRQOBAL_ANY, INT32_MIN, 32, INT32_MAX};
+    for (size_t i = 0; i < sizeof no_arena / sizeof no_arena[0]; i++)
+        check("what is no arena's stays", sirqobal_risen(&r, no_arena[i]) == no_arena[i]);
+    r = sirqobal_table_join(&table, &second);
+    check("an empty second, too", r.number == SIRQOBAL_GRANTED && r.rise == 32 && table.state.count == 32);
+}
+
+/* Default reserves are given up if they were in both, whether arenas stand there or not. */
+static void joins_of_marks(void)
+{
+    for (uint32_t marks = 0; marks < 8; marks++) {
+        two_tables();
+        if (marks >= 4)
+            sirqobal_table_init(&second);
+        table.state.mark = marks & 1;
+        second.state.mark = marks >> 1 & 1;
+        check("joined", sirqobal_table_join(&table, &second).number == SIRQOBAL_GRANTED);
+        check("the mark stands if it stood in both", table.state.mark == (marks % 4 == 3) && second.state.mark == 0);
+    }
+}
+
+/* Joined: both go on, each by itself. */
+static void joins(void)
+{
+    static struct sirqobal_table empty;
+    two_tables();
+    second.settings.page = 0; /* the first's settings count */
+    struct sirqobal_join_reply r = sirqobal_table_join(&table, &second);
+    check("joined", r.number == SIRQOBAL_GRANTED && r.spare == 0 && r.rise == 1);
+    check("the states are put back", same_state(&table.state, &r.first) && same_state(&second.state, &r.second));
+    check("the mark stood in one", table.state.count == 2 && table.state.mark == 0);
+    check("the second is empty", same_lent(&second, &empty) && same_state(&second.state, &empty.state));
+    check("both keep their settings",
+          table.settings.page == 4096 && second.settings.page == 0 && second.settings.delay == 10);
+    second.settings.page = 4096;
+    int32_t id = sirqobal_risen(&r, 0);
+    struct sirqobal_reply run = sirqobal_table_claim(&table, id, 1);
+    grants("the lowest of the second's", run);
+    check("where it would have been", run.address == 5 * BASE + S && !run.fresh);
+    struct script host = host_of(true, 0);
+    run = sirqobal_table_settle(&table, sirqobal_table_sweep(&table, 100000000, false), scripted, &host);
+    check("what was pending is due", run.count == 1 && host.last.address == 5 * BASE + 2 * S);
+    check("the second knows nothing of it",
+          sirqobal_table_release(&second, 1, 5 * BASE, 1, 0, false).number == SIRQOBAL_NOT_INSIDE);
+    check("it begins anew", sirqobal_table_adopt(&second, 7 * BASE, S).id == 0);
+    r = sirqobal_table_join(&table, &second);
+    check("and is joined again", r.rise == 2 && table.records[2].base == 7 * BASE && second.state.count == 0);
+}
+
 /* ---- the host over the real OS */
 
 /* A page that somebody else mapped: whatever is asked about it, the host answers no and leaves it. */
@@ -471,6 +717,75 @@ static void real_memory(void)
     check("the end", sirqobal_memory_end(&memory));
 }
 
+/* A memory with one arena of 2 chunks, of which the first is held and full of a byte: where it is. */
+static unsigned char *one_held(struct sirqobal_memory *holder, unsigned char byte)
+{
+    sirqobal_memory_init(holder);
+    check("an arena", sirqobal_memory_reserve(holder, 2 * S, true).number == SIRQOBAL_GRANTED);
+    struct sirqobal_reply run = sirqobal_memory_claim(holder, 0, 1);
+    check("a chunk", run.number == SIRQOBAL_GRANTED);
+    if (run.number == SIRQOBAL_GRANTED)
+        memset(sirqobal_at(run.address), byte, S);
+    return (unsigned char *)sirqobal_at(run.address);
+}
+
+static bool is_full_of(const unsigned char *bytes, unsigned char byte)
+{
+    return bytes != NULL && bytes[0] == byte && memcmp(bytes, bytes + 1, S - 1) == 0;
+}
+
+/* The mappings go along; each end unmaps what is its own then, in either order. */
+static void joined_memory(bool first_ends_first)
+{
+    uint64_t addresses = mapped_addresses();
+    unsigned char *ring = one_held(&memory, 1), *telemetry = one_held(&second_memory, 2);
+    struct sirqobal_join_reply r = sirqobal_memory_join(&memory, &second_memory);
+    check("joined", r.number == SIRQOBAL_GRANTED && r.rise == 1);
+    check("the mappings are the first's", memory.os.count == 2 && second_memory.os.count == 0);
+    check("every byte is there", is_full_of(ring, 1) && is_full_of(telemetry, 2));
+    int32_t id = sirqobal_risen(&r, 0);
+    struct sirqobal_reply next = sirqobal_memory_claim(&memory, id, 1);
+    check("the next of the second's", sirqobal_at(next.address) == telemetry + S && next.fresh && next.committed);
+    check("not through the second",
+          sirqobal_memory_release(&second_memory, next.address, 1).number == SIRQOBAL_NOT_INSIDE);
+    check("through the first", sirqobal_memory_release(&memory, next.address, 1).number == SIRQOBAL_GRANTED);
+    check("and swept", sirqobal_memory_sweep(&memory, true).count == 1 && !is_open(next.address));
+    check("the held ones are left", is_full_of(ring, 1) && is_full_of(telemetry, 2));
+
+    unsigned char *again = one_held(&second_memory, 3);
+    check("the second has its own", is_full_of(again, 3) && second_memory.os.count == 1 && memory.os.count == 2);
+    check("one end", sirqobal_memory_end(first_ends_first ? &memory : &second_memory));
+    check("leaves the other's",
+          first_ends_first ? is_full_of(again, 3) : is_full_of(ring, 1) && is_full_of(telemetry, 2));
+    check("the other end", sirqobal_memory_end(first_ends_first ? &second_memory : &memory));
+    check("nothing is kept", mapped_addresses() <= addresses + 8);
+}
+
+/* A refused join moves no mapping. */
+static void unjoined_memory(void)
+{
+    unsigned char *ring = one_held(&memory, 1), *telemetry = one_held(&second_memory, 2);
+    second_memory.table.state.mark = 2;
+    check("1", sirqobal_memory_join(&memory, &second_memory).number == SIRQOBAL_BROKEN);
+    second_memory.table.state.mark = 0;
+    check("17, with itself", sirqobal_memory_join(&memory, &memory).number == SIRQOBAL_TABLES_OVERLAP);
+    check("the mappings stay", memory.os.count == 1 && second_memory.os.count == 1);
+
+    /* As if the OS had refused to unmap 32 blocks. */
+    memory.os.count = SIRQOBAL_LINUX_RANGES;
+    struct sirqobal_join_reply r = sirqobal_memory_join(&memory, &second_memory);
+    check("14: no room for a mapping", r.number == SIRQOBAL_MEMORY_REFUSED && r.rise == 0 && memory.os.error == ENOMEM);
+    check("both are left", same_state(&r.first, &memory.table.state) && memory.table.state.count == 1 &&
+                               same_state(&r.second, &second_memory.table.state) && second_memory.os.count == 1);
+    memory.os.count = 1;
+    for (size_t i = 1; i < SIRQOBAL_RECORDS; i++)
+        check("an arena", sirqobal_memory_reserve(&memory, S, true).id == i);
+    check("18", sirqobal_memory_join(&memory, &second_memory).number == SIRQOBAL_TOO_MANY_ARENAS);
+    check("the mappings stay", memory.os.count == SIRQOBAL_RECORDS && second_memory.os.count == 1);
+    check("every byte, too", is_full_of(ring, 1) && is_full_of(telemetry, 2));
+    check("the ends", sirqobal_memory_end(&memory) && sirqobal_memory_end(&second_memory));
+}
+
 /* ---- pictures */
 
 /* What is drawn of the table, at most so many bytes. */
@@ -573,9 +888,19 @@ int main(void)
     settle_at_1();
     settle_at_3();
     settle_to_the_end();
+    joins();
+    join_lengths();
+    broken_joins();
+    joins_while_open();
+    joins_of_the_same_range();
+    joins_of_many();
+    joins_of_marks();
     not_its_own();
     linux_host();
     real_memory();
+    joined_memory(true);
+    joined_memory(false);
+    unjoined_memory();
     pictures();
     broken_pictures();
     saved();

@@ -1,5 +1,5 @@
 /* A yardstick for the benchmark, and nothing that anyone links: calls of the layer in plain C, over the same lent table
- * and by the same ABI as include/sirqobal.h, written from document 01. It shows what such calls cost in C where every
+ * and by the same ABI as include/sirqobal.h, written from documents 01 and 02. It shows what such calls cost in C where every
  * call pays for all of row 1, as the proved ones do. Nothing here is proved; rust/compare holds its answers against the
  * library's.
  *
@@ -470,4 +470,47 @@ struct sirqobal_reply reference_answer(LENT, uint32_t kind, bool yes, uint64_t b
     if (kind == SIRQOBAL_PURGE && state.question == kind)
         return answer_purge(records, stamps, &state, yes);
     return refuse(SIRQOBAL_NO_SUCH_QUESTION, state);
+}
+
+/* ---- a join: 1 and 2 of both tables, then "17 when a range of one overlaps a range of the other, 18 when more than 32
+ * arenas result" */
+
+static bool overlap(const struct sirqobal_arena *records, size_t count, const struct sirqobal_arena *second_records,
+                    size_t second_count)
+{
+    for (size_t i = 0; i < count; i++)
+        for (size_t j = 0; j < second_count; j++)
+            if (records[i].base < end_of(&second_records[j]) && second_records[j].base < end_of(&records[i]))
+                return true;
+    return false;
+}
+
+struct sirqobal_join_reply reference_join_tables(struct sirqobal_arena *records, size_t record_count, uint32_t *stamps,
+                                                 size_t stamp_count, struct sirqobal_arena *second_records,
+                                                 size_t second_record_count, uint32_t *second_stamps,
+                                                 size_t second_stamp_count, struct sirqobal_state state,
+                                                 struct sirqobal_state second, uint64_t ns,
+                                                 struct sirqobal_settings settings)
+{
+    struct sirqobal_join_reply reply = {.first = state, .second = second};
+    if (!sound(records, record_count, stamp_count, &state, settings.page) ||
+        !sound(second_records, second_record_count, second_stamp_count, &second, settings.page))
+        reply.number = SIRQOBAL_BROKEN;
+    else if (state.question != SIRQOBAL_NONE || second.question != SIRQOBAL_NONE)
+        reply.number = SIRQOBAL_QUESTION_OPEN;
+    else if (overlap(records, state.count, second_records, second.count))
+        reply.number = SIRQOBAL_TABLES_OVERLAP;
+    else if (state.count + second.count > SIRQOBAL_RECORDS)
+        reply.number = SIRQOBAL_TOO_MANY_ARENAS;
+    if (reply.number != SIRQOBAL_GRANTED)
+        return reply;
+
+    memcpy(records + state.count, second_records, second.count * sizeof *records);
+    memcpy(stamps + MAX_CHUNKS * state.count, second_stamps, MAX_CHUNKS * second.count * sizeof *stamps);
+    memset(second_records, 0, SIRQOBAL_RECORDS * sizeof *second_records);
+    memset(second_stamps, 0, SIRQOBAL_STAMPS * sizeof *second_stamps);
+    reply.rise = state.count;
+    reply.first = (struct sirqobal_state){.count = state.count + second.count, .mark = state.mark & second.mark};
+    reply.second = (struct sirqobal_state){.count = 0};
+    return reply;
 }

@@ -1,6 +1,7 @@
 #!/usr/bin/env bash
 # Builds the C programs into target/c and runs them: the layer's answers, the headers at their edges (as C and as C++),
-# two programs over real memory, and the picture of what they left. SIRQOBAL_LIB_DIR names another folder for the library.
+# two programs over real memory, on one layer and on two that are joined, and the pictures of what they left.
+# SIRQOBAL_LIB_DIR names another folder for the library.
 set -euo pipefail
 cd "$(dirname "${BASH_SOURCE[0]}")/.."
 library=${SIRQOBAL_LIB_DIR:-build/lib}/libsirqobal.a
@@ -9,7 +10,7 @@ out=target/c
 mkdir -p "$out"
 strict=(-Wall -Wextra -Wpedantic -Werror -Iinclude)
 
-for name in layer misuse two_programs picture; do
+for name in layer misuse two_programs joined picture; do
     gcc -std=c11 -O2 "${strict[@]}" "c/$name.c" "$library" -o "$out/$name"
 done
 gcc -O2 "${strict[@]}" c/ten_lines.c "$library" -o "$out/ten_lines"
@@ -18,6 +19,8 @@ gcc -O2 "${strict[@]}" c/ten_lines.c "$library" -o "$out/ten_lines"
 "$out/ten_lines"
 "$out/two_programs" "$out/table"
 "$out/picture" "$out/table"
+"$out/joined" "$out/joined.table"
+"$out/picture" "$out/joined.table"
 
 if command -v g++ >/dev/null; then
     g++ -x c++ -std=c++17 -O2 "${strict[@]}" c/misuse.c -x none "$library" -o "$out/misuse_cpp"
@@ -35,14 +38,14 @@ grep -q 'unused-result' "$out/thrown"
 
 # Nothing undefined, as far as the tools see it.
 if gcc -fsanitize=address,undefined -x c -o "$out/probe" - <<<'int main(void) { return 0; }' 2>/dev/null; then
-    for name in misuse two_programs; do
+    for name in misuse two_programs joined; do
         gcc -std=c11 -g -O1 -fsanitize=address,undefined -fno-sanitize-recover=all "${strict[@]}" "c/$name.c" "$library" \
             -o "$out/${name}_sanitized"
         "$out/${name}_sanitized" >"$out/$name.out" || { cat "$out/$name.out"; exit 1; }
     done
 fi
 if command -v valgrind >/dev/null; then
-    for name in misuse two_programs; do
+    for name in misuse two_programs joined; do
         valgrind --quiet --error-exitcode=1 "$out/$name" >"$out/$name.out" || { cat "$out/$name.out"; exit 1; }
     done
 fi

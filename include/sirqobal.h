@@ -5,7 +5,7 @@
  * nothing undefined. Bad input is turned down by the number of a refusal. What the caller has to keep:
  * - A pointer points to as many elements as the length beside it says, aligned as their type asks (records 8,
  *   words and stamps 4). NULL goes only with length 0, which is then refused with 1.
- * - The arrays of one call do not overlap.
+ * - The arrays of one call do not overlap; neither do those of the two tables that are joined.
  * - One thread at a time on one table. The library keeps nothing of its own between calls, so two threads may
  *   use two tables.
  * - The reply brings the state that the next call is lent: a reply thrown away loses it. `struct sirqobal_table`
@@ -26,9 +26,9 @@
 #endif
 
 #define SIRQOBAL_VERSION_MAJOR 0
-#define SIRQOBAL_VERSION_MINOR 1
+#define SIRQOBAL_VERSION_MINOR 2
 #define SIRQOBAL_VERSION_PATCH 0
-#define SIRQOBAL_VERSION "0.1.0"
+#define SIRQOBAL_VERSION "0.2.0"
 
 /* Whoever throws the answer away is warned. */
 #if defined(__GNUC__)
@@ -70,7 +70,9 @@ enum sirqobal_refusal {
     SIRQOBAL_TABLE_FULL = 13,      /* 32 arenas stand */
     SIRQOBAL_MEMORY_REFUSED = 14,  /* the memory was answered no */
     SIRQOBAL_NO_WHOLE_CHUNK = 15,  /* start 0, a sum past 2^64 - 1, no whole chunk */
-    SIRQOBAL_HOST_REFUSED = 16     /* in the segment map already, or not reserved */
+    SIRQOBAL_HOST_REFUSED = 16,    /* in the segment map already, or not reserved */
+    SIRQOBAL_TABLES_OVERLAP = 17,  /* a join: an arena of one table and one of the other share an address */
+    SIRQOBAL_TOO_MANY_ARENAS = 18  /* a join: the two tables have more than 32 arenas */
 };
 
 /* `number` of a reply that is a question: neither a grant nor a refusal. */
@@ -98,6 +100,8 @@ static inline const char *sirqobal_refusal_text(uint32_t number)
     case SIRQOBAL_MEMORY_REFUSED: return "the memory was answered no";
     case SIRQOBAL_NO_WHOLE_CHUNK: return "no whole chunk lies in the range";
     case SIRQOBAL_HOST_REFUSED: return "the range is mapped already or not reserved";
+    case SIRQOBAL_TABLES_OVERLAP: return "a range of one table overlaps a range of the other";
+    case SIRQOBAL_TOO_MANY_ARENAS: return "the two tables have more than 32 arenas";
     case SIRQOBAL_QUESTION: return "the host is asked";
     default: return "no number of a reply";
     }
@@ -190,7 +194,7 @@ enum sirqobal_kind {
  * it should be) makes the table broken: 1. */
 struct sirqobal_state {
     size_t count;       /* arenas that stand */
-    uint32_t mark;      /* 1: default reserves are given up, for good; no call clears it */
+    uint32_t mark;      /* 1: default reserves are given up; nothing but a join clears it */
     uint32_t question;  /* the open question's kind */
     size_t id;          /* commit, purge: the arena */
     size_t start;       /* commit: the first chunk; purge: the chunk */
@@ -215,7 +219,7 @@ struct sirqobal_settings {
     uint32_t decommits; /* a purge decommits (option 5) */
     uint32_t off;       /* arenas serve only claims that name them (option 27) */
     uint64_t reserve;   /* what a claim that finds nothing reserves, in bytes (option 23); below a chunk: nothing.
-                         * The first such reserve that fails sets state.mark: it is given up for good. */
+                         * The first such reserve that fails sets state.mark, and is the last. */
     uint64_t page;      /* the page size: 4,096 .. 65,536, a power of two; any other is refused with 1 */
 };
 
@@ -239,6 +243,15 @@ struct sirqobal_reply {
     struct sirqobal_state state;
 };
 
+/* What a join answers, and the state that it leaves of each table. */
+struct sirqobal_join_reply {
+    uint32_t number;             /* 0 joined, else the refusal: 1, 2, 17 or 18 */
+    uint32_t spare;              /* always 0 */
+    size_t rise;                 /* joined: by so much the ids of the second's arenas have risen; else 0 */
+    struct sirqobal_state first;
+    struct sirqobal_state second;
+};
+
 /* A claim's id: every arena that is not exclusive. Every negative id means this. */
 #define SIRQOBAL_ANY (-1)
 
@@ -260,9 +273,9 @@ enum sirqobal_told {
  *
  * What a refusal leaves: records, stamps and state as they were, except that
  * - 10 may leave a new arena, or state.mark set: a claim with a negative id reserved (settings.reserve), and the new
- *   arena has no such run either, or the reserve failed. The mark is for good: from then on no claim reserves, and
- *   what finds nothing is refused with 10 at once, until sirqobal_reserve_os_memory_ex, sirqobal_manage_os_memory_ex
- *   or sirqobal_adopt_os_block bring an arena;
+ *   arena has no such run either, or the reserve failed. The mark stays, unless the table is joined with one that has
+ *   none: from then on no claim reserves, and what finds nothing is refused with 10 at once, until
+ *   sirqobal_reserve_os_memory_ex, sirqobal_manage_os_memory_ex or sirqobal_adopt_os_block bring an arena;
  * - 11 gives the run back that the claim had taken (its used bits are clear again), and may leave a new arena that
  *   the claim reserved;
  * - an answer that is refused with 7, 10, 11, 12, 13 or 14 ends the call that asked, and closes the question.
@@ -455,6 +468,41 @@ struct sirqobal_reply sirqobal_arena_area(const struct sirqobal_arena *records,
                                           struct sirqobal_settings settings,
                                           int32_t id);
 
+/* Joins two tables that are both in use: the second's arenas go to the first, and the second is left empty. It is lent
+ * the records, the stamps and the state of each; records and stamps of the one do not overlap those of the other in
+ * memory. The clock and the settings are one for both; of the settings only the page size is read.
+ * Joined: the second's arena i is the first's arena `rise` + i, `rise` being the first's count before. Its record and
+ * its 1,024 stamps move as they are: what is held stays held, what is pending stays pending, deadlines stay. The
+ * first's arenas keep their ids, and what stands past the last arena is left. The first's state.mark is set only if it
+ * was in both. The second is the empty layer, all zeros: a new sequence of calls may begin there.
+ * From then on whoever names an arena of the second names it by its new id (sirqobal_risen), in calls on the first. A
+ * negative id goes on meaning every arena that is not exclusive, now of both.
+ * Refusals, in this order: 1, for the lengths and the table of either side and for the page size; 2, for an open
+ * question on either side; 17, where an arena of one and an arena of the other share an address (neighbours do not);
+ * 18, where more than 32 arenas would result. Each leaves both tables and both states. It never asks. */
+SIRQOBAL_USE
+struct sirqobal_join_reply sirqobal_join_tables(struct sirqobal_arena *records,
+                                                size_t record_count,
+                                                uint32_t *stamps,
+                                                size_t stamp_count,
+                                                struct sirqobal_arena *second_records,
+                                                size_t second_record_count,
+                                                uint32_t *second_stamps,
+                                                size_t second_stamp_count,
+                                                struct sirqobal_state state,
+                                                struct sirqobal_state second,
+                                                uint64_t ns,
+                                                struct sirqobal_settings settings);
+
+/* The id, after the join, of what had this id in the second table. A negative id names no arena and stays, as does one
+ * that no arena can have; after a refusal every id stays. Not for ids of the first, nor twice for one id. */
+SIRQOBAL_USE
+static inline int32_t sirqobal_risen(const struct sirqobal_join_reply *joined,
+                                     int32_t id)
+{
+    return id < 0 || id >= (int32_t)SIRQOBAL_RECORDS ? id : id + (int32_t)joined->rise;
+}
+
 /* ---- a table: what is lent, in one place
  *
  * The functions below make the calls above on a table and put the reply's state back. Only a release and a sweep
@@ -617,6 +665,27 @@ static inline struct sirqobal_reply sirqobal_table_area(const struct sirqobal_ta
 }
 
 #undef SIRQOBAL_LENT
+
+/* sirqobal_join_tables, with the first's settings. Both keep their settings, and the second is ready for use. One table
+ * given twice shares every address with itself: 17, and nothing is touched. */
+SIRQOBAL_USE
+static inline struct sirqobal_join_reply sirqobal_table_join(struct sirqobal_table *first,
+                                                             struct sirqobal_table *second)
+{
+    struct sirqobal_join_reply reply;
+    if (first == second) {
+        memset(&reply, 0, sizeof reply);
+        reply.number = SIRQOBAL_TABLES_OVERLAP;
+        reply.first = reply.second = first->state;
+        return reply;
+    }
+    reply = sirqobal_join_tables(first->records, SIRQOBAL_RECORDS, first->stamps, SIRQOBAL_STAMPS, second->records,
+                                 SIRQOBAL_RECORDS, second->stamps, SIRQOBAL_STAMPS, first->state, second->state, 0,
+                                 first->settings);
+    first->state = reply.first;
+    second->state = reply.second;
+    return reply;
+}
 
 /* Who answers the questions: does what `asked` says (kind, address, bytes, align, decommit, commit, large), and
  * answers whether it is done; for memory it writes where it is. It makes no call on the table. */

@@ -181,6 +181,23 @@ static inline bool sirqobal_linux_answer(void *context,
     }
 }
 
+/* Whether a host has room for the mappings of another, too. */
+SIRQOBAL_USE
+static inline bool sirqobal_linux_has_room(const struct sirqobal_linux *os,
+                                           const struct sirqobal_linux *second)
+{
+    return second->count <= SIRQOBAL_LINUX_RANGES - os->count;
+}
+
+/* All mappings of the second are the first's from now on; there is room for them. */
+static inline void sirqobal_linux_take(struct sirqobal_linux *os,
+                                       struct sirqobal_linux *second)
+{
+    memcpy(os->ranges + os->count, second->ranges, second->count * sizeof second->ranges[0]);
+    os->count += second->count;
+    second->count = 0;
+}
+
 /* Unmaps all that the host mapped; whether all of it could be. */
 static inline bool sirqobal_linux_end(struct sirqobal_linux *os)
 {
@@ -242,6 +259,32 @@ static inline struct sirqobal_reply sirqobal_memory_sweep(struct sirqobal_memory
 {
     return sirqobal_table_settle(&memory->table, sirqobal_table_sweep(&memory->table, sirqobal_linux_now(), force),
                                  sirqobal_linux_answer, &memory->os);
+}
+
+/* Joins two tables over real memory (sirqobal_join_tables), with the first's settings: the second's arenas go to the
+ * first, and their mappings along. What is held stays where it is, with its bytes. It is released and swept through the
+ * first, where the arenas are claimed from too, by their new ids (sirqobal_risen). The second has neither arena nor
+ * mapping and can be used at once: sirqobal_memory_end of each unmaps what is its own then.
+ * Refusals: 1, 2, 17, 18. Before them 14, and ENOMEM in os.error, if the first has no room for the second's mappings
+ * though it has for its arenas, which only blocks that the OS would not unmap can bring about. Each leaves both. */
+SIRQOBAL_USE
+static inline struct sirqobal_join_reply sirqobal_memory_join(struct sirqobal_memory *first,
+                                                              struct sirqobal_memory *second)
+{
+    size_t arenas = first->table.state.count + second->table.state.count;
+    if (arenas <= SIRQOBAL_RECORDS && !sirqobal_linux_has_room(&first->os, &second->os)) {
+        struct sirqobal_join_reply reply;
+        memset(&reply, 0, sizeof reply);
+        first->os.error = ENOMEM;
+        reply.number = SIRQOBAL_MEMORY_REFUSED;
+        reply.first = first->table.state;
+        reply.second = second->table.state;
+        return reply;
+    }
+    struct sirqobal_join_reply reply = sirqobal_table_join(&first->table, &second->table);
+    if (reply.number == SIRQOBAL_GRANTED)
+        sirqobal_linux_take(&first->os, &second->os);
+    return reply;
 }
 
 /* Unmaps all memory, held or not, and begins anew with the settings as they are; whether all could be unmapped. */

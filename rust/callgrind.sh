@@ -1,7 +1,7 @@
 #!/usr/bin/env bash
 # Instructions per operation of each row of `bench`, on each side, as callgrind counts them: the difference of
 # two runs with another number of operations, so that what is done once cancels out.
-# Usage: rust/callgrind.sh [TABLE [SEED]]    (table 1: slice pool, 2: arena layer, the default)
+# Usage: rust/callgrind.sh [TABLE [SEED]]    (table 1: slice pool, 2: arena layer, the default, 3: joins)
 set -euo pipefail
 cd "$(dirname "$0")"
 cargo build --offline --release --quiet --bin bench
@@ -9,10 +9,17 @@ table=${1:-2}
 seed=${2:-20261115}
 names=(ours Rust C)
 [ "$table" != 1 ] || names=(ours Rust) # the reference in C has no slice pool
+only=()
+# The original has no join. Setting the tables back before each is not counted; every step of a repeated string
+# instruction, as memset uses it, is.
+if [ "$table" = 3 ]; then
+    names=(ours C)
+    only=(--toggle-collect=sirqobal_join_tables --toggle-collect=reference_join_tables)
+fi
 
 # Sets `line` to what the program prints, `count` to the instructions.
 run() {
-    line=$(valgrind --tool=callgrind --callgrind-out-file=/dev/null target/release/bench --seed "$seed" \
+    line=$(valgrind --tool=callgrind --callgrind-out-file=/dev/null "${only[@]}" target/release/bench --seed "$seed" \
         --table "$table" --row "$1" --side "$2" --times "$3" 2>"$errors")
     count=$(sed -n 's/.*Collected : \([0-9]*\).*/\1/p' "$errors")
 }

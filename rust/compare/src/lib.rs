@@ -9,9 +9,12 @@ pub mod rng;
 /// The seed of a run that names none: the same cases every time.
 pub const SEED: u64 = 20_261_115;
 
+/// Granted, and the refusals from 1 to 18.
+pub const NUMBERS: usize = 19;
+
 /// How often each number was answered.
-pub fn by_number(counts: &[u64; 17]) -> String {
-    let answered = (0..17).filter(|n| counts[*n] != 0);
+pub fn by_number(counts: &[u64]) -> String {
+    let answered = (0..counts.len()).filter(|n| counts[*n] != 0);
     let texts: Vec<String> = answered.map(|n| format!("{n}: {}", counts[n])).collect();
     texts.join(", ")
 }

@@ -56,6 +56,45 @@ pub fn set_mark(mark: bool) {
     reserve_latch().store(if mark { 2 } else { 0 }, Ordering::Relaxed);
 }
 
+/// A layer's statics: its arenas in their order, and the latch of its default reserves.
+#[derive(Default)]
+pub struct Statics {
+    arenas: Vec<*mut Arena>,
+    latch: usize,
+}
+
+/// Takes the layer out of the statics and leaves the empty one there.
+pub fn take() -> Statics {
+    let standing = ARENAS.iter().take(count());
+    let taken = Statics {
+        arenas: standing.map(|a| a.load(Ordering::Relaxed)).collect(),
+        latch: reserve_latch().load(Ordering::Relaxed),
+    };
+    reset();
+    taken
+}
+
+/// Puts a layer that was taken out where the empty one stands.
+pub fn put(layer: Statics) {
+    reserve_latch().store(layer.latch, Ordering::Relaxed);
+    append(layer.arenas);
+}
+
+/// Appends the arenas of a layer that was taken out, as they are, under the next ids. Default reserves
+/// stay given up only if they are in both.
+pub fn join(second: Statics) {
+    set_mark(mark() && second.latch == 2);
+    append(second.arenas);
+}
+
+fn append(arenas: Vec<*mut Arena>) {
+    let count = count();
+    for (place, arena) in ARENAS[count..].iter().zip(&arenas) {
+        place.store(*arena, Ordering::Relaxed);
+    }
+    ARENA_COUNT.store(count + arenas.len(), Ordering::Relaxed);
+}
+
 /// The arena with this id, which must stand.
 pub fn record(id: usize) -> Record {
     let a = live(id);

@@ -2,7 +2,7 @@
 //! statics: use it from one thread of the process.
 
 use crate::arena;
-use crate::prim::{at, take_descriptors};
+use crate::prim::{at, take_descriptors, Kept};
 use crate::script::{self, with_host};
 
 pub use crate::arena::Record;
@@ -151,4 +151,33 @@ pub fn load(mark: bool, records: &[Record], stamps: &[u32]) {
     for (record, stamps) in records.iter().zip(stamps.chunks(1_024)) {
         arena::push(record, stamps);
     }
+}
+
+/// A layer that is put aside while others stand in the statics.
+#[derive(Default)]
+pub struct Aside {
+    statics: arena::Statics,
+    descriptors: Kept,
+}
+
+/// Puts the layer aside. The empty one stands then.
+pub fn put_aside() -> Aside {
+    Aside {
+        statics: arena::take(),
+        descriptors: Kept::take(),
+    }
+}
+
+/// Takes back a layer that was put aside. The one that stood is dropped.
+pub fn take_back(layer: Aside) {
+    reset();
+    arena::put(layer.statics);
+    layer.descriptors.put();
+}
+
+/// Joins a layer that was put aside to the one that stands. The original has no such call: this is
+/// document 02's on its statics. The descriptors move, which know no id.
+pub fn join(second: Aside) {
+    arena::join(second.statics);
+    second.descriptors.put();
 }

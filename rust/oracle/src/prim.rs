@@ -175,7 +175,29 @@ fn give_descriptor(ptr: *mut u8) -> bool {
     })
 }
 
-/// Takes all descriptors back; the layer must have been reset.
+/// Descriptors in use by a layer that is put aside: they are taken back with it alone.
+#[derive(Default)]
+pub struct Kept(Vec<*mut u8>);
+
+impl Kept {
+    /// All that are in use.
+    pub fn take() -> Kept {
+        DESCRIPTORS.with_borrow_mut(|all| Kept(std::mem::take(&mut all.lent)))
+    }
+
+    /// They are in use again by the layer that stands.
+    pub fn put(mut self) {
+        DESCRIPTORS.with_borrow_mut(|all| all.lent.append(&mut self.0));
+    }
+}
+
+impl Drop for Kept {
+    fn drop(&mut self) {
+        DESCRIPTORS.with_borrow_mut(|all| all.idle.append(&mut self.0));
+    }
+}
+
+/// Takes all descriptors in use back; the layer must have been reset.
 pub fn take_descriptors() {
     DESCRIPTORS.with_borrow_mut(|all| {
         let Descriptors { lent, idle } = all;

@@ -106,9 +106,38 @@ fn swept() {
     assert_eq!(stamps(0), all);
 }
 
+/// Two layers of one adopted arena each; of the second a chunk is claimed and one pending.
+fn put_aside_and_joined() {
+    empty(0);
+    assert_eq!(adopt_os_block(9 * BASE, 2 * CHUNK), Some(0));
+    assert_eq!(
+        chunk_claim(&mut Deny, 0).map(|run| run.address),
+        Some(9 * BASE)
+    );
+    assert!(chunk_release(9 * BASE + CHUNK, 1, None, true));
+    let (moved, moved_stamps) = (record(0), stamps(0));
+    let second = put_aside();
+    assert_eq!((count(), mark()), (0, false));
+
+    load(true, &[], &[]);
+    assert_eq!(adopt_os_block(BASE, CHUNK), Some(0));
+    let first = put_aside();
+    assert_eq!((count(), mark()), (0, false));
+    take_back(first);
+    assert_eq!((count(), mark(), record(0).base), (1, true, BASE));
+
+    join(second);
+    assert_eq!((count(), mark(), record(0).base), (2, false, BASE));
+    assert!(record(1) == moved && stamps(1) == moved_stamps);
+    assert_eq!(adopt_os_block(9 * BASE + 2 * CHUNK, CHUNK), Some(1));
+    let run = chunk_claim(&mut Deny, 1).expect("two chunks are free");
+    assert_eq!((run.address, run.fresh), (9 * BASE + CHUNK, false));
+}
+
 #[test]
 fn layer() {
     grown_and_claimed();
     given_up();
     swept();
+    put_aside_and_joined();
 }

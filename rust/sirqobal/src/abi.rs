@@ -1,7 +1,7 @@
 //! What libsirqobal.a exports, as include/sirqobal.h declares it. Nothing checks these lines against
 //! the library but the comparison.
 
-use crate::lent::{Arena, Reply, Settings, State};
+use crate::lent::{Arena, JoinReply, Reply, Settings, State};
 
 #[repr(C)]
 pub struct SliceAnswer {
@@ -55,4 +55,21 @@ layer_calls! {
     mut sirqobal_answer(kind: u32, yes: bool, base: u64);
     const sirqobal_owns(address: u64);
     const sirqobal_arena_area(id: i32);
+}
+
+extern "C" {
+    pub fn sirqobal_join_tables(
+        records: *mut Arena,
+        record_count: usize,
+        stamps: *mut u32,
+        stamp_count: usize,
+        second_records: *mut Arena,
+        second_record_count: usize,
+        second_stamps: *mut u32,
+        second_stamp_count: usize,
+        state: State,
+        second: State,
+        ns: u64,
+        settings: Settings,
+    ) -> JoinReply;
 }

@@ -52,6 +52,9 @@
 //! # Ok::<(), Refusal>(())
 //! ```
 //!
+//! Two layers are made one while chunks of both are held: [`linux::Memory::join`],
+//! [`Layer::join_tables`].
+//!
 //! [`Picture`] shows who holds what, [`saved`] is a table in a file, and [`lent`] has the calls over
 //! tables that the program keeps itself, as C has them.
 #![warn(missing_docs)]
@@ -72,7 +75,7 @@ pub mod saved;
 mod slice_pool;
 
 pub use host::Host;
-pub use layer::{Layer, Managed, Moment, Run, ANY, CHUNK};
+pub use layer::{Layer, Managed, Moment, Rise, Run, ANY, CHUNK};
 pub use numbers::{arm, delay_ms, is_aligned_to, is_due, now_ms, page_align_up};
 pub use picture::Picture;
 pub use question::{

@@ -1,8 +1,8 @@
 use std::error::Error;
 use std::fmt;
 
-/// Why a call was turned down: the rows of document 01's table "Turned down". The slice pool
-/// knows 1, 4, 7, 8, 9 and 10.
+/// Why a call was turned down: the rows of document 01's table "Turned down", and those that
+/// document 02's requests add. The slice pool knows 1, 4, 7, 8, 9 and 10.
 ///
 /// ```
 /// use sirqobal::{Refusal, SlicePool};
@@ -40,7 +40,7 @@ pub enum Refusal {
     /// The run passes the end.
     PastEnd = 9,
     /// No eligible arena has such a run. If a default reserve failed on the way, there will be no
-    /// other: the layer has given up for good ([`Layer::has_given_up`](crate::Layer::has_given_up)).
+    /// other: the layer has given up ([`Layer::has_given_up`](crate::Layer::has_given_up)).
     NoRun = 10,
     /// The commit was answered no.
     CommitRefused = 11,
@@ -54,6 +54,10 @@ pub enum Refusal {
     NoWholeChunk = 15,
     /// In the segment map already, or not reserved.
     HostRefused = 16,
+    /// A join: an arena of one table and an arena of the other share an address.
+    TablesOverlap = 17,
+    /// A join: the two tables have more than 32 arenas.
+    TooManyArenas = 18,
 }
 
 impl Refusal {
@@ -75,9 +79,11 @@ impl Refusal {
         Refusal::MemoryRefused,
         Refusal::NoWholeChunk,
         Refusal::HostRefused,
+        Refusal::TablesOverlap,
+        Refusal::TooManyArenas,
     ];
 
-    /// The row's number, 1 to 16.
+    /// The row's number, 1 to 18.
     ///
     /// ```
     /// assert_eq!(sirqobal::Refusal::NoRun.number(), 10);
@@ -117,6 +123,8 @@ impl Refusal {
             Refusal::MemoryRefused => "the memory was answered no",
             Refusal::NoWholeChunk => "no whole chunk lies in the range",
             Refusal::HostRefused => "the range is mapped already or not reserved",
+            Refusal::TablesOverlap => "a range of one table overlaps a range of the other",
+            Refusal::TooManyArenas => "the two tables have more than 32 arenas",
         }
     }
 }
@@ -134,13 +142,13 @@ mod tests {
     use super::*;
 
     #[test]
-    fn numbers_run_from_1_to_16() {
+    fn numbers_run_from_1_to_18() {
         for (n, &refusal) in (1..).zip(Refusal::ALL) {
             assert_eq!(refusal.number(), n);
             assert_eq!(Refusal::from_number(n), Some(refusal));
         }
-        assert_eq!(Refusal::ALL.len(), 16);
-        assert_eq!(Refusal::from_number(17), None);
+        assert_eq!(Refusal::ALL.len(), 18);
+        assert_eq!(Refusal::from_number(19), None);
         assert_eq!(Refusal::from_number(u32::MAX), None);
     }
 }

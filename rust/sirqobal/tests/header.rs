@@ -38,7 +38,7 @@ fn each_refusal_has_the_same_text() {
         assert_eq!(refusal.to_string(), format!("{text} (refusal {number})"));
         seen += 1;
     }
-    assert_eq!(seen, 16);
+    assert_eq!(seen, 18);
 }
 
 #[test]

@@ -1,6 +1,7 @@
-//! Programs in safe code that would reach memory they do not hold. Each is compiled against this
-//! crate, and must fail with the error that its first line names, of the thing named there, and with
-//! no other. `right.rs`, built in the same way, compiles, links and runs.
+//! Programs in safe code that would reach memory they do not hold, or name an arena that is not
+//! theirs. Each is compiled against this crate, and must fail with the error that its first line
+//! names, of the thing named there, and with no other. `right.rs`, built in the same way, compiles,
+//! links and runs.
 #![cfg(all(feature = "linux", target_os = "linux"))]
 
 use std::collections::BTreeSet;

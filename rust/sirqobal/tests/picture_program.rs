@@ -83,18 +83,25 @@ fn what_is_no_table_is_said() {
 
 #[cfg(all(feature = "linux", target_os = "linux"))]
 #[test]
-fn the_demonstration_saves_its_last_table() {
+fn the_demonstrations_save_their_last_table() {
+    for program in [env!("CARGO_BIN_EXE_demo"), env!("CARGO_BIN_EXE_joined")] {
+        saves_its_last_table(program);
+    }
+}
+
+#[cfg(all(feature = "linux", target_os = "linux"))]
+fn saves_its_last_table(program: &str) {
     let file = env::temp_dir().join(format!("sirqobal-demo-{}.table", std::process::id()));
     let name = file.to_str().unwrap();
-    let demo = Command::new(env!("CARGO_BIN_EXE_demo"))
+    let ran = Command::new(program)
         .args(["--save", name])
         .output()
         .unwrap();
-    assert!(demo.status.success());
+    assert!(ran.status.success(), "{program}");
     let output = picture(&[name], &[]);
     fs::remove_file(&file).unwrap();
     // Its last picture, but for the letters.
-    let shown = String::from_utf8(demo.stdout).unwrap();
+    let shown = String::from_utf8(ran.stdout).unwrap();
     let shown: Vec<String> = shown
         .lines()
         .filter(|line| line.starts_with("arena ") || line.starts_with("     0 "))

@@ -2,34 +2,13 @@
 //! another test's thread would change.
 #![cfg(all(feature = "linux", target_os = "linux"))]
 
+mod maps;
+
+use maps::{area, is_mapped, mapped_pages};
 use sirqobal::linux::{page_size, Chunks, Error, Memory};
-use sirqobal::{Moment, Refusal, ANY, CHUNK};
-use std::fs;
-use std::ops::Range;
+use sirqobal::{Refusal, ANY, CHUNK};
 use std::ptr::NonNull;
 use std::thread;
-
-/// Whether an address of this range is mapped.
-fn is_mapped(range: &Range<u64>) -> bool {
-    let maps = fs::read_to_string("/proc/self/maps").unwrap();
-    maps.lines().any(|line| {
-        let (start, end) = line.split(' ').next().unwrap().split_once('-').unwrap();
-        let [start, end] = [start, end].map(|number| u64::from_str_radix(number, 16).unwrap());
-        start < range.end && range.start < end
-    })
-}
-
-/// The addresses of an arena.
-fn area(memory: &Memory, id: i32) -> Range<u64> {
-    let (base, bytes) = memory.layer().arena_area(Moment::default(), id).unwrap();
-    base..base + bytes
-}
-
-/// How many pages of address space the process has.
-fn mapped_pages() -> u64 {
-    let statm = fs::read_to_string("/proc/self/statm").unwrap();
-    statm.split(' ').next().unwrap().parse().unwrap()
-}
 
 #[test]
 fn real_memory() {

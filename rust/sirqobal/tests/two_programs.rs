@@ -1,6 +1,6 @@
 //! Two programs on one layer over real memory: one in an exclusive arena, one in shared ones. Each
-//! writes its mark into every page that it is granted; through all claims, releases and sweeps no
-//! mark is overwritten.
+//! writes its mark into every page that it is granted; through all claims, releases, sweeps and
+//! joins no mark is overwritten.
 #![cfg(all(feature = "linux", target_os = "linux"))]
 
 use sirqobal::linux::{page_size, Chunks, Memory};
@@ -54,11 +54,19 @@ impl Program {
         true
     }
 
-    fn release(&mut self, memory: &mut Memory, which: usize) {
-        if !self.held.is_empty() {
-            let (_, chunks) = self.held.swap_remove(which % self.held.len());
-            memory.release(chunks).unwrap();
+    /// Releases one of its runs in the memory that has it.
+    fn release(&mut self, memories: &mut [&mut Memory], which: usize) {
+        if self.held.is_empty() {
+            return;
         }
+        let (_, mut chunks) = self.held.swap_remove(which % self.held.len());
+        for memory in memories {
+            match memory.release(chunks) {
+                Ok(()) => return,
+                Err(unreleased) => chunks = unreleased.chunks,
+            }
+        }
+        panic!("{chunks:?} is in no memory");
     }
 
     fn check(&self) {
@@ -80,6 +88,19 @@ impl Program {
     }
 }
 
+/// Numbers below 16.
+struct Random(u64);
+
+impl Random {
+    fn next(&mut self, round: u64) -> [usize; 3] {
+        self.0 = self
+            .0
+            .wrapping_mul(6_364_136_223_846_793_005)
+            .wrapping_add(round);
+        [58, 50, 40].map(|shift| (self.0 >> shift) as usize % 16)
+    }
+}
+
 #[test]
 fn nobody_overwrites_the_other() {
     let mut memory = Memory::new();
@@ -88,13 +109,10 @@ fn nobody_overwrites_the_other() {
     let arena = memory.reserve(4 * CHUNK, true).unwrap();
     let mut guidance = Program::new(1, arena);
     let mut recorder = Program::new(2, ANY);
-    let mut random = 20_261_115u64;
+    let mut random = Random(20_261_115);
     let (mut purged, mut granted) = (0, 0);
     for round in 0..120 {
-        random = random
-            .wrapping_mul(6_364_136_223_846_793_005)
-            .wrapping_add(round);
-        let [choice, n, which] = [58, 50, 40].map(|shift| (random >> shift) as usize % 16);
+        let [choice, n, which] = random.next(round);
         memory.options_mut().decommits = round % 3 != 0;
         match choice {
             0..=4 => granted += usize::from(guidance.claim(&mut memory, 1 + n % 3)),
@@ -102,12 +120,51 @@ fn nobody_overwrites_the_other() {
             5..=9 if recorder.chunks() < 6 => {
                 granted += usize::from(recorder.claim(&mut memory, 1 + n % 3));
             }
-            10..=11 => guidance.release(&mut memory, which),
-            12..=13 => recorder.release(&mut memory, which),
+            10..=11 => guidance.release(&mut [&mut memory], which),
+            12..=13 => recorder.release(&mut [&mut memory], which),
             _ => purged += memory.sweep(choice == 15).unwrap(),
         }
         guidance.check();
         recorder.check();
+    }
+    assert!(
+        granted > 30 && purged > 10,
+        "{granted} granted, {purged} purged"
+    );
+}
+
+/// Each has a layer of its own with an exclusive arena; the recorder's is joined to guidance's, and
+/// later again what it has begun there since.
+#[test]
+fn nobody_overwrites_the_other_across_joins() {
+    let (mut first, mut second) = (Memory::new(), Memory::new());
+    let mut guidance = Program::new(1, first.reserve(4 * CHUNK, true).unwrap());
+    let mut recorder = Program::new(2, second.reserve(3 * CHUNK, true).unwrap());
+    let mut spool = Program::new(3, ANY);
+    let mut random = Random(20_261_117);
+    let (mut purged, mut granted) = (0, 0);
+    for round in 0..180 {
+        let [choice, n, which] = random.next(round);
+        if round % 60 == 40 {
+            let rise = first.join(&mut second).unwrap();
+            if round == 40 {
+                recorder.arena = rise.id(recorder.arena).unwrap();
+            }
+            second.reserve(2 * CHUNK, false).unwrap();
+        }
+        let of_recorder = if round < 40 { &mut second } else { &mut first };
+        match choice {
+            0..=2 => granted += usize::from(guidance.claim(&mut first, 1 + n % 3)),
+            3..=5 => granted += usize::from(recorder.claim(of_recorder, 1 + n % 2)),
+            6..=7 => granted += usize::from(spool.claim(&mut second, 1)),
+            8 => guidance.release(&mut [&mut first], which),
+            9..=10 => recorder.release(&mut [of_recorder], which),
+            11 => spool.release(&mut [&mut first, &mut second], which),
+            _ => purged += first.sweep(choice == 15).unwrap() + second.sweep(choice == 15).unwrap(),
+        }
+        for program in [&guidance, &recorder, &spool] {
+            program.check();
+        }
     }
     assert!(
         granted > 30 && purged > 10,

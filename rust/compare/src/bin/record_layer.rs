@@ -101,7 +101,7 @@ fn agreed(rng: &mut Rng, calls: u64) -> Vec<(Moment, Call)> {
     let mut pair = Pair::holding(&Layer::new());
     let mut made = Vec::new();
     for _ in 0..calls {
-        let (_, agreed) = turn(&mut player, rng, &mut pair);
+        let (_, agreed) = turn(&mut player, rng, &mut pair, &[]);
         made.extend(agreed.expect("no difference").made);
     }
     made

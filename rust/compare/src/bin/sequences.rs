@@ -2,12 +2,15 @@
 //! compares every answer, every question with all its numbers, and all state, after every call and
 //! while each question is open. Refusals 1, 2, 3 and 6, which the original does not have, are
 //! compared with document 01 by a table of cases first.
+//!
+//! Up to three layers stand side by side and are joined now and then. The original has no join: each is
+//! compared with a model written from document 02, all of both tables, and the joined layer goes on
+//! beside an original with the same arenas.
 
+use compare_common::layer::beside::Beside;
 use compare_common::layer::counts::Counts;
-use compare_common::layer::draw::{turn, Player};
-use compare_common::layer::pair::Pair;
-use compare_common::layer::smallest::smallest;
-use compare_common::layer::{table, Step};
+use compare_common::layer::join_cases;
+use compare_common::layer::table::{self, Cases};
 use compare_common::rng::Rng;
 use compare_common::{args, SEED};
 use std::process::ExitCode;
@@ -19,21 +22,16 @@ fn main() -> ExitCode {
     let [seed, sequences, calls] =
         args::read(["--seed", "--sequences", "--calls"], [SEED, ENOUGH, 500]);
     println!("seed {seed}, {sequences} sequences of {calls} calls");
-    let cases = table::run();
-    for wrong in cases.wrong.iter().take(10) {
-        println!("DIFFERENT {wrong}");
-    }
-    println!("table of refusals 1, 2, 3 and 6: {} cases", cases.cases);
-
     let mut counts = Counts::default();
-    let mut differences = cases.wrong.len();
+    let mut differences = show("table of refusals 1, 2, 3 and 6", table::run());
+    differences += show("table of joins", join_cases::run());
     for n in 0..sequences {
         // Each sequence has a seed of its own, so that one alone can be run again.
         let mut rng = Rng::new(seed.wrapping_add(n));
         if let Err(difference) = sequence(&mut rng, calls, &mut counts) {
             println!("DIFFERENT with seed {}: {difference}", seed.wrapping_add(n));
             differences += 1;
-            if differences == 5 {
+            if differences >= 5 {
                 break;
             }
         }
@@ -44,34 +42,31 @@ fn main() -> ExitCode {
         println!("not reached: {}", missing.join(", "));
     }
     let Counts {
-        calls, questions, ..
+        calls,
+        questions,
+        joins,
+        ..
     } = counts;
-    println!("compared: {calls} calls, {questions} questions, {differences} differences");
+    println!(
+        "compared: {calls} calls, {questions} questions, {joins} joins, {differences} differences"
+    );
     let failed = differences != 0 || (sequences >= ENOUGH && !missing.is_empty());
     ExitCode::from(u8::from(failed))
 }
 
+/// Shows what a table of cases found: how many are wrong.
+fn show(what: &str, found: Cases) -> usize {
+    for wrong in found.wrong.iter().take(10) {
+        println!("DIFFERENT {wrong}");
+    }
+    println!("{what}: {} cases", found.cases);
+    found.wrong.len()
+}
+
 fn sequence(rng: &mut Rng, calls: u64, counts: &mut Counts) -> Result<(), String> {
-    let mut player = Player::new(rng);
-    let start = player.table(rng);
-    let mut pair = Pair::holding(&start);
-    let mut steps: Vec<Step> = Vec::new();
+    let mut layers = Beside::new(rng);
     for _ in 0..calls {
-        let (step, agreed) = turn(&mut player, rng, &mut pair);
-        let (moment, call) = (step.moment, step.call);
-        let last = steps.last().map_or(moment.ns, |step| step.moment.ns);
-        steps.push(step);
-        let Ok(agreed) = agreed else {
-            return Err(smallest(&start, &steps));
-        };
-        counts.note(last, &moment, &call, &agreed, &pair.ours);
+        layers.turn(rng, counts)?;
     }
-    let (rust, ours) = (oracle::layer::print(), pair.ours.to_string());
-    if rust != ours {
-        return Err(format!("arenas_print: Rust\n{rust}ours\n{ours}"));
-    }
-    match pair.rest_is_untouched() {
-        true => Ok(()),
-        false => Err("records or stamps past the arenas were written".into()),
-    }
+    layers.end()
 }

@@ -2,7 +2,8 @@
 
 use super::document::{arenas, has_run};
 use super::pair::{claims, ones, Agreed};
-use super::{Moment, CHUNK, PAGES};
+use super::{join_states, Moment, CHUNK, PAGES};
+use crate::NUMBERS;
 use sirqobal::lent::Call;
 use sirqobal::{Ask, Layer};
 use std::collections::{BTreeMap, BTreeSet};
@@ -12,12 +13,19 @@ use std::collections::{BTreeMap, BTreeSet};
 pub struct Counts {
     pub calls: u64,
     pub questions: u64,
-    answers: BTreeMap<&'static str, [u64; 17]>,
+    pub joins: u64,
+    answers: BTreeMap<&'static str, [u64; NUMBERS]>,
     asked: BTreeMap<String, u64>,
     reached: BTreeMap<&'static str, u64>,
 }
 
-/// What the sequences are to reach, beside every refusal from 4 to 16.
+/// All that is to be reached, and how often at least.
+fn wanted() -> impl Iterator<Item = (&'static str, u64)> {
+    let calls = WANTED.iter().map(|what| (*what, 1));
+    calls.chain(join_states::WANTED.iter().copied())
+}
+
+/// What the calls are to reach, beside every refusal.
 const WANTED: [&str; 20] = [
     "growth",
     "growth, owned a number above 1",
@@ -55,10 +63,7 @@ impl Counts {
         self.calls += 1;
         self.questions += agreed.asked.len() as u64;
         self.answers.entry(name(call)).or_default()[agreed.reply.number as usize] += 1;
-        let while_open = self.answers.entry("while a question is open").or_default();
-        for number in &agreed.while_open {
-            while_open[*number as usize] += 1;
-        }
+        self.meanwhile(agreed);
         for (ask, answer) in &agreed.asked {
             let said = if answer.is_some() { "yes" } else { "no" };
             let asked = format!("{} {said}", kind(ask));
@@ -89,8 +94,67 @@ impl Counts {
         self.sweep(agreed, layer);
     }
 
+    fn meanwhile(&mut self, agreed: &Agreed) {
+        let while_open = self.answers.entry("while a question is open").or_default();
+        for number in &agreed.while_open {
+            while_open[*number as usize] += 1;
+        }
+        for (number, reached) in &agreed.joins {
+            self.note_join("join while a question is open", *number, reached);
+        }
+    }
+
+    /// Notes a join on which ours and document 02 agreed.
+    pub fn note_join(&mut self, how: &'static str, number: u32, reached: &[&'static str]) {
+        self.joins += 1;
+        self.answers.entry(how).or_default()[number as usize] += 1;
+        for state in reached {
+            self.reach(state, true);
+        }
+    }
+
+    /// Notes what a call did in arenas that came by a join. `came` says it of each.
+    pub fn note_moved(&mut self, call: &Call, agreed: &Agreed, layer: &Layer, came: &[bool]) {
+        let reply = &agreed.reply;
+        let granted = reply.number == 0;
+        let came_at = |address: u64| {
+            let place = place(layer, address).filter(|(id, _)| came.get(*id) == Some(&true));
+            place.map(|(id, _)| &arenas(layer)[id])
+        };
+        match (*call, claims(call)) {
+            (_, Some((named, _))) if granted => {
+                let arena = came_at(reply.address);
+                let exclusive = arena.is_some_and(|arena| named >= 0 && arena.is_exclusive());
+                self.reach("in a joined arena: claim", arena.is_some());
+                self.reach(
+                    "in a joined arena: claim by its new id, exclusive",
+                    exclusive,
+                );
+            }
+            (Call::ChunkRelease { address, .. }, _) if granted => {
+                self.reach("in a joined arena: release", came_at(address).is_some());
+            }
+            (Call::AdoptOsBlock { .. }, _) if granted => {
+                let grew = came.get(reply.id) == Some(&true);
+                self.reach("in a joined arena: growth", grew);
+            }
+            _ => {}
+        }
+        for (ask, answer) in &agreed.asked {
+            match (ask, answer) {
+                (Ask::Purge { address, .. }, Some(_)) => {
+                    self.reach("in a joined arena: purge", came_at(*address).is_some());
+                }
+                (Ask::Commit { address, .. }, None) => {
+                    self.reach("in a joined arena: commit no", came_at(*address).is_some());
+                }
+                _ => {}
+            }
+        }
+    }
+
     fn reach(&mut self, what: &'static str, holds: bool) {
-        debug_assert!(WANTED.contains(&what));
+        debug_assert!(wanted().any(|(wanted, _)| wanted == what));
         *self.reached.entry(what).or_default() += u64::from(holds);
     }
 
@@ -139,24 +203,25 @@ impl Counts {
 
     /// What was wanted and not reached.
     pub fn missing(&self) -> Vec<String> {
-        let states = WANTED
-            .iter()
-            .filter(|what| self.reached.get(*what).is_none_or(|n| *n == 0));
-        let numbers = (1..17).filter(|n| self.answers.values().all(|counts| counts[*n] == 0));
+        let seldom = |(what, least): &(&str, u64)| self.reached.get(what).is_none_or(|n| n < least);
+        let states = wanted().filter(seldom);
+        let states = states.map(|(what, least)| format!("{what} ({least} times)"));
+        let numbers = 1..NUMBERS;
+        let numbers = numbers.filter(|n| self.answers.values().all(|counts| counts[*n] == 0));
         let numbers = numbers.map(|n| format!("refusal {n}"));
-        states.map(|what| what.to_string()).chain(numbers).collect()
+        states.chain(numbers).collect()
     }
 
     pub fn print(&self) {
-        println!("{:<26}   0 is granted, 1 to 16 are the refusals", "call");
+        println!("{:<29}   0 is granted, 1 to 18 are the refusals", "call");
         for (name, counts) in &self.answers {
-            println!("{name:<26}   {}", crate::by_number(counts));
+            println!("{name:<29}   {}", crate::by_number(counts));
         }
         for (asked, n) in &self.asked {
-            println!("{asked:<26}   {n}");
+            println!("{asked:<29}   {n}");
         }
-        for what in WANTED {
-            println!("{what:<40} {}", self.reached.get(what).unwrap_or(&0));
+        for (what, _) in wanted() {
+            println!("{what:<52} {}", self.reached.get(what).unwrap_or(&0));
         }
     }
 }

@@ -3,7 +3,8 @@
 
 use super::document::arenas;
 use super::pair::{Agreed, Pair, Source};
-use super::{inside, Given, Moment, Step, CHUNK, PAGES};
+use super::plain::Table;
+use super::{inside, Given, Meanwhile, Moment, Other, Step, CHUNK, PAGES};
 use crate::rng::Rng;
 use sirqobal::lent::{Arena, Call, State, RECORDS, STAMPS};
 use sirqobal::{Ask, Layer};
@@ -70,6 +71,8 @@ const THEMES: [Theme; 6] = [
 pub struct Player {
     theme: Theme,
     moment: Moment,
+    /// Where the arenas of other layers stand: from, up to. Mostly they are kept clear of.
+    elsewhere: Vec<(u64, u64)>,
 }
 
 impl Player {
@@ -78,6 +81,7 @@ impl Player {
         let mut player = Player {
             theme,
             moment: super::QUIET,
+            elsewhere: Vec::new(),
         };
         // Often just before the milliseconds wrap.
         let wrap = (1_000_000 << 32) * rng.below(4_000);
@@ -90,6 +94,20 @@ impl Player {
         player
     }
 
+    /// The clock of the last call.
+    pub fn clock(&self) -> u64 {
+        self.moment.ns
+    }
+
+    /// Goes on at the clock of the last call on any layer, beside these others.
+    pub fn go_on(&mut self, ns: u64, others: &[&Layer]) {
+        self.moment.ns = ns;
+        self.elsewhere.clear();
+        let arenas = others.iter().flat_map(|layer| arenas(layer));
+        self.elsewhere
+            .extend(arenas.map(|arena| (arena.base, end(arena))));
+    }
+
     /// The empty table, or a sound one with anything in it.
     pub fn table(&self, rng: &mut Rng) -> Layer {
         match rng.below(4) {
@@ -100,6 +118,11 @@ impl Player {
 
     /// The next call, with what it carries.
     pub fn call(&mut self, rng: &mut Rng, layer: &Layer) -> (Moment, Call) {
+        (self.next_moment(rng), self.any_call(rng, layer))
+    }
+
+    /// What the next call carries.
+    pub fn next_moment(&mut self, rng: &mut Rng) -> Moment {
         self.moment.ns = self.later(rng);
         if rng.percent(10) {
             self.draw_settings(rng);
@@ -108,7 +131,7 @@ impl Player {
         if rng.percent(1) {
             moment.page = rng.pick(&[0, 1, 2_048, 4_095, 12_288, 131_072, 1 << 63]);
         }
-        (moment, self.any_call(rng, layer))
+        moment
     }
 
     /// The host's answer.
@@ -116,7 +139,10 @@ impl Player {
         let mut before = Vec::new();
         if rng.percent(5) {
             let calls = rng.between(1, 3);
-            before.extend((0..calls).map(|_| self.disturbing(rng, layer, ask)));
+            before.extend((0..calls).map(|_| {
+                let (moment, call) = self.disturbing(rng, layer, ask);
+                Meanwhile::Call(moment, call)
+            }));
         }
         let answer = match ask {
             // A no to memory ends default reserves for good: it comes less often.
@@ -252,7 +278,7 @@ impl Player {
 
     fn manage(&self, rng: &mut Rng, layer: &Layer) -> Call {
         let chunks = self.chunks(rng);
-        let base = place(rng, layer, chunks * CHUNK);
+        let base = self.place(rng, layer, chunks * CHUNK);
         let ragged = rng.below(CHUNK);
         let (start, size) = match rng.below(20) {
             0 => (0, chunks * CHUNK),
@@ -277,7 +303,7 @@ impl Player {
 
     fn adopt(&self, rng: &mut Rng, layer: &Layer) -> Call {
         let chunks = self.chunks(rng);
-        let away = place(rng, layer, chunks * CHUNK);
+        let away = self.place(rng, layer, chunks * CHUNK);
         let behind = some_arena(rng, layer).map_or(away, end);
         let off = rng.between(1, CHUNK - 1);
         let (address, size) = match rng.below(20) {
@@ -376,10 +402,48 @@ impl Player {
 
     /// The base of memory: mostly one that can be registered, else one that is given back.
     fn base(&self, rng: &mut Rng, layer: &Layer, bytes: u64) -> u64 {
-        let base = place(rng, layer, bytes);
+        let base = self.place(rng, layer, bytes);
         match rng.below(12) {
             0 => base + rng.between(1, CHUNK - 1),
             _ => base,
+        }
+    }
+
+    /// Whole chunks for so many bytes where no arena stands; beside one if there is room.
+    fn place(&self, rng: &mut Rng, layer: &Layer, bytes: u64) -> u64 {
+        let free = |base: u64, stands: &[(u64, u64)]| {
+            let stop = base.checked_add(bytes.max(1));
+            let apart = |&(from, to): &(u64, u64)| stop.is_some_and(|s| s <= from) || to <= base;
+            base != 0 && stop.is_some() && stands.iter().all(apart)
+        };
+        let here: Vec<(u64, u64)> = arenas(layer).iter().map(|a| (a.base, end(a))).collect();
+        let clear = |base: u64| free(base, &here) && free(base, &self.elsewhere);
+        let behind = some_arena(rng, layer).map(end);
+        if let Some(behind) = behind.filter(|behind| rng.percent(40) && clear(*behind)) {
+            return behind;
+        }
+        if let Some(met) = self.met(rng, bytes).filter(|base| free(*base, &here)) {
+            return met;
+        }
+        let far = |rng: &mut Rng| match rng.below(10) {
+            0 => (u64::MAX - bytes.min(u64::MAX - CHUNK)) / CHUNK * CHUNK,
+            1..=4 => CHUNK * rng.between(1, 5_000),
+            _ => CHUNK * rng.between(1, 1 << 38),
+        };
+        let tries = (0..20).map(|_| far(rng)).find(|base| clear(*base));
+        tries.unwrap_or(CHUNK * 77)
+    }
+
+    /// Now and then beside an arena of another layer, and seldom in it.
+    fn met(&self, rng: &mut Rng, bytes: u64) -> Option<u64> {
+        if self.elsewhere.is_empty() || rng.percent(85) {
+            return None;
+        }
+        let (from, to) = rng.pick(&self.elsewhere);
+        match rng.below(40) {
+            0 => Some(to - CHUNK),
+            1..20 => from.checked_sub(bytes.checked_next_multiple_of(CHUNK)?),
+            _ => Some(to),
         }
     }
 
@@ -413,12 +477,19 @@ impl Player {
     }
 }
 
-/// Draws one call and makes it on both sides, with drawn answers to what it asks.
-pub fn turn(player: &mut Player, rng: &mut Rng, pair: &mut Pair) -> (Step, Result<Agreed, String>) {
+/// Draws one call and makes it on both sides, with drawn answers to what it asks. While it asks, joins
+/// with the others are tried.
+pub fn turn(
+    player: &mut Player,
+    rng: &mut Rng,
+    pair: &mut Pair,
+    others: &[&Layer],
+) -> (Step, Result<Agreed, String>) {
     let (moment, call) = player.call(rng, &pair.ours);
     let mut drawn = Drawn {
         player,
         rng,
+        others,
         given: Vec::new(),
     };
     let agreed = pair.call(moment, call, &mut drawn);
@@ -434,12 +505,36 @@ pub fn turn(player: &mut Player, rng: &mut Rng, pair: &mut Pair) -> (Step, Resul
 struct Drawn<'a> {
     player: &'a mut Player,
     rng: &'a mut Rng,
+    others: &'a [&'a Layer],
     given: Vec<Given>,
+}
+
+impl Drawn<'_> {
+    /// A join with another layer, which asks nothing. Purges are asked most often by far.
+    fn join(&mut self, ask: Ask) -> Option<Meanwhile> {
+        let one_of = match ask {
+            Ask::Purge { .. } => 1_000,
+            _ => 100,
+        };
+        if self.others.is_empty() || self.rng.below(one_of) != 0 {
+            return None;
+        }
+        let other = Other {
+            table: Table::of(self.rng.pick(self.others)),
+            is_first: self.rng.percent(50),
+        };
+        let mut moment = self.player.any_moment(self.rng);
+        if self.rng.percent(10) {
+            moment.page = 4_095;
+        }
+        Some(Meanwhile::Join(moment, Box::new(other)))
+    }
 }
 
 impl Source for Drawn<'_> {
     fn give(&mut self, layer: &Layer, ask: Ask) -> Given {
-        let given = self.player.given(self.rng, layer, ask);
+        let mut given = self.player.given(self.rng, layer, ask);
+        given.before.extend(self.join(ask));
         self.given.push(given.clone());
         given
     }
@@ -455,7 +550,7 @@ pub fn any_flag(rng: &mut Rng, percent: u64) -> u32 {
 }
 
 /// A record with any bits; one that stands has none past its end.
-fn any_arena(rng: &mut Rng, base: u64, chunks: u64, deadline: u32, stands: bool) -> Arena {
+pub fn any_arena(rng: &mut Rng, base: u64, chunks: u64, deadline: u32, stands: bool) -> Arena {
     let mut map = || {
         let dense = rng.below(4);
         std::array::from_fn(|word| {
@@ -497,26 +592,6 @@ fn no_base(rng: &mut Rng, layer: &Layer, bytes: u64) -> u64 {
         1 => some_arena(rng, layer).map_or(0, |arena| arena.base),
         _ => 0,
     }
-}
-
-/// Whole chunks for so many bytes where no arena stands; beside one if there is room.
-fn place(rng: &mut Rng, layer: &Layer, bytes: u64) -> u64 {
-    let free = |base: u64| {
-        let stop = base.checked_add(bytes.max(1));
-        let apart = |arena: &Arena| stop.is_some_and(|s| s <= arena.base) || end(arena) <= base;
-        base != 0 && stop.is_some() && arenas(layer).iter().all(apart)
-    };
-    let behind = some_arena(rng, layer).map(end);
-    if let Some(behind) = behind.filter(|behind| rng.percent(40) && free(*behind)) {
-        return behind;
-    }
-    let far = |rng: &mut Rng| match rng.below(10) {
-        0 => (u64::MAX - bytes.min(u64::MAX - CHUNK)) / CHUNK * CHUNK,
-        1..=4 => CHUNK * rng.between(1, 5_000),
-        _ => CHUNK * rng.between(1, 1 << 38),
-    };
-    let tries = (0..20).map(|_| far(rng)).find(|base| free(*base));
-    tries.unwrap_or(CHUNK * 77)
 }
 
 fn some_arena<'a>(rng: &mut Rng, layer: &'a Layer) -> Option<&'a Arena> {

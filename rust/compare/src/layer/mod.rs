@@ -1,15 +1,22 @@
 //! The arena layer of both sides, call by call.
 
+pub mod beside;
 pub mod counts;
 pub mod document;
 pub mod draw;
+pub mod edges;
+pub mod join_cases;
+pub mod join_states;
+pub mod joined;
 pub mod pair;
+pub mod plain;
 pub mod reference;
 pub mod smallest;
 pub mod table;
 
 pub use sirqobal::{Moment, CHUNK};
 
+use plain::Table;
 use sirqobal::lent::Call;
 
 /// The bits of a map's word that are chunks of an arena with so many.
@@ -34,12 +41,27 @@ pub struct Step {
 /// The answer to one question.
 #[derive(Clone, Debug)]
 pub struct Given {
-    /// Calls made on ours alone while the question is open: all are refused, or only look.
-    pub before: Vec<(Moment, Call)>,
+    /// Made on ours alone while the question is open.
+    pub before: Vec<Meanwhile>,
     /// What the answer carries, which decides nothing.
     pub moment: Moment,
     /// None is no; yes carries the base, if memory was asked for.
     pub answer: Option<u64>,
+}
+
+/// What is tried while a question is open: all is refused, or only looks.
+#[derive(Clone, Debug)]
+pub enum Meanwhile {
+    Call(Moment, Call),
+    Join(Moment, Box<Other>),
+}
+
+/// The other table of a join with a layer that asks.
+#[derive(Clone, Debug)]
+pub struct Other {
+    pub table: Table,
+    /// It is the first, and the layer that asks the second.
+    pub is_first: bool,
 }
 
 impl Given {

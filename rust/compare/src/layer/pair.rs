@@ -2,8 +2,9 @@
 //! middle of its call. There the two are compared, ours is answered and goes on, and then the
 //! original gets the same answer.
 
-use super::document;
-use super::{Given, Step};
+use super::plain::Table;
+use super::{document, join_states, joined};
+use super::{Given, Meanwhile, Other, Step};
 use oracle::layer as rust;
 use sirqobal::lent::{Call, Reply, State};
 use sirqobal::{Ask, Layer, Moment};
@@ -30,6 +31,8 @@ pub struct Agreed {
     pub asked: Vec<(Ask, Option<u64>)>,
     /// The numbers of the calls made while a question was open.
     pub while_open: Vec<u32>,
+    /// Of the joins tried meanwhile, the numbers and what they reached.
+    pub joins: Vec<(u32, Vec<&'static str>)>,
     /// All that was called on ours: the call, calls while it asks, and the answers.
     pub made: Vec<(Moment, Call)>,
     /// Arenas whose deadline was 1 before.
@@ -45,8 +48,9 @@ pub fn ones(layer: &Layer) -> usize {
 /// Our layer and the original's, which is static, in the same state.
 pub struct Pair {
     pub ours: Layer,
-    /// As it was lent first: what lies past the arenas that stand is never written.
-    start: Layer,
+    /// As it was lent first, or left by the last join: what lies past the arenas that stand is not
+    /// written by any other call.
+    start: Table,
 }
 
 impl Pair {
@@ -56,8 +60,24 @@ impl Pair {
         rust::load(layer.state().mark == 1, &records, layer.stamps());
         Pair {
             ours: layer.clone(),
-            start: layer.clone(),
+            start: Table::of(layer),
         }
+    }
+
+    /// Ours goes on from what a join left. The original is not touched: it gets the same otherwise.
+    pub fn go_on(&mut self, left: Table) {
+        self.ours = left.layer();
+        self.start = left;
+    }
+
+    /// The table from which this pair began, or went on after its last join.
+    pub fn start(&self) -> Layer {
+        self.start.layer()
+    }
+
+    /// Whether both are in the same state.
+    pub fn is_same(&self) -> Result<(), String> {
+        same_state(&self.ours)
     }
 
     /// Makes one call on both sides; an error says what differs.
@@ -130,7 +150,7 @@ impl Pair {
     /// Whether the flags of the arenas that were lent, which the original keeps as bits, are the
     /// numbers that they were, and those of an arena that was registered since are 0 or 1.
     fn flags_are_kept(&self) -> bool {
-        let lent = document::arenas(&self.start);
+        let lent = self.start.arenas();
         let mut arenas = document::arenas(&self.ours).iter().enumerate();
         arenas.all(|(id, arena)| match lent.get(id) {
             Some(was) => (arena.exclusive, arena.owned) == (was.exclusive, was.owned),
@@ -141,8 +161,8 @@ impl Pair {
     /// Whether the records and stamps past the arenas that stand are as they were lent.
     pub fn rest_is_untouched(&self) -> bool {
         let count = self.ours.state().count;
-        self.ours.records()[count..] == self.start.records()[count..]
-            && self.ours.stamps()[1_024 * count..] == self.start.stamps()[1_024 * count..]
+        self.ours.records()[count..] == self.start.records[count..]
+            && self.ours.stamps()[1_024 * count..] == self.start.stamps[1_024 * count..]
     }
 
     /// Makes the calls of a list; an error says which call differs, and how.
@@ -306,12 +326,7 @@ impl Bridge<'_> {
         waits(self.ours, &ask)?;
         same_state(self.ours)?;
         let given = self.source.give(self.ours, ask);
-        for (moment, call) in &given.before {
-            self.disturb(moment, *call, state)?;
-        }
-        if !given.before.is_empty() {
-            same_state(self.ours)?;
-        }
+        self.meanwhile(&given.before, state)?;
         let answer = |base: Option<u64>| Call::Answer {
             kind: ask.kind(),
             yes: base.is_some(),
@@ -324,10 +339,26 @@ impl Bridge<'_> {
         };
         let given_answer = given.answer.filter(closes);
         self.agreed.reply = self.ours.call(given.moment, answer(given_answer));
-        self.agreed.made.extend(given.before);
         self.agreed.made.push((given.moment, answer(given_answer)));
         self.agreed.asked.push((ask, given_answer));
         Ok(given_answer)
+    }
+
+    /// What is tried while a question is open, and leaves this state.
+    fn meanwhile(&mut self, tried: &[Meanwhile], state: State) -> Result<(), String> {
+        for meanwhile in tried {
+            match meanwhile {
+                Meanwhile::Call(moment, call) => {
+                    self.disturb(moment, *call, state)?;
+                    self.agreed.made.push((*moment, *call));
+                }
+                Meanwhile::Join(moment, other) => self.join_meanwhile(*moment, other)?,
+            }
+        }
+        match tried {
+            [] => Ok(()),
+            _ => same_state(self.ours),
+        }
     }
 
     /// A call on ours while a question is open: a query answers, all else is refused, and nothing
@@ -350,6 +381,19 @@ impl Bridge<'_> {
             ));
         }
         self.agreed.while_open.push(number.unwrap_or(0));
+        Ok(())
+    }
+
+    /// A join of ours and another table while a question is open, on copies: it is refused.
+    fn join_meanwhile(&mut self, moment: Moment, other: &Other) -> Result<(), String> {
+        let asking = Table::of(self.ours);
+        let (first, second) = match other.is_first {
+            true => (&other.table, &asking),
+            false => (&asking, &other.table),
+        };
+        let said = joined::make(first, second, moment)?;
+        let reached = join_states::reached(first, second, &said, moment.page);
+        self.agreed.joins.push((said.number(), reached));
         Ok(())
     }
 }

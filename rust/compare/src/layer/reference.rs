@@ -1,7 +1,9 @@
 //! The layer's calls in plain C (c/reference.c): a yardstick for the benchmark, over lent tables as
 //! ours are. Its answers are held against ours by the tests here.
 
-use sirqobal::lent::{Arena, Call, Reply, Settings, State};
+use super::plain::Table;
+use super::Moment;
+use sirqobal::lent::{Arena, Call, JoinReply, Reply, Settings, State};
 
 /// Declares calls of the reference, all of which begin with what is lent and carried.
 macro_rules! calls {
@@ -30,6 +32,47 @@ calls! {
     reference_chunk_release(address: u64, n: usize, told: i32, pending: bool);
     reference_purge_due(force: bool);
     reference_answer(kind: u32, yes: bool, base: u64);
+}
+
+extern "C" {
+    fn reference_join_tables(
+        records: *mut Arena,
+        record_count: usize,
+        stamps: *mut u32,
+        stamp_count: usize,
+        second_records: *mut Arena,
+        second_record_count: usize,
+        second_stamps: *mut u32,
+        second_stamp_count: usize,
+        state: State,
+        second: State,
+        ns: u64,
+        settings: Settings,
+    ) -> JoinReply;
+}
+
+/// Joins two tables, as `Table::join` does by ours.
+pub fn join(first: &mut Table, second: &mut Table, moment: Moment) -> JoinReply {
+    // SAFETY: pointers and lengths are those of four vectors, lent for the call; with other lengths
+    // than a table's the reference looks at nothing of them.
+    let reply = unsafe {
+        reference_join_tables(
+            first.records.as_mut_ptr(),
+            first.records.len(),
+            first.stamps.as_mut_ptr(),
+            first.stamps.len(),
+            second.records.as_mut_ptr(),
+            second.records.len(),
+            second.stamps.as_mut_ptr(),
+            second.stamps.len(),
+            first.state,
+            second.state,
+            moment.ns,
+            moment.settings(),
+        )
+    };
+    (first.state, second.state) = (reply.first, reply.second);
+    reply
 }
 
 /// Whether the reference has this call. It registers nothing, and answers no question about memory.
@@ -94,43 +137,28 @@ pub fn call(
 mod tests {
     use super::*;
     use crate::layer::draw::Player;
-    use crate::layer::{inside, Moment, CHUNK};
+    use crate::layer::{edges, inside, CHUNK};
     use crate::rng::Rng;
     use crate::SEED;
     use sirqobal::lent::{self, RECORDS};
     use sirqobal::Layer;
     use std::collections::BTreeSet;
 
-    #[derive(Clone, PartialEq)]
-    struct Table {
-        records: Vec<Arena>,
-        stamps: Vec<u32>,
-        state: State,
+    /// Makes the call on both, each on a table of its own: the number that both answer.
+    fn same(lent: &Table, moment: Moment, made: Call) -> u32 {
+        let [c, ours] = [call, lent::call].map(|side| {
+            let mut table = lent.clone();
+            let (records, stamps) = (&mut table.records, &mut table.stamps);
+            let settings = moment.settings();
+            let reply = side(records, stamps, lent.state, moment.ns, settings, made);
+            (reply, table)
+        });
+        assert_eq!(c.0, ours.0, "{made:?} on {:?}", lent.state);
+        assert!(c.1 == ours.1, "{made:?} on {:?}: tables", lent.state);
+        c.0.number
     }
 
     impl Table {
-        fn of(layer: &Layer) -> Table {
-            Table {
-                records: layer.records().to_vec(),
-                stamps: layer.stamps().to_vec(),
-                state: layer.state(),
-            }
-        }
-
-        /// Makes the call on both, each on a table of its own: the number that both answer.
-        fn same(&self, moment: Moment, made: Call) -> u32 {
-            let [c, ours] = [call, lent::call].map(|side| {
-                let mut table = self.clone();
-                let (records, stamps) = (&mut table.records, &mut table.stamps);
-                let settings = moment.settings();
-                let reply = side(records, stamps, self.state, moment.ns, settings, made);
-                (reply, table)
-            });
-            assert_eq!(c.0, ours.0, "{made:?} on {:?}", self.state);
-            assert!(c.1 == ours.1, "{made:?} on {:?}: tables", self.state);
-            c.0.number
-        }
-
         /// One thing in it is changed, so that row 1 mostly turns it down.
         fn damage(&mut self, rng: &mut Rng) {
             let arena = rng.below(self.state.count.clamp(1, RECORDS) as u64) as usize;
@@ -215,11 +243,11 @@ mod tests {
                 let (moment, call) = next(&mut rng, &mut player, &layer);
                 if has(&call, &layer.state()) {
                     let table = Table::of(&layer);
-                    numbers.insert(table.same(moment, call));
+                    numbers.insert(same(&table, moment, call));
                     let mut damaged = table;
                     damaged.damage(&mut rng);
                     if has(&call, &damaged.state) {
-                        numbers.insert(damaged.same(moment, call));
+                        numbers.insert(same(&damaged, moment, call));
                     }
                     made += 1;
                 }
@@ -229,5 +257,25 @@ mod tests {
         assert!(made > 5_000, "{made} calls");
         let all = [0, 1, 2, 3, 4, 5, 7, 8, 9, 10, 11, lent::QUESTION];
         assert_eq!(numbers, BTreeSet::from(all));
+    }
+
+    #[test]
+    fn joins_as_ours_does() {
+        let mut rng = Rng::new(SEED);
+        let mut numbers = BTreeSet::new();
+        for _ in 0..300 {
+            let player = Player::new(&mut rng);
+            let mut moment = player.any_moment(&mut rng);
+            let mut both = [(); 2].map(|()| Table::of(&start(&mut rng, &player)));
+            edges::change(&mut rng, &mut both, &mut moment);
+            let [c, ours] = [join, Table::join].map(|side| {
+                let [mut first, mut second] = both.clone();
+                (side(&mut first, &mut second, moment), first, second)
+            });
+            assert_eq!(c.0, ours.0);
+            assert!(c == ours, "the tables differ after {:?}", c.0);
+            numbers.insert(c.0.number);
+        }
+        assert_eq!(numbers, BTreeSet::from([0, 1, 2, 17, 18]));
     }
 }

@@ -2,50 +2,24 @@
 //! have, as a table of cases with the document's numbers; and a record's flags, which the original
 //! has as bits. A refusal changes no byte of what is lent.
 
+use super::plain::Table;
 use super::{Moment, CHUNK, QUIET};
-use sirqobal::lent::{self, Arena, Call, Reply, State, RECORDS, STAMPS};
+use sirqobal::lent::{self, Arena, Call, Reply, State, RECORDS};
 
-/// A lent table.
-#[derive(Clone)]
-struct Table {
-    records: Vec<Arena>,
-    stamps: Vec<u32>,
-    state: State,
-}
-
-const BASE: u64 = 1_073_741_824;
+pub(super) const BASE: u64 = 1_073_741_824;
 
 /// Document 01's example: arena 0, owned, not exclusive, 4 chunks, all free, uncommitted.
-fn example() -> Table {
-    let mut records = vec![Arena::EMPTY; RECORDS];
-    records[0] = Arena {
+pub(super) fn example() -> Table {
+    let mut table = Table::empty();
+    table.records[0] = Arena {
         base: BASE,
         chunks: 4,
         owned: 1,
         node: -1,
         ..Arena::EMPTY
     };
-    let state = State {
-        count: 1,
-        ..State::EMPTY
-    };
-    Table {
-        records,
-        stamps: vec![0; STAMPS],
-        state,
-    }
-}
-
-impl Table {
-    fn call(&mut self, moment: Moment, call: Call) -> Reply {
-        let (records, stamps) = (&mut self.records, &mut self.stamps);
-        let settings = moment.settings();
-        lent::call(records, stamps, self.state, moment.ns, settings, call)
-    }
-
-    fn is(&self, other: &Table) -> bool {
-        self.records == other.records && self.stamps == other.stamps && self.state == other.state
-    }
+    table.state.count = 1;
+    table
 }
 
 /// Counts cases, and tells those that are answered otherwise than by the document.
@@ -87,7 +61,7 @@ impl Cases {
         };
         let right = match number {
             0 | lent::QUESTION => reply.number == number,
-            _ => reply == refusal && after.is(table),
+            _ => reply == refusal && after == *table,
         };
         if !right {
             self.wrong.push(format!(
@@ -134,7 +108,7 @@ impl Cases {
             table.state = table.call(QUIET, call).state;
             let reply = table.call(QUIET, answer(kind, false, 0));
             table.state = reply.state;
-            if reply.number != number || !table.is(&example()) {
+            if reply.number != number || table != example() {
                 self.wrong.push(format!(
                     "{call:?}, then no: document {number}, ours {reply:?}"
                 ));
@@ -447,7 +421,7 @@ fn calls() -> Vec<Call> {
 }
 
 /// The example with each question open.
-fn questions() -> Vec<(u32, Table)> {
+pub(super) fn questions() -> Vec<(u32, Table)> {
     let with = |change: fn(&mut State)| {
         let mut table = example();
         table.records[0].used[0] = 0b1111;
@@ -474,10 +448,10 @@ fn memory(state: &mut State) {
     (state.question, state.chunks, state.bytes) = (3, 2, 2 * CHUNK);
 }
 
-type Change = (&'static str, fn(&mut Table));
+pub(super) type Change = (&'static str, fn(&mut Table));
 
 /// Each of these breaks the example.
-const DAMAGES: &[Change] = &[
+pub(super) const DAMAGES: &[Change] = &[
     ("33 arenas", |t| t.state.count = 33),
     ("2^64 - 1 arenas", |t| t.state.count = usize::MAX),
     ("an empty record stands", |t| t.state.count = 2),
@@ -577,7 +551,7 @@ const DAMAGES: &[Change] = &[
 ];
 
 /// None of these does.
-const SOUND: &[Change] = &[
+pub(super) const SOUND: &[Change] = &[
     ("as it is", |_| {}),
     ("no arena", |t| t.state.count = 0),
     ("anything past the arenas", |t| {
@@ -627,17 +601,11 @@ const SOUND: &[Change] = &[
 mod tests {
     use super::super::document::{at_once, broken, has_run};
     use super::*;
-    use sirqobal::Layer;
-
-    fn layer(table: &Table) -> Layer {
-        let records = table.records[..].try_into().unwrap();
-        Layer::from_table(records, table.stamps[..].try_into().unwrap(), table.state)
-    }
 
     // The judge of the random sequences, against the document's own examples.
     #[test]
     fn judged_as_the_examples_say() {
-        let layer = layer(&example());
+        let layer = example().layer();
         let (moment, rows) = example_rows();
         for (number, call) in rows {
             let at_once = at_once(&layer, &moment, &call);

@@ -34,7 +34,7 @@ impl Layer {
     /// # Errors
     /// [`Refusal::ArenasOff`]; [`Refusal::NoRun`]; [`Refusal::CommitRefused`] with the answer no.
     ///
-    /// A default reserve that fails sets the give-up mark for good: this claim is refused with
+    /// A default reserve that fails sets the give-up mark: this claim is refused with
     /// [`Refusal::NoRun`], and no later one reserves ([`Layer::has_given_up`]).
     ///
     /// ```

@@ -5,12 +5,14 @@ use crate::{Ask, Open, Outcome, Picture, Question, Refusal};
 use std::fmt;
 
 mod claiming;
+mod joining;
 mod moment;
 mod queries;
 mod registering;
 mod releasing;
 
 pub use claiming::Run;
+pub use joining::Rise;
 pub use moment::Moment;
 pub use registering::Managed;
 
@@ -79,7 +81,7 @@ impl Layer {
         }
     }
 
-    /// Makes any call, and answers as the C surface does.
+    /// Makes any call on this table alone, and answers as the C surface does.
     ///
     /// ```
     /// use sirqobal::{lent::Call, Layer, Moment};
@@ -150,7 +152,7 @@ impl Layer {
     }
 
     /// Whether default reserves are given up: one has failed, and there will be no other for as
-    /// long as this table is used.
+    /// long as this table is used, unless it is joined with one where none has failed.
     ///
     /// ```
     /// use sirqobal::{Layer, Moment, NotDone, Outcome, Question, Refusal, ANY, CHUNK};

@@ -13,7 +13,7 @@ pub struct Moment {
     pub off: bool,
     /// The default reserve: what a claim of [`ANY`](crate::ANY) that finds nothing reserves, in
     /// bytes; nothing below [`CHUNK`](crate::CHUNK). The first such reserve that fails, because
-    /// the host says no or because no more arenas fit, is the last: the layer gives up for good
+    /// the host says no or because no more arenas fit, is the last: the layer gives up
     /// ([`Layer::has_given_up`](crate::Layer::has_given_up)), and no setting brings it back.
     pub reserve: u64,
     /// The page size: 4,096 .. 65,536, a power of two.

@@ -20,11 +20,13 @@
 
 use crate::abi;
 
+mod joining;
 mod reply;
 mod table;
 mod told;
 
-pub use reply::{Reply, QUESTION};
+pub use joining::{join_tables, Table};
+pub use reply::{JoinReply, Reply, QUESTION};
 pub use table::{Arena, State};
 pub use told::{Call, Settings};
 

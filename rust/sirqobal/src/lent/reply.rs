@@ -38,3 +38,19 @@ pub struct Reply {
     /// What the next call is to be lent.
     pub state: State,
 }
+
+/// What a join answers, and the state that it leaves of each table.
+#[repr(C)]
+#[derive(Clone, Copy, Debug, Default, PartialEq, Eq)]
+pub struct JoinReply {
+    /// 0 joined, else the refusal.
+    pub number: u32,
+    /// Always 0.
+    pub spare: u32,
+    /// By how much the ids of the second's arenas have risen; 0 with a refusal.
+    pub rise: usize,
+    /// What the first table's next call is to be lent.
+    pub first: State,
+    /// What the second table's next call is to be lent.
+    pub second: State,
+}

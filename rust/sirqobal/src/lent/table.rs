@@ -59,7 +59,7 @@ impl Arena {
 pub struct State {
     /// Arenas that stand.
     pub count: usize,
-    /// 1: default reserves are given up, for good.
+    /// 1: default reserves are given up; nothing but a join clears it.
     pub mark: u32,
     /// The open question's kind: 0 none, 1 commit, 2 purge, 3 memory, 4 give back.
     pub question: u32,

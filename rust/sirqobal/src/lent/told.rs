@@ -9,7 +9,7 @@ pub struct Settings {
     /// Arenas serve only claims that name them (option 27).
     pub off: u32,
     /// The default reserve in bytes (option 23). The first one that fails is the last: it sets
-    /// [`State::mark`](super::State::mark) for good.
+    /// [`State::mark`](super::State::mark).
     pub reserve: u64,
     /// The page size: 4,096 .. 65,536, a power of two.
     pub page: u64,

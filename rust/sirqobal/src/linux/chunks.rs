@@ -7,8 +7,9 @@ use std::sync::Arc;
 
 /// Claimed chunks: their bytes, and the right to release them. Made by
 /// [`Memory::claim`](super::Memory::claim) alone and ended by
-/// [`Memory::release`](super::Memory::release). Dropped unreleased they stay claimed, which is a
-/// leak of the arena's chunks and nothing worse.
+/// [`Memory::release`](super::Memory::release), in the memory that has their arena then: a
+/// [join](super::Memory::join) takes the arena to another. Dropped unreleased they stay claimed,
+/// which is a leak of the arena's chunks and nothing worse.
 ///
 /// They may go to another thread, and may outlive the `Memory`: the arena stays mapped until they
 /// are dropped.

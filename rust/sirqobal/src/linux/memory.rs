@@ -1,6 +1,6 @@
 use super::mapping::Mapping;
 use super::{now, page_size, Chunks, Error, Options, Os, Unreleased};
-use crate::{Layer, Managed, Moment, Outcome, Refusal, CHUNK};
+use crate::{Layer, Managed, Moment, Outcome, Refusal, Rise, CHUNK};
 use std::io;
 use std::ptr::NonNull;
 use std::sync::Arc;
@@ -76,13 +76,13 @@ impl Memory {
     }
 
     /// Registers the whole chunks inside a range that the program has mapped, and answers the
-    /// arena's id. The range is not unmapped; when the memory and the last of its chunks are
-    /// dropped it is readable and writable again, with any bytes.
+    /// arena's id. The range is not unmapped; when the memory that has the arena and the last of
+    /// its chunks are dropped it is readable and writable again, with any bytes.
     ///
     /// # Safety
     /// The range is private anonymous memory, readable and writable, and its bytes are initialised.
-    /// From now on, as long as this memory or any of its chunks lives, it stays mapped, and nobody
-    /// else reads, writes, protects or advises it.
+    /// From now on, as long as this memory, one that it is [joined](Memory::join) to or any of its
+    /// chunks lives, it stays mapped, and nobody else reads, writes, protects or advises it.
     ///
     /// # Errors
     /// [`Refusal::NoWholeChunk`], [`Refusal::Range`] if it overlaps an arena,
@@ -163,7 +163,8 @@ impl Memory {
         Ok(unsafe { Chunks::new(Arc::clone(mapping), offset, n, run.fresh) })
     }
 
-    /// Releases chunks; a later sweep purges them.
+    /// Releases chunks that were claimed here, or in a memory that was joined to this one since; a
+    /// later sweep purges them.
     ///
     /// # Errors
     /// Chunks of another memory are refused with [`Refusal::NotInside`] and come back.
@@ -204,6 +205,48 @@ impl Memory {
     /// ```
     pub fn sweep(&mut self, force: bool) -> Result<usize, Error> {
         self.settle(|layer, moment| layer.purge_due(moment, force))
+    }
+
+    /// Joins another memory to this one, while chunks of both are held: the second's arenas become
+    /// this one's, their mappings with them. Nothing moves in memory. Chunks of the second stay
+    /// what they are, and are released and swept here from then on; its arenas are named here by
+    /// their new ids, which the [`Rise`] tells. The second has no arena, and may be used again or
+    /// dropped. Both keep their options.
+    ///
+    /// # Errors
+    /// [`Refusal::TooManyArenas`] if more than 32 would result; both are then as they were. There
+    /// is no other that a program can bring about: the ranges of two memories do not overlap.
+    ///
+    /// ```
+    /// use sirqobal::{linux::Memory, Refusal, CHUNK};
+    ///
+    /// let (mut first, mut second) = (Memory::new(), Memory::new());
+    /// let guidance = first.reserve(2 * CHUNK, true)?;
+    /// let recorder = second.reserve(2 * CHUNK, true)?;
+    /// let mut telemetry = second.claim(recorder, 1)?;
+    /// telemetry.fill(7);
+    ///
+    /// let rise = first.join(&mut second)?;
+    /// let recorder = rise.id(recorder).unwrap();
+    /// assert_ne!(recorder, guidance);
+    /// assert_eq!(first.claim(recorder, 1)?.address(), telemetry.address() + CHUNK);
+    /// assert!(telemetry.iter().all(|byte| *byte == 7));
+    ///
+    /// // The second knows it no longer.
+    /// let unreleased = second.release(telemetry).unwrap_err();
+    /// assert_eq!(unreleased.error, Refusal::NotInside);
+    /// first.release(unreleased.chunks)?;
+    /// # Ok::<(), sirqobal::linux::Error>(())
+    /// ```
+    pub fn join(&mut self, second: &mut Memory) -> Result<Rise, Error> {
+        self.os.begin();
+        second.os.begin();
+        let moment = self.moment();
+        let rise = self.layer.join_tables(moment, &mut second.layer)?;
+        // The used bits of the second's handles are this layer's now, and their mappings go along:
+        // a handle is released, and its chunks are purged and granted again, by whoever has both.
+        self.os.take(&mut second.os);
+        Ok(rise)
     }
 
     /// The layer, to look at.

@@ -9,8 +9,8 @@ pub struct Options {
     /// Arenas serve only claims that name them.
     pub off: bool,
     /// The default reserve: what a claim of [`ANY`](crate::ANY) that finds nothing reserves, in
-    /// bytes; nothing below [`CHUNK`](crate::CHUNK). The first such reserve that fails, because the OS says no or
-    /// because 32 arenas stand, is the last: the layer gives up for good
+    /// bytes; nothing below [`CHUNK`](crate::CHUNK). The first such reserve that fails, because the
+    /// OS says no or because 32 arenas stand, is the last: the layer gives up
     /// ([`Layer::has_given_up`](crate::Layer::has_given_up)), whatever is set here later.
     pub reserve: u64,
 }

@@ -30,6 +30,11 @@ impl Os {
         self.mappings.push(Arc::new(mapping));
     }
 
+    /// Takes over all mappings of another, whose arenas have become those of this one's layer.
+    pub(super) fn take(&mut self, second: &mut Os) {
+        self.mappings.append(&mut second.mappings);
+    }
+
     /// Whether it is one of these mappings, not only one alike.
     pub(super) fn has(&self, mapping: &Arc<Mapping>) -> bool {
         self.mappings.iter().any(|own| Arc::ptr_eq(own, mapping))

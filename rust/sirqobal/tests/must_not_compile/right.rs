@@ -15,5 +15,13 @@ fn main() -> Result<(), Error> {
     assert_eq!(ring[7], 7);
     memory.release(ring)?;
     assert_eq!(memory.sweep(true)?, 2);
+    // Another memory is joined to it, and its arena named by its new id.
+    let mut second = Memory::new();
+    let other = second.reserve(CHUNK, true)?;
+    let rise = memory.join(&mut second)?;
+    let chunk = memory.claim(rise.id(other).unwrap(), 1)?;
+    memory.release(chunk)?;
+    // A copy of the book is joined to another book.
+    assert_eq!(Layer::new().join_tables(Moment::default(), &mut copy)?.ids(), 0..1);
     Ok(())
 }

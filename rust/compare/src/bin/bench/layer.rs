@@ -273,7 +273,7 @@ fn base(id: usize) -> u64 {
 }
 
 /// So many shared arenas, all committed and dirty, with these used bits.
-fn table(count: usize, chunks: usize, used: impl Fn(usize, usize) -> bool) -> Layer {
+pub fn table(count: usize, chunks: usize, used: impl Fn(usize, usize) -> bool) -> Layer {
     let mut records = [Arena::EMPTY; RECORDS];
     for (id, arena) in records.iter_mut().enumerate().take(count) {
         let all: [u32; 32] = std::array::from_fn(|word| inside(chunks, word));

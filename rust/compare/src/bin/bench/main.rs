@@ -2,10 +2,11 @@
 //! call it, the original called directly, and for the layer the reference in plain C, called as ours
 //! is. A number is the smallest of the means of several rounds; the rounds of the sides take turns.
 //!
-//! `--table T` prints only the slice pool's table (1) or the layer's (2). With `--row R --side S --times
-//! N` it makes only the operations of one row, N times, on ours (1), the original (2) or the reference
-//! (3), and times nothing: for counting instructions (rust/callgrind.sh).
+//! `--table T` prints only the slice pool's table (1), the layer's (2) or the joins' (3), which the
+//! original does not have. With `--row R --side S --times N` it makes only the operations of one row, N
+//! times, on the side of that column, and times nothing: for counting instructions (rust/callgrind.sh).
 
+mod joins;
 mod layer;
 mod pool;
 
@@ -41,7 +42,7 @@ impl Side {
 /// A row of the table.
 pub trait Case {
     fn name(&self) -> String;
-    /// Slices or chunks of an operation, and its first answer.
+    /// Slices, chunks or arenas of an operation, and its first answer.
     fn detail(&self) -> [String; 2];
     /// Panics if the sides give other answers or leave other states: nobody is timed at wrong work.
     fn check(&self);
@@ -57,7 +58,7 @@ struct Table {
     cases: fn(&mut Rng) -> Vec<Box<dyn Case>>,
 }
 
-const TABLES: [Table; 2] = [
+const TABLES: [Table; 3] = [
     Table {
         title: "Slice pool",
         sides: &[Side::Ours, Side::Rust],
@@ -68,6 +69,11 @@ const TABLES: [Table; 2] = [
         sides: &[Side::Ours, Side::Rust, Side::C],
         cases: layer::cases,
     },
+    Table {
+        title: "Joins",
+        sides: &[Side::Ours, Side::C],
+        cases: joins::cases,
+    },
 ];
 
 fn main() {
@@ -76,7 +82,8 @@ fn main() {
         [SEED, 0, 0, 0, 0],
     );
     if row != 0 {
-        return one(&TABLES[usize::from(table != 1)], seed, row, side, times);
+        let named = TABLES.get((table as usize).wrapping_sub(1));
+        return one(named.unwrap_or(&TABLES[1]), seed, row, side, times);
     }
     println!("{}, seed {seed}", cpu_model());
     for (number, shown) in (1..).zip(&TABLES) {

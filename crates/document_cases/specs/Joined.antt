@@ -43,12 +43,12 @@ four base used dirty pending deadline =
       pending = row pending;
     }
 
--- all chunks free; chunks 0 and 2 held, and chunk 1 released and due at 50 ms
+-- all chunks free; chunks 0 and 2 held, chunk 1 pending, the deadline at 20 ms
 abbrev pub free : ℕ → Arena
 free base = four base 0 0 0 0
 
 abbrev pub held : ℕ → Arena
-held base = four base 5 7 2 50
+held base = four base 5 7 2 20
 
 abbrev pub zeros : List ℕ
 zeros = replicate 32768 0
@@ -64,12 +64,12 @@ two a b stamps mark = worldOf (a ∷ b ∷ replicate 30 blank) stamps (calm 2 ma
 abbrev pub freeAt : ℕ → World
 freeAt chunks = one (free (chunks * S)) zeros false Idle
 
--- chunk 1 of arena 0 is stamped, and chunk 1 of arena 1
+-- chunk 1 of arena 0 was released at 10 ms, and chunk 1 of arena 1
 abbrev pub stampIn0 : List ℕ
-stampIn0 = 0 ∷ 50 ∷ replicate 32766 0
+stampIn0 = 0 ∷ 10 ∷ replicate 32766 0
 
 abbrev pub stampIn1 : List ℕ
-stampIn1 = replicate 1024 0 ++ 0 ∷ 50 ∷ replicate 31742 0
+stampIn1 = replicate 1024 0 ++ 0 ∷ 10 ∷ replicate 31742 0
 
 abbrev pub heldAt : ℕ → Question → World
 heldAt chunks q = one (held (chunks * S)) stampIn0 false q
@@ -81,12 +81,15 @@ marked chunks mark = one (free (chunks * S)) zeros mark Idle
 abbrev pub blockTable : ℕ → ℕ → World
 blockTable i n = worldOf (blocks i n ++ replicate (32 - n) blank) zeros (calm n false)
 
--- a table of 33 arenas, and a page of one byte
+-- a table of 33 arenas; a page of one byte; a purge delay of 40 ms
 abbrev pub miscounted : World
 miscounted = worldOf (replicate 32 blank) zeros (calm 33 false)
 
 abbrev pub tinyPage : Settings
 tinyPage = record { delay = pos 0; decommits = false; off = false; reserve = 0; page = 1 }
+
+abbrev pub delayed : Settings
+delayed = record { delay = pos 40; decommits = false; off = false; reserve = 0; page = 4096 }
 
 -- more stands in the table than its one arena: two records, and the stamps of the parts 0, 1 and 2
 abbrev pub littered : Arena → Arena → Arena → ℕ → ℕ → ℕ → World
@@ -130,9 +133,9 @@ pub record Cases : Type 0 where
   pub apart : Joins (freeAt 32) (heldAt 64 Idle) 1 (two (free (32 * S)) (held (64 * S)) stampIn1 false)
   -- by table, and not by base
   pub below : Joins (freeAt 64) (heldAt 32 Idle) 1 (two (free (64 * S)) (held (32 * S)) stampIn1 false)
-  -- so the joined layer's sweep asks about the second's chunk when its stamp is due, and not before
-  pub not-yet-due : step (two (free (32 * S)) (held (64 * S)) stampIn1 false) 49000000 plain (act (sweep false)) .answer ≡ Swept 0
-  pub due : step (two (free (32 * S)) (held (64 * S)) stampIn1 false) 50000000 plain (act (sweep false)) .answer ≡ Asks (AskPurge (65 * S) S false)
+  -- so the joined layer's sweep asks about the second's chunk when it is due, and not before
+  pub not-yet-due : step (two (free (32 * S)) (held (64 * S)) stampIn1 false) 49000000 delayed (act (sweep false)) .answer ≡ Swept 0
+  pub due : step (two (free (32 * S)) (held (64 * S)) stampIn1 false) 50000000 delayed (act (sweep false)) .answer ≡ Asks (AskPurge (65 * S) S false)
   -- neighbours share no address; they stay two arenas, and nothing is adopted at the seam
   pub neighbours : Joins (freeAt 32) (freeAt 36) 1 (two (free (32 * S)) (free (36 * S)) zeros false)
   pub neighbours-below : Joins (freeAt 36) (freeAt 32) 1 (two (free (36 * S)) (free (32 * S)) zeros false)

@@ -1,5 +1,6 @@
 // Runs the worked cases of document 01 on the compiled code and prints a table: what is computed, our
-// answer, what document 01 says. Then a picture of a slice pool, from which the lowest run is taken.
+// answer, what document 01 says; then a table of the cases of document 02's wish 1, two tables joined. Then a
+// picture of a slice pool, from which the lowest run is taken.
 // No contract can say what is printed, so all that prints stands here, and nothing here is public. What
 // is printed comes from functions that are: the libraries', and those of `worked_parts`. The answer of
 // each is fixed by an `ensures`.
@@ -20,7 +21,12 @@ use layer::Question;
 use layer::Reply;
 use layer::Settings;
 use layer::State;
+use layer::Sweep;
+use layer::Waiting;
 use libc::STDOUT_FILENO;
+use worked_parts::joins;
+use worked_parts::joins::Seen;
+use worked_parts::joins::Side;
 use worked_parts::numbers;
 use worked_parts::picture;
 use worked_parts::tally;
@@ -75,10 +81,10 @@ fn right_yes_or_no(yes: bool) {
     }
 }
 
-fn heading() {
+fn heading(paper: &[u8]) {
     left(b"case");
     right(b"our answer");
-    right(b"document 01");
+    right(paper);
     say(b"\n");
 }
 
@@ -518,7 +524,7 @@ fn memory_refused(t: Tally) -> Tally {
 }
 
 fn table() {
-    heading();
+    heading(b"document 01");
     let mut t = tally::none_yet();
     t = masks(t);
     t = lowest_runs(t);
@@ -535,6 +541,410 @@ fn table() {
     t = addresses_refused(t);
     t = runs_and_counts_refused(t);
     t = memory_refused(t);
+    total(t);
+}
+
+// ---- document 02, wish 1: two tables joined
+
+// A table before the join: 32 records alike, of which the state counts one or none, and 32,768 stamps alike.
+struct Lent {
+    arena: Arena,
+    stamp: u32,
+    side: Side,
+}
+
+// What is seen of two tables joined: the joined table is asked for the arena at an id, swept and claimed from
+// there, and the second is asked for an address.
+fn joined(
+    a: Arena,
+    s: u32,
+    side: Side,
+    b: Arena,
+    t: u32,
+    other: Side,
+    ns: u64,
+    e: Settings,
+    id: i32,
+    address: u64,
+) -> Seen {
+    let mut records = [a; 32];
+    let mut stamps = [s; 32768];
+    let mut second_records = [b; 32];
+    let mut second_stamps = [t; 32768];
+    joins::join_and_look(
+        &mut records,
+        &mut stamps,
+        &mut second_records,
+        &mut second_stamps,
+        side,
+        other,
+        ns,
+        e,
+        id,
+        address,
+    )
+}
+
+// At a clock in milliseconds, with a page size. The purge delay is 40 ms.
+fn joined_at(first: Lent, second: Lent, id: i32, ms: u32, page: u64) -> Seen {
+    let e = Settings {
+        delay: 40,
+        decommits: false,
+        off: false,
+        reserve: 0,
+        page,
+    };
+    let a = first.arena;
+    let b = second.arena;
+    let ns = ms as u64 * 1000000;
+    joined(
+        a,
+        first.stamp,
+        first.side,
+        b,
+        second.stamp,
+        second.side,
+        ns,
+        e,
+        id,
+        b.base,
+    )
+}
+
+fn joined_now(first: Lent, second: Lent, id: i32) -> Seen {
+    joined_at(first, second, id, 1, 4096)
+}
+
+fn side(count: usize, mark: bool, question: Question) -> Side {
+    let state = State {
+        count,
+        mark,
+        question,
+    };
+    Side {
+        state,
+        blocks: 0,
+        from: 0,
+    }
+}
+
+fn idle_side(count: usize, mark: bool) -> Side {
+    side(count, mark, Question::Idle)
+}
+
+// Four chunks, exclusive, all free.
+fn free_arena(base: u64) -> Arena {
+    arena::reserved_arena(base, 4, false, true)
+}
+
+// Four chunks: 0 and 2 are held, 1 is pending; the deadline is at 20 ms.
+fn held_arena(base: u64) -> Arena {
+    let mut used = [0u32; 32];
+    used[0] = 5;
+    let mut dirty = [0u32; 32];
+    dirty[0] = 7;
+    let mut pending = [0u32; 32];
+    pending[0] = 2;
+    Arena {
+        base,
+        chunks: 4,
+        exclusive: 1,
+        owned: 1,
+        node: -1,
+        deadline: 20,
+        used,
+        dirty,
+        committed: dirty,
+        pending,
+    }
+}
+
+fn table_of(arena: Arena, stamp: u32, side: Side) -> Lent {
+    Lent { arena, stamp, side }
+}
+
+fn free_table(base: u64) -> Lent {
+    table_of(free_arena(base), 0, idle_side(1, false))
+}
+
+// The pending chunk was released at 10 ms, so it is due at 50 ms.
+fn held_table(base: u64) -> Lent {
+    table_of(held_arena(base), 10, idle_side(1, false))
+}
+
+fn marked_table(base: u64, mark: bool) -> Lent {
+    table_of(free_arena(base), 0, idle_side(1, mark))
+}
+
+// A purge or a memory question is open.
+fn purging_table(base: u64) -> Lent {
+    let sweep = Sweep {
+        force: true,
+        now: 1,
+        delay: 0,
+        decommit: false,
+        purged: 0,
+    };
+    let question = Question::Purging {
+        id: 0,
+        chunk: 0,
+        sweep,
+    };
+    table_of(held_arena(base), 10, side(1, false, question))
+}
+
+fn asking_table(base: u64) -> Lent {
+    let question = Question::Reserving {
+        chunks: 3,
+        bytes: 100663296,
+        commit: false,
+        exclusive: true,
+        waiting: Waiting::Reserve,
+    };
+    table_of(free_arena(base), 0, side(1, false, question))
+}
+
+// The state counts another number of arenas than one: none, or too many.
+fn counted_table(base: u64, count: usize) -> Lent {
+    table_of(held_arena(base), 10, idle_side(count, false))
+}
+
+// An arena, and so many blocks from a chunk on, each an arena.
+fn block_table(base: u64, blocks: usize, from: u32) -> Lent {
+    let alone = idle_side(1, false);
+    let state = alone.state;
+    let side = Side {
+        state,
+        blocks,
+        from,
+    };
+    table_of(free_arena(base), 0, side)
+}
+
+fn join_refusal(s: Seen) -> u64 {
+    let r = s.joined;
+    let a = r.answer;
+    numbers::join_refusal(a)
+}
+
+fn join_rise(s: Seen) -> u64 {
+    let r = s.joined;
+    let a = r.answer;
+    numbers::rise_of(a)
+}
+
+fn join_mark(s: Seen) -> bool {
+    let r = s.joined;
+    r.first.mark
+}
+
+fn second_owns(s: Seen) -> bool {
+    surface::reply::reply_of(s.owned).owns
+}
+
+// A join that is granted, by what the joined table has at the second's first new id.
+fn granted(t: Tally, name: &[u8], s: Seen, rise: u64, base: u64) -> Tally {
+    let t1 = number(t, name, join_refusal(s), 0);
+    let t2 = number(
+        t1,
+        b"   by how much the second's ids rise",
+        join_rise(s),
+        rise,
+    );
+    let found = s.first;
+    let t3 = number(
+        t2,
+        b"   base of the arena at the first id that rose (0: none)",
+        area_base(found.range),
+        base,
+    );
+    yes_or_no(
+        t3,
+        b"   does the second own its range still",
+        second_owns(s),
+        false,
+    )
+}
+
+// A join that is refused: the second owns its range as before.
+fn turned_down(t: Tally, name: &[u8], s: Seen, want: u64) -> Tally {
+    let t1 = number(t, name, join_refusal(s), want);
+    yes_or_no(
+        t1,
+        b"   does the second own its range still",
+        second_owns(s),
+        true,
+    )
+}
+
+// Stamps, deadlines, used and dirty bits come along.
+fn one_and_one(t: Tally) -> Tally {
+    let first = free_table(1073741824);
+    let second = held_table(2147483648);
+    let s = joined_at(first, second, 1, 49, 4096);
+    let t1 = granted(
+        t,
+        b"join: one arena and one apart: refusal (0: none)",
+        s,
+        1,
+        2147483648,
+    );
+    let found = s.first;
+    let swept = refusal(found.swept);
+    let t2 = number(
+        t1,
+        b"   a sweep before its chunk is due: refusal (255: asks)",
+        swept,
+        0,
+    );
+    let claimed = area_base(found.claimed);
+    let t3 = number(
+        t2,
+        b"   a claim there: the lowest free chunk",
+        claimed,
+        2181038080,
+    );
+    let fresh = surface::reply::reply_of(found.claimed).fresh;
+    let t4 = yes_or_no(t3, b"   is it fresh", fresh, false);
+    let later = joined_at(first, second, 1, 50, 4096);
+    let asks = later.first;
+    let t5 = number(
+        t4,
+        b"   a sweep when it is due: refusal (255: asks)",
+        refusal(asks.swept),
+        255,
+    );
+    let asked = area_base(asks.swept);
+    number(t5, b"   it asks about the chunk at", asked, 2181038080)
+}
+
+fn ids_by_table(t: Tally) -> Tally {
+    let a = joined_now(free_table(1073741824), free_table(1207959552), 1);
+    let t1 = granted(
+        t,
+        b"join: neighbouring ranges: refusal (0: none)",
+        a,
+        1,
+        1207959552,
+    );
+    let b = joined_now(free_table(2147483648), free_table(1073741824), 1);
+    granted(
+        t1,
+        b"join: the second's base below: refusal (0: none)",
+        b,
+        1,
+        1073741824,
+    )
+}
+
+fn empty_sides(t: Tally) -> Tally {
+    let one = held_table(2147483648);
+    let none = counted_table(1073741824, 0);
+    let a = joined_now(none, one, 0);
+    let t1 = granted(
+        t,
+        b"join: an empty first: refusal (0: none)",
+        a,
+        0,
+        2147483648,
+    );
+    let b = joined_now(one, none, 1);
+    let t2 = granted(t1, b"join: an empty second: refusal (0: none)", b, 1, 0);
+    let c = joined_now(none, none, 0);
+    granted(t2, b"join: both empty: refusal (0: none)", c, 0, 0)
+}
+
+// Rows 17 and 18. Blocks from chunk 2,048 on are in the first, from 4,096 on in the second.
+fn ranges_and_counts(t: Tally) -> Tally {
+    let one = free_table(1073741824);
+    let shares = free_table(1174405120);
+    let t1 = turned_down(
+        t,
+        b"join: one chunk in both: refusal",
+        joined_now(one, shares, 0),
+        17,
+    );
+    let full = block_table(1073741824, 31, 2048);
+    let t2 = turned_down(
+        t1,
+        b"join: one chunk in both, 33 arenas: refusal",
+        joined_now(full, shares, 0),
+        17,
+    );
+    let apart = free_table(2147483648);
+    let t3 = turned_down(
+        t2,
+        b"join: 33 arenas apart: refusal",
+        joined_now(full, apart, 0),
+        18,
+    );
+    let half = block_table(1073741824, 15, 2048);
+    let other = block_table(2147483648, 15, 4096);
+    granted(
+        t3,
+        b"join: 16 arenas and 16: refusal (0: none)",
+        joined_now(half, other, 16),
+        16,
+        2147483648,
+    )
+}
+
+// Rows 1 and 2.
+fn rows_one_and_two(t: Tally) -> Tally {
+    let one = free_table(1073741824);
+    let asks = asking_table(1073741824);
+    let purges = purging_table(2147483648);
+    let a = joined_now(asks, held_table(2147483648), 0);
+    let t1 = turned_down(t, b"join: a question open in the first: refusal", a, 2);
+    let b = joined_now(one, purges, 0);
+    let t2 = turned_down(t1, b"join: a question open in the second: refusal", b, 2);
+    let c = joined_now(asks, one, 0);
+    let t3 = turned_down(
+        t2,
+        b"join: a question, and one range in both: refusal",
+        c,
+        2,
+    );
+    let broken = joined_now(asks, counted_table(2147483648, 33), 0);
+    let t4 = number(
+        t3,
+        b"join: a question, and a second of 33 arenas: refusal",
+        join_refusal(broken),
+        1,
+    );
+    let page = joined_at(asks, purges, 0, 1, 1);
+    number(
+        t4,
+        b"join: questions, and a page of 1 byte: refusal",
+        join_refusal(page),
+        1,
+    )
+}
+
+fn marks(t: Tally) -> Tally {
+    let yes = marked_table(1073741824, true);
+    let no = marked_table(1073741824, false);
+    let other = marked_table(2147483648, true);
+    let plain = marked_table(2147483648, false);
+    let a = join_mark(joined_now(no, plain, 1));
+    let t1 = yes_or_no(t, b"join: no give-up mark: is it set", a, false);
+    let b = join_mark(joined_now(yes, plain, 1));
+    let t2 = yes_or_no(t1, b"join: the mark in the first: is it set", b, false);
+    let c = join_mark(joined_now(no, other, 1));
+    let t3 = yes_or_no(t2, b"join: the mark in the second: is it set", c, false);
+    let d = join_mark(joined_now(yes, other, 1));
+    yes_or_no(t3, b"join: the mark in both: is it set", d, true)
+}
+
+fn joins_table() {
+    heading(b"document 02");
+    let mut t = tally::none_yet();
+    t = one_and_one(t);
+    t = ids_by_table(t);
+    t = empty_sides(t);
+    t = ranges_and_counts(t);
+    t = rows_one_and_two(t);
+    t = marks(t);
     total(t);
 }
 
@@ -577,5 +987,6 @@ fn show() {
 
 fn main() {
     table();
+    joins_table();
     show();
 }

@@ -1,1 +1,3 @@
+pub mod JoinsLaws
 pub mod TallyLaws
+pub mod Callable

@@ -1,3 +1,4 @@
+pub mod Joins
 pub mod Numbers
 pub mod Picture
 pub mod Tally

@@ -1,5 +1,6 @@
-// What the program `worked` shows, by value: answers as numbers, a picture of the slice pool, and the cases
-// counted.
+// What the program `worked` shows: answers as numbers, a picture of the slice pool, two tables joined, and the
+// cases counted.
+pub mod joins;
 pub mod numbers;
 pub mod picture;
 pub mod tally;

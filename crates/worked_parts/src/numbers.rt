@@ -1,8 +1,9 @@
 // Answers as the numbers that are shown.
 ghost use mathlib.Core.Path.{_≡_};
 ghost use Rattle.slice_pool.specs.Pool.{allocNumber, freeNumber};
-ghost use Rattle.worked_parts.specs.Numbers.{startOf, addressOf};
+ghost use Rattle.worked_parts.specs.Numbers.{startOf, addressOf, joinNumber, riseOf};
 use bitmap::runs::Found;
+use layer::JoinAnswer;
 use slice_pool::Allocated;
 use slice_pool::Freed;
 
@@ -43,5 +44,25 @@ pub fn free_refusal(f: Freed) -> u64
     match f {
         Freed::Done => 0,
         Freed::NotDone(why) => refusals::refusal_number(why) as u64,
+    }
+}
+
+// The same of a join.
+pub fn join_refusal(a: JoinAnswer) -> u64
+    ensures { λ r. ⌜ r ≡ joinNumber a ⌝ }
+{
+    match a {
+        JoinAnswer::Joined(_) => 0,
+        JoinAnswer::NotJoined(why) => refusals::refusal_number(why) as u64,
+    }
+}
+
+// By how much the second's ids rise; 0 where the tables are not joined.
+pub fn rise_of(a: JoinAnswer) -> u64
+    ensures { λ r. ⌜ r ≡ riseOf a ⌝ }
+{
+    match a {
+        JoinAnswer::Joined(rise) => rise as u64,
+        JoinAnswer::NotJoined(_) => 0,
     }
 }

@@ -1,0 +1,35 @@
+-- Functions of `worked_parts` that a walk calls, each in one step: join-and-look-step. Written by tools/walks.
+-- Assumes `Given`, the callee's theorem, and that the table of calls is monotone under a frame.
+use Rattle.walks.proofs.Walking.{_≡_, refl, ℕ, _<_, _^_, List, [], _∷_, length, w32, w64, Operand, Val, vint, Fits, toZ, URA, SProp, id⊢, Memory, Routine, Heap, Env, Calls, Atoms, Given, Item, Goal, Seq, ‵, _⊛_, Opds, Fun, u32, u64, i32, yes, Is, Ises, owns-make, uint-makes, plain, sint-makes, tripleOf, Contract, Triple, Loan, lent, sliceOf, signed, Site}
+use Rattle.worked_parts.proofs.joins.Side as T-Side
+use Rattle.worked_parts.proofs.joins.Side.Laws as L-Side
+use denote.Struct.Laws as LL
+use Rattle.layer.proofs.Settings as T-Settings
+use Rattle.layer.proofs.Settings.Laws as L-Settings
+use Rattle.arena.proofs.Arena as T-Arena
+use Rattle.worked_parts.proofs.joins.Seen as T-Seen
+use Rattle.worked_parts.specs.declared.joins.Side.{Side}
+use Rattle.layer.specs.declared.Settings.{Settings}
+use Rattle.arena.specs.declared.Arena.{Arena}
+use Rattle.worked_parts.specs.declared.joins.Seen.{Seen}
+use Rattle.layer.specs.World.{worldOf}
+use Rattle.worked_parts.specs.Joins.{joinOf, seenAfter}
+use Rattle.worked_parts.proofs.joins.join_and_look as join-and-look′
+use Rattle.worked_parts.proofs.joins.join_and_look.Symbol.{name as #worked-parts·joins·join-and-look}
+use Rattle.walks.proofs.ShapeMmmm.{mmmm-call}
+
+-- the contracts that a walk cites
+module _ {M : Type 1} (𝓤 : URA M) (H : Heap 𝓤) (A : Atoms 𝓤) (mem : Memory → SProp 𝓤) (run : Routine → Fun 𝓤) where
+  abbrev pub JoinAndLookSpec : Contract 𝓤
+  JoinAndLookSpec = tripleOf 𝓤 H A join-and-look′.signature (join-and-look′.spec 𝓤 H A mem run)
+
+module _ {M : Type 1} {𝓤 : URA M} {H : Heap 𝓤} {A : Atoms 𝓤} {K : Type 0} {W : Given 𝓤 H A} {Γ : List (Item 𝓤)} {C : Calls 𝓤 H} {E : Env 𝓤 H} {xs : List Operand} {G : Goal 𝓤 H} {after : Val → Goal 𝓤 H} {more : Item 𝓤} where
+  pub join-and-look-step : K → Site K W Γ C E #worked-parts·joins·join-and-look xs G after → (mem : Memory → SProp 𝓤) (run : Routine → Fun 𝓤) → Triple 𝓤 (C #worked-parts·joins·join-and-look) (JoinAndLookSpec 𝓤 H A mem run)
+      → (L-records : Loan) (records : List Arena) → (L-stamps : Loan) (stamps : List ℕ) → (L-second-records : Loan) (second-records : List Arena) → (L-second-stamps : Loan) (second-stamps : List ℕ) → (side : Side) (v-side : Val) → Is T-Side.the-row side (v-side ∷ []) → (other : Side) (v-other : Val) → Is T-Side.the-row other (v-other ∷ []) → (ns : ℕ) → ns < 2 ^ 64 → (settings : Settings) (v-settings : Val) → Is T-Settings.the-row settings (v-settings ∷ []) → (id : ℕ) → Fits w32 id → (address : ℕ) → address < 2 ^ 64
+      → ((hd′ : Item 𝓤) → Opds K W (hd′ ∷ Γ) E xs (sliceOf L-records ∷ sliceOf L-stamps ∷ sliceOf L-second-records ∷ sliceOf L-second-stamps ∷ v-side ∷ v-other ∷ vint w64 ns ∷ v-settings ∷ vint w32 id ∷ vint w64 address ∷ []))
+      → ((val′ : Val) (out : Seen) (records-exit : List Arena) (stamps-exit : List ℕ) (second-records-exit : List Arena) (second-stamps-exit : List ℕ) → Is T-Seen.the-row out (val′ ∷ []) → out ≡ seenAfter (joinOf (worldOf records stamps (side .state)) (worldOf second-records second-stamps (other .state)) side other ns settings) ns settings (toZ w32 id) address → length records-exit ≡ length records → length stamps-exit ≡ length stamps → length second-records-exit ≡ length second-records → length second-stamps-exit ≡ length second-stamps → Seq K W ((‵ (lent T-Arena.the-row L-records records-exit) ⊛ (‵ (lent u32 L-stamps stamps-exit) ⊛ (‵ (lent T-Arena.the-row L-second-records second-records-exit) ⊛ (‵ (lent u32 L-second-stamps second-stamps-exit) ⊛ more)))) ∷ Γ) (after val′))
+      → Seq K W ((‵ (lent T-Arena.the-row L-records records) ⊛ (‵ (lent u32 L-stamps stamps) ⊛ (‵ (lent T-Arena.the-row L-second-records second-records) ⊛ (‵ (lent u32 L-second-stamps second-stamps) ⊛ more)))) ∷ Γ) G
+  join-and-look-step bang site mem run known L-records records L-stamps stamps L-second-records second-records L-second-stamps second-stamps side v-side g-side other v-other g-other ns f-ns settings v-settings g-settings id f-id address f-address ops then′ =
+      mmmm-call bang site T-Arena.the-row u32 T-Arena.the-row u32 L-records L-stamps L-second-records L-second-stamps T-Seen.the-row (plain (λ _. T-Side.the-row) ∷ plain (λ _. T-Side.the-row) ∷ plain (λ _. u64) ∷ plain (λ _. T-Settings.the-row) ∷ plain (λ _. i32) ∷ plain (λ _. u64) ∷ []) (yes, (yes, (yes, (yes, (yes, (yes, tt)))))) (join-and-look′.clauses 𝓤 H A mem run) known records stamps second-records second-stamps (λ _. (side, (other, (ns, (settings, (toZ w32 id, (address, tt))))))) (λ _. (v-side ∷ [], (v-other ∷ [], (vint w64 ns ∷ [], (v-settings ∷ [], (vint w32 id ∷ [], (vint w64 address ∷ [], tt)))))))
+      (λ _. owns-make 𝓤 H A (T-Side.the-row ∷ T-Side.the-row ∷ u64 ∷ T-Settings.the-row ∷ i32 ∷ u64 ∷ []) (Ises (T-Side.the-row ∷ T-Side.the-row ∷ u64 ∷ T-Settings.the-row ∷ i32 ∷ u64 ∷ [])) (LL.makes T-Side.the-type L-Side.the-plain 𝓤 H A, (LL.makes T-Side.the-type L-Side.the-plain 𝓤 H A, (uint-makes 𝓤 H A W w64, (LL.makes T-Settings.the-type L-Settings.the-plain 𝓤 H A, (sint-makes 𝓤 H A W w32, (uint-makes 𝓤 H A W w64, tt)))))) (side, (other, (ns, (settings, (toZ w32 id, (address, tt)))))) (v-side ∷ [], (v-other ∷ [], (vint w64 ns ∷ [], (v-settings ∷ [], (vint w32 id ∷ [], (vint w64 address ∷ [], tt)))))) (g-side, (g-other, ((refl, f-ns), (g-settings, (signed f-id, ((refl, f-address), tt))))))) (λ _ _ _ _ _. tt) (λ _ _ _ _ _. id⊢ 𝓤 _)
+      (λ out records-exit stamps-exit second-records-exit second-stamps-exit. out ≡ seenAfter (joinOf (worldOf records stamps (side .state)) (worldOf second-records second-stamps (other .state)) side other ns settings) ns settings (toZ w32 id) address) (λ _ _ _ _ _ out ws. id⊢ 𝓤 _) (λ hd′ _. ops hd′) (λ val′ out records-exit stamps-exit second-records-exit second-stamps-exit rel′ eq′ l-records l-stamps l-second-records l-second-stamps. then′ val′ out records-exit stamps-exit second-records-exit second-stamps-exit rel′ eq′ l-records l-stamps l-second-records l-second-stamps)

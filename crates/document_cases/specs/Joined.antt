@@ -2,7 +2,7 @@
 -- answer and of all that is left on both sides; the others are what a call on the joined table answers. Assumes nothing.
 use mathlib.Core.Path.{_≡_}
 use mathlib.Core.Bool.{Bool, true, false}
-use mathlib.Core.List.{List, [], _∷_, _++_}
+use mathlib.Core.List.{List, _∷_, _++_}
 use Prim.Native.Nat.{ℕ, _-_, _*_}
 use lib.IntN.{pos, negsuc}
 use lib.ListN.{replicate}

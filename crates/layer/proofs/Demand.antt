@@ -1,5 +1,5 @@
 -- Demand 3, over every history from the empty layer, of every layer that answers and leaves what the rules say: what is told is what the book says. Assumes nothing.
-use Rattle.layer.proofs.Prelude.{_+_, _<_, arith, and-both, World, JoinOutcome, joinedWorld, MarkedJoin, ofFirst, ofSecond, joining, bothSound, byRules, isJoined, joinOf, leaving, followJoin, unites, risen, _≡_, refl, sym, ap, ap₂, _∙_, subst, Bool, true, false, cond, _&&_, true≢false, List, [], _∷_, _++_, append-assoc, append-nil, inl, inr, ℕ, ne-eqb, eqb, ℤ, pos, negsuc, length, by-cond, when, unless, Arena, isOn, Question, Idle, Committing, Purging, Reserving, GivingBack, Reserve, Claim, Kind, ForCommit, ForPurge, ForMemory, ForGiveBack, ForNone, Answer, Refused, Asks, Registered, Claimed, Released, Swept, Owns, Area, Outcome, at, isFor, Act, reserve, manage, adopt, claim, release, sweep, Call, act, query, answer, stepOn, step, Book, lowest, Fed, claims, Say, enter, enterAll, sayAll, Marked, History, begin, next, isSound, Layer, outcomeBy, Lent, Trail, openAt, isIdle, follow, ruled, entriesOf, entries, said, goesOn, tells, Place, isNone, feeds, hears, fedBy, toldBy, standing, Where, place, fed, told, Premises, Keeps, bookOf, ByTheBook}
+use Rattle.layer.proofs.Prelude.{_+_, _<_, arith, and-both, World, JoinOutcome, joinedWorld, MarkedJoin, ofFirst, ofSecond, joining, bothSound, byRules, isJoined, joinOf, leaving, followJoin, unites, risen, _≡_, refl, sym, ap, ap₂, _∙_, subst, Bool, true, false, cond, _&&_, true≢false, List, [], _∷_, _++_, append-assoc, append-nil, inl, inr, ℕ, ne-eqb, eqb, ℤ, pos, negsuc, length, by-cond, when, unless, Arena, isOn, Question, Idle, Committing, Purging, Reserving, GivingBack, Reserve, Claim, Kind, ForCommit, ForPurge, ForMemory, ForGiveBack, ForNone, Answer, Refused, Asks, Registered, Claimed, Released, Swept, Owns, Area, Outcome, at, isFor, Act, reserve, manage, adopt, claim, release, sweep, Call, act, query, answer, stepOn, Book, lowest, Fed, claims, Say, enter, enterAll, sayAll, Marked, History, begin, next, isSound, Layer, outcomeBy, Lent, Trail, openAt, isIdle, follow, ruled, entriesOf, entries, said, goesOn, tells, Place, isNone, feeds, hears, fedBy, toldBy, standing, Where, place, fed, told, Premises, Keeps, bookOf, ByTheBook}
 use Rattle.layer.specs.History.{Entry, claimsAt, releasesAt, fedAt, bytesIn}
 use Rattle.layer.proofs.Facts.{SoundTable}
 use Rattle.layer.proofs.Shown.{View, calm, committing, purging, viewOf, waitsIn, owedIn, Mine, Role, closing, aside, ends, role, fedOf, heard, toldAs, Stays, bookIn as bookShown, bookAt, owedAt, Inv, Fits}

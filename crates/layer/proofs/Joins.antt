@@ -1,8 +1,8 @@
 -- What a join comes to: both tables as they were, or one table that is sound if both were. Assumes nothing.
-use Rattle.layer.proofs.Prelude.{_≡_, refl, sym, ap, ap₂, _∙_, subst, Bool, true, false, not, _&&_, true≢false, List, ⊎-elim, ℕ, _+_, _-_, _*_, _<_, _≤_, arith, ltb-false, ltb, eqb, length, lt-or-le, Found, At, Nothing, least, First, first-says, by-cond, unless, when, and-both, Refusal, Arena, bytesOf, overwritten, Rows, SoundArena, Settings, Question, Idle, Committing, Purging, Reserving, GivingBack, JoinAnswer, NotJoined, Joined, World, empty, at, isAt, sound, meets, overlaps, isIdle, JoinOutcome, joinOutcome, tablesOverlap, joinedWorld, joinOn, joinRules, isBrokenJoin, isJoined, blank}
+use Rattle.layer.proofs.Prelude.{_≡_, refl, sym, ap, _∙_, subst, Bool, true, false, not, _&&_, true≢false, List, ⊎-elim, ℕ, _+_, _-_, _*_, _<_, _≤_, arith, ltb-false, ltb, length, lt-or-le, Found, At, Nothing, least, First, first-says, by-cond, unless, when, and-both, Refusal, Arena, bytesOf, Rows, SoundArena, Settings, Question, Idle, Committing, Purging, Reserving, GivingBack, NotJoined, Joined, World, empty, at, isAt, sound, meets, overlaps, isIdle, JoinOutcome, joinOutcome, tablesOverlap, joinedWorld, joinOn, joinRules, isBrokenJoin, isJoined, blank}
 use Rattle.arena.proofs.MovingLaws.{overwritten-length, before-written, where-written}
 use Rattle.layer.proofs.Tools.{by-not}
-use Rattle.layer.proofs.Facts.{SoundTable, meets-as, overlaps-none}
+use Rattle.layer.proofs.Facts.{overlaps-none}
 use Rattle.layer.proofs.Kept.{SoundWorld}
 
 -- ---- the cases

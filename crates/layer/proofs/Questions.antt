@@ -1,5 +1,5 @@
 -- What each call leaves of the open question. Assumes nothing.
-use Rattle.layer.proofs.Prelude.{byRules, _≡_, refl, sym, ap, _∙_, subst, Bool, true, false, not, true≢false, List, _⊎_, inl, inr, ℕ, suc, _+_, _-_, _*_, _%_, _≤_, _^_, _<_, arith, ne-eqb, lt-leb, eqb, leb, Refusal, NoSuchQuestion, Range, MemoryRefused, by-cond, when, unless, Arena, reservedArena, Settings, Sweep, Question, Idle, Committing, Purging, Reserving, GivingBack, Waiting, Reserve, Claim, Count, Misaligned, Full, Kind, Reply, Answer, Refused, Asks, Registered, Claimed, Released, Swept, Owns, Area, World, Outcome, stateWith, worldOf, after, badRange, sound, chunksFor, tooLarge, bytesAsked, reserveReply, reserveOf, askMemory, badCount, withRecord, withStamps, isFor, counted, failReply, resume, answerPurge, answerMemory, answerTo, answerOf, Act, reserve, manage, adopt, claim, release, sweep, Call, act, query, answer, sweepOf, actOn, stepOn, step}
+use Rattle.layer.proofs.Prelude.{byRules, _≡_, refl, sym, ap, _∙_, subst, Bool, true, false, not, true≢false, List, _⊎_, inl, inr, ℕ, suc, _+_, _-_, _*_, _%_, _≤_, _^_, _<_, arith, ne-eqb, lt-leb, eqb, leb, Refusal, NoSuchQuestion, Range, MemoryRefused, by-cond, when, unless, Arena, reservedArena, Settings, Sweep, Question, Idle, Committing, Purging, Reserving, GivingBack, Waiting, Reserve, Claim, Count, Misaligned, Full, Kind, Reply, Answer, Refused, Asks, Registered, Claimed, Released, Swept, Owns, Area, World, Outcome, stateWith, worldOf, after, badRange, sound, chunksFor, tooLarge, bytesAsked, reserveReply, reserveOf, askMemory, badCount, withRecord, withStamps, isFor, counted, failReply, resume, answerPurge, answerMemory, answerTo, answerOf, Act, reserve, manage, adopt, claim, release, sweep, Call, act, query, answer, sweepOf, actOn, stepOn}
 use Rattle.refusals.specs.Number.{number}
 use Rattle.layer.specs.declared.Ask.{Ask}
 use Rattle.layer.specs.declared.Ask.the-variants.{AskMemory}

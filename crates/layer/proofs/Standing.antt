@@ -1,5 +1,5 @@
 -- As many arenas stand after a call, or one more, the one that the call asked for. Assumes nothing.
-use Rattle.layer.proofs.Prelude.{byRules, _≡_, refl, sym, ap, _∙_, subst, Bool, true, false, List, _⊎_, inl, inr, ℕ, suc, _+_, _-_, _*_, _/_, _%_, _<_, _≤_, arith, ℕ-discrete, eqb, ℤ, length, set, length-set, eqb-true, Refusal, MemoryRefused, and-both, Arena, isOn, newArena, reservedArena, managedArena, adoptedArena, takeRun, dirtyRun, flag-read, Settings, Question, Idle, Committing, Purging, Reserving, GivingBack, Waiting, Reserve, Claim, Kind, Outcome, after, at, soundLent, askMemory, withRecord, withStamps, firstWhole, pastWhole, isFor, causeRefusal, counted, failReply, resume, answerTo, answerOf, Act, reserve, manage, adopt, claim, release, sweep, Call, act, query, answer, sweepOf, actOn, stepOn, step}
+use Rattle.layer.proofs.Prelude.{byRules, _≡_, refl, sym, ap, _∙_, subst, Bool, true, false, List, _⊎_, inl, inr, ℕ, suc, _+_, _-_, _*_, _/_, _%_, _<_, _≤_, arith, ℕ-discrete, eqb, ℤ, length, set, length-set, eqb-true, Refusal, MemoryRefused, and-both, Arena, isOn, newArena, reservedArena, managedArena, adoptedArena, takeRun, dirtyRun, flag-read, Settings, Question, Idle, Committing, Purging, Reserving, GivingBack, Waiting, Reserve, Claim, Kind, Outcome, after, at, soundLent, askMemory, withRecord, withStamps, firstWhole, pastWhole, isFor, causeRefusal, counted, failReply, resume, answerTo, answerOf, Act, reserve, manage, adopt, claim, release, sweep, Call, act, query, answer, sweepOf, actOn, stepOn}
 use Rattle.layer.specs.World.{sizeOf}
 use Rattle.layer.specs.Standing.{Brought, AskedFor, NoneUnasked}
 use Rattle.layer.proofs.Tools.{at-same, at-other, by-not}

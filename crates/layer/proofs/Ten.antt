@@ -1,5 +1,5 @@
 -- Refusal 10 comes exactly where no eligible arena has the run: of a claim, and of one that goes on once its memory came. Assumes nothing.
-use Rattle.layer.proofs.Prelude.{byRules, _≡_, refl, sym, ap, ap₂, _∙_, subst, Bool, true, not, _&&_, true≢false, List, _↔_, ℕ, suc, _%_, _*_, arith, eq-eqb, ne-eqb, not-true, lt-leb, eqb, leb, ℤ, pos, negsuc, bitAt, unless, Found, At, Nothing, Starts, Lowest, lowest-says, arenaAllowed, Arena, reservedArena, free, findRun, NoRun, Settings, Idle, Reserving, Claim, ForMemory, Reply, Outcome, turnDown, calm, at, isAt, badRange, askMemory, badCount, withRecord, withStamps, eligible, serves, missReply, searchOf, claimOf, isFor, answerMemory, answerOf, claim, act, answer, step, Eligible, TenExactly}
+use Rattle.layer.proofs.Prelude.{byRules, _≡_, refl, sym, ap, ap₂, _∙_, subst, Bool, true, not, _&&_, true≢false, List, _↔_, ℕ, suc, _%_, _*_, arith, eq-eqb, ne-eqb, not-true, lt-leb, eqb, leb, ℤ, pos, negsuc, bitAt, unless, Found, At, Nothing, Starts, Lowest, lowest-says, arenaAllowed, Arena, reservedArena, free, findRun, NoRun, Settings, Idle, Reserving, Claim, ForMemory, Reply, Outcome, turnDown, calm, at, isAt, badRange, askMemory, badCount, withRecord, withStamps, eligible, serves, missReply, searchOf, claimOf, isFor, answerMemory, answerOf, claim, act, answer, Eligible, TenExactly}
 use Rattle.layer.specs.World.{sizeOf}
 use Rattle.layer.specs.Ten.{ClearFrom, NoneHas, IsMiss, TenAfterMemory}
 use Rattle.layer.proofs.Rules.{served-eligible, served-found}

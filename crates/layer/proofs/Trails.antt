@@ -1,5 +1,5 @@
 -- The rules' own run of a history: its table stays sound and its open question is of the call that put it; and the rules, lent as they left it, go that way. Assumes nothing.
-use Rattle.layer.proofs.Prelude.{_≡_, refl, sym, ap, ap₂, _∙_, subst, Bool, true, false, cond, not, ℕ, arith, eqb, length, length-replicate, when, unless, and-both, pageSizeSound, World, Outcome, empty, soundLent, stepOn, step, JoinOutcome, join, joinOutcome, joinedWorld, Joined, Marked, MarkedJoin, Side, ofFirst, ofSecond, History, begin, next, joining, isSound, bothSound, byRules, outcomeBy, joinBy, isBroken, isBrokenJoin, sideOf, left, Lent, Trail, openAt, isIdle, follow, followJoin, joinOf, leaving, start, ruled}
+use Rattle.layer.proofs.Prelude.{_≡_, refl, sym, ap, ap₂, _∙_, subst, Bool, true, false, cond, not, ℕ, arith, eqb, length, length-replicate, when, unless, and-both, pageSizeSound, World, Outcome, empty, soundLent, stepOn, step, JoinOutcome, join, Marked, MarkedJoin, Side, ofFirst, ofSecond, History, begin, next, joining, isSound, bothSound, byRules, outcomeBy, joinBy, isBroken, isBrokenJoin, sideOf, left, Lent, Trail, openAt, isIdle, follow, followJoin, joinOf, leaving, start, ruled}
 use Rattle.layer.specs.World.{sizeOf}
 use Rattle.layer.specs.History.{bytesIn}
 use Rattle.layer.proofs.ChunkLaws.{size-fits}
@@ -8,7 +8,7 @@ use Rattle.layer.proofs.Stepped.{step-on-kept, sound-test}
 use Rattle.layer.proofs.Outcomes.{refused-1}
 use Rattle.layer.proofs.Asked.{Asked, step-asked}
 use Rattle.layer.proofs.Calls.{past-1}
-use Rattle.layer.proofs.Joins.{Unites, Comes, both-stay, one-table, join-comes, broken-join, one-table-sound}
+use Rattle.layer.proofs.Joins.{Comes, both-stay, one-table, join-comes, broken-join, one-table-sound}
 
 -- facts that hold of the rules' own tables alone, and not of every sound one; none so far
 abbrev pub Own : World → Type 0

@@ -5,7 +5,7 @@ use Rattle.layer.specs.declared.Reply.{Reply}
 use Rattle.layer.specs.declared.JoinReply.{JoinReply}
 use Rattle.layer.specs.World.{Outcome, replyIn, Leaves}
 use Rattle.layer.specs.Step.{adopt, claim, sweep, owns, area, act, query, step}
-use Rattle.layer.specs.Joining.{JoinOutcome, joinReplyIn, LeavesBoth}
+use Rattle.layer.specs.Joining.{JoinOutcome, LeavesBoth}
 use Rattle.worked_parts.specs.declared.joins.Side.{Side}
 use Rattle.worked_parts.specs.declared.joins.Found.{Found}
 use Rattle.worked_parts.specs.Joins.{noOptions, blocksIn, blockAt, adopted, foundOf, foundIn, seenOf, seenAfter}

@@ -1,5 +1,5 @@
 -- Wish 1 of the rules' join: the order of its refusals, by addresses, and what it leaves. Assumes nothing.
-use Rattle.layer.proofs.Prelude.{_≡_, refl, sym, ap, ap₂, _∙_, subst, Bool, true, false, cond, not, _&&_, true≢false, List, ⊎-elim, _↔_, ℕ, _+_, _-_, _*_, _<_, _≤_, arith, ltb-true, ltb-false, lt-ltb, leb-true, eqb-true, leb, ltb, eqb, length, getD, take, drop, lt-or-le, when, unless, and-both, never, Refusal, Broken, QuestionOpen, pageSizeSound, bytesOf, endOf, stampsOf, overwritten, World, empty, blank, at, sound, soundLent, soundTable, meets, isIdle, begin, JoinOutcome, join, joinOutcome, joinedWorld, joinOn, joinRules, tablesOverlap, isBrokenJoin, isJoined}
+use Rattle.layer.proofs.Prelude.{_≡_, refl, sym, ap, ap₂, _∙_, subst, Bool, true, false, cond, not, _&&_, true≢false, List, ⊎-elim, _↔_, ℕ, _+_, _-_, _*_, _<_, _≤_, arith, ltb-true, lt-ltb, leb-true, eqb-true, leb, ltb, eqb, length, getD, take, drop, lt-or-le, when, unless, and-both, never, Refusal, Broken, QuestionOpen, pageSizeSound, bytesOf, endOf, stampsOf, overwritten, World, empty, blank, at, sound, soundLent, soundTable, meets, isIdle, begin, JoinOutcome, join, joinOutcome, joinedWorld, joinOn, joinRules, tablesOverlap, isBrokenJoin, isJoined}
 use lib.Seq.{length-take-le, ext-getD, getD-take, getD-drop, drop-drop, drop-paste}
 use lib.ListN.{length-drop}
 use Rattle.refusals.specs.declared.Refusal.the-variants.{TablesOverlap, TooManyArenas}
@@ -10,13 +10,12 @@ use Rattle.layer.specs.declared.Question.{Question}
 use Rattle.layer.specs.declared.JoinAnswer.{JoinAnswer}
 use Rattle.layer.specs.declared.JoinAnswer.the-variants.{NotJoined, Joined}
 use Rattle.layer.specs.World.{sizeOf}
-use Rattle.layer.specs.History.{Covers}
 use Rattle.layer.proofs.Plain.{some-chunk}
 use Rattle.layer.proofs.Kept.{SoundWorld}
 use Rattle.layer.proofs.Stepped.{sound-facts, sound-test}
 use Rattle.layer.proofs.Trails.{good-ruled}
-use Rattle.layer.proofs.Joins.{Unites, Comes, both-stay, one-table, is-idle, join-comes, broken-join, none-across, Pair, some-across, one-table-sound}
-use Rattle.layer_laws.specs.joined.Join.{Sound, Calm, Overlap, OneExactly, TwoExactly, SeventeenExactly, EighteenExactly, Otherwise, RefusalLeaves, OneTable, GrantLeaves, StaySound, ByTheWish}
+use Rattle.layer.proofs.Joins.{Comes, both-stay, one-table, is-idle, join-comes, broken-join, none-across, some-across, one-table-sound}
+use Rattle.layer_laws.specs.joined.Join.{Sound, Calm, Overlap, OneTable, GrantLeaves, StaySound, ByTheWish}
 
 -- ---- an answer by its number; 0 if it is a grant
 

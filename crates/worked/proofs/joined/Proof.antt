@@ -1,5 +1,5 @@
 -- `worked::joined` is safe and ends: a walk of its MIR, by hand. It owns the two tables in four local arrays, which are lent for one call. Assumes nothing.
-use Rattle.walks.proofs.Walking.{refl, ℕ, _<_, _^_, List, [], _∷_, lit<, w32, w64, Val, vint, Fits, ofZ, ofZ-fits, URA, SProp, id⊢, ftrue, Memory, Routine, Heap, WpFn, Tables, Atoms, fmOf, Given, Sq, prop, !, ‵, _$_, agg, look, init, stop, from, load, addr, lit, and-then, no-more, assigns, land, returns, params1, pass1, pass0, free0, Fun, factI, givenOf, tables, tablesOf, u32, u64, i32, yes, Is, uint-vals, uint-tells, uint-makes, plain, sint-vals, sint-tells, Meets, tripleOf, Triple, entered, cited, big-lit, enters, used, room, in-seq}
+use Rattle.walks.proofs.Walking.{refl, ℕ, _<_, _^_, [], _∷_, lit<, w32, w64, Val, vint, Fits, ofZ, ofZ-fits, URA, SProp, id⊢, ftrue, Memory, Routine, Heap, WpFn, Tables, Atoms, fmOf, Given, Sq, prop, !, ‵, _$_, agg, look, init, stop, from, load, addr, lit, and-then, no-more, assigns, land, returns, params1, pass1, pass0, free0, Fun, factI, givenOf, tables, tablesOf, u32, u64, i32, yes, Is, uint-vals, uint-tells, uint-makes, plain, sint-vals, sint-tells, Meets, tripleOf, Triple, entered, cited, big-lit, enters, used, room, in-seq}
 use lib.ListN.{replicate, length-replicate}
 use types.Part.{rep}
 use denote.Plain.{uint-lawful}

@@ -1,9 +1,10 @@
 -- What a join comes to: both tables as they were, or one table that is sound if both were. Assumes nothing.
-use Rattle.layer.proofs.Prelude.{_≡_, refl, sym, ap, _∙_, subst, Bool, true, false, not, _&&_, true≢false, List, ⊎-elim, ℕ, _+_, _-_, _*_, _<_, _≤_, arith, ltb-false, ltb, length, lt-or-le, Found, At, Nothing, least, First, first-says, by-cond, unless, when, and-both, Refusal, Arena, bytesOf, Rows, SoundArena, Settings, Question, Idle, Committing, Purging, Reserving, GivingBack, NotJoined, Joined, World, empty, at, isAt, sound, meets, overlaps, isIdle, JoinOutcome, joinOutcome, tablesOverlap, joinedWorld, joinOn, joinRules, isBrokenJoin, isJoined, blank}
+use Rattle.layer.proofs.Prelude.{_≡_, refl, sym, ap, _∙_, subst, Bool, true, false, not, _&&_, true≢false, List, ⊎-elim, ℕ, _+_, _-_, _*_, _<_, _≤_, arith, ltb-false, ltb, length, lt-or-le, Found, At, Nothing, least, First, first-says, by-cond, unless, when, and-both, Refusal, Arena, bytesOf, Rows, SoundArena, Settings, Idle, NotJoined, Joined, World, empty, at, isAt, sound, meets, overlaps, isIdle, JoinOutcome, joinOutcome, tablesOverlap, joinedWorld, joinOn, joinRules, isBrokenJoin, isJoined, blank}
 use Rattle.arena.proofs.MovingLaws.{overwritten-length, before-written, where-written}
 use Rattle.layer.proofs.Tools.{by-not}
 use Rattle.layer.proofs.Facts.{overlaps-none}
 use Rattle.layer.proofs.Kept.{SoundWorld}
+use Rattle.layer.proofs.Calls.{idle-is}
 
 -- ---- the cases
 
@@ -18,13 +19,6 @@ pub data Comes (S : ℕ) (w v : World) (o : JoinOutcome) : Type 0 where
   both-stay : isJoined (o .answer) ≡ false → o .first ≡ w → o .second ≡ v → Comes S w v o
   one-table : Unites S w v → o ≡ joinOutcome (Joined (w .state .count)) (joinedWorld w v) empty → Comes S w v o
 
-pub is-idle : (q : Question) → isIdle q ≡ true → q ≡ Idle
-is-idle Idle e = refl
-is-idle (Committing i s n) e = absurd (true≢false (sym e))
-is-idle (Purging i j w) e = absurd (true≢false (sym e))
-is-idle (Reserving chunks bytes commit exclusive waiting) e = absurd (true≢false (sym e))
-is-idle (GivingBack cause waiting) e = absurd (true≢false (sym e))
-
 module _ (S : ℕ) (w v : World) where
   refused : (why : Refusal) → Comes S w v (joinOutcome (NotJoined why) w v)
   refused why = both-stay refl refl refl
@@ -37,8 +31,8 @@ module _ (S : ℕ) (w v : World) where
       (λ apart. by-cond (Comes S w v) (ltb 32 (w .state .count + v .state .count)) _ _ (λ e. refused _)
       (λ few. let i = and-both (isIdle (w .state .question)) (isIdle (v .state .question)) idle in
       one-table (record {
-        first-idle = is-idle (w .state .question) (i .0);
-        second-idle = is-idle (v .state .question) (i .1);
+        first-idle = idle-is (w .state .question) (i .0);
+        second-idle = idle-is (v .state .question) (i .1);
         no-overlap = apart;
         room = ltb-false 32 (w .state .count + v .state .count) few;
       }) refl)))

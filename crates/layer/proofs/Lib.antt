@@ -4,13 +4,13 @@ pub mod ChunkLaws
 pub mod Facts
 pub mod Rules
 pub mod Kept
-pub mod Joins
 pub mod Registered
 pub mod Stepped
 pub mod Shown
 pub mod View
 pub mod Cases
 pub mod Calls
+pub mod Joins
 pub mod Sweeps
 pub mod Along
 pub mod Does

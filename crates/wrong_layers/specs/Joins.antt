@@ -29,10 +29,10 @@ butJoins J = record { does = step; joins = J }
 
 -- ---- a join, by its rows and by what it does where none holds
 
-abbrev pub Rows : Type 0
-Rows = World → World → Settings → List (Row JoinOutcome)
+abbrev pub JoinRows : Type 0
+JoinRows = World → World → Settings → List (Row JoinOutcome)
 
-abbrev pub byRows : Rows → (World → World → JoinOutcome) → Join
+abbrev pub byRows : JoinRows → (World → World → JoinOutcome) → Join
 byRows rows grants w v ns settings = firstOf (rows w v settings) (grants w v)
 
 -- the rules' rows: of row 1 and of row 2 each side, 17 and 18
@@ -57,7 +57,7 @@ eighteen w v = refuseJoin w v TooManyArenas (ltb 32 (w .state .count + v .state 
 abbrev pub oneAndTwo : World → World → Settings → List (Row JoinOutcome) → List (Row JoinOutcome)
 oneAndTwo w v settings rows = one w v (isSoundTable w settings && isSoundTable v settings) ∷ two w v (isCalm w && isCalm v) ∷ rows
 
-abbrev pub rightRows : Rows
+abbrev pub rightRows : JoinRows
 rightRows w v settings = oneAndTwo w v settings (seventeen w v ∷ eighteen w v ∷ [])
 
 -- the rules' grant, and one that leaves another first table

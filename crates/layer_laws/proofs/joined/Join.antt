@@ -13,8 +13,9 @@ use Rattle.layer.specs.World.{sizeOf}
 use Rattle.layer.proofs.Plain.{some-chunk}
 use Rattle.layer.proofs.Kept.{SoundWorld}
 use Rattle.layer.proofs.Stepped.{sound-facts, sound-test}
+use Rattle.layer.proofs.Calls.{idle-is}
 use Rattle.layer.proofs.Trails.{good-ruled}
-use Rattle.layer.proofs.Joins.{Comes, both-stay, one-table, is-idle, join-comes, broken-join, none-across, some-across, one-table-sound}
+use Rattle.layer.proofs.Joins.{Comes, both-stay, one-table, join-comes, broken-join, none-across, some-across, one-table-sound}
 use Rattle.layer_laws.specs.joined.Join.{Sound, Calm, Overlap, OneTable, GrantLeaves, StaySound, ByTheWish}
 
 -- ---- an answer by its number; 0 if it is a grant
@@ -83,7 +84,7 @@ module _ (w v : World) where
     (λ e c. later-number (ap (λ (o : JoinOutcome). numberOf (o .answer)) (sym (past-one ns settings h ∙ past-two c)) ∙ ap numberOf e)),
     (λ c. ap (λ (o : JoinOutcome). o .answer) (past-one ns settings h
         ∙ when (not (isIdle (w .state .question) && isIdle (v .state .question))) _ _
-        (ap not (never _ (λ e. let i = and-both (isIdle (w .state .question)) (isIdle (v .state .question)) e in c (is-idle (w .state .question) (i .0), is-idle (v .state .question) (i .1))))))),
+        (ap not (never _ (λ e. let i = and-both (isIdle (w .state .question)) (isIdle (v .state .question)) e in c (idle-is (w .state .question) (i .0), idle-is (v .state .question) (i .1))))))),
   )
 
   -- ---- row 17, by addresses

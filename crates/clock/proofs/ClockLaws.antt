@@ -4,7 +4,7 @@ use lib.IntN.{natAbs}
 use lib.Signed.{ltZ, nonNeg}
 use mir.Syntax.{w32}
 use mir.Val.{Fits}
-use Rattle.clock.specs.Clock.{orOne, delayMs, minus, keeps, armed, isDue}
+use Rattle.clock.specs.Clock.{orOne, delayMs, neverPurges, minus, keeps, armed, isDue}
 
 -- a number that is not 0 stays
 pub orOne-keeps : (n : ℕ) → (n ≡ 0 → ⊥) → n ≡ orOne n
@@ -36,6 +36,12 @@ delay-between (negsuc n) l e = let z : _≡_ {A = ℕ} 0 1 = cc in absurd (omega
 pub delay-fits : (z : ℤ) → ltZ z (pos 0) ≡ false → ltZ (pos 1073741823) z ≡ false → T (nonNeg z) × Fits w32 (natAbs z)
 delay-fits (pos n) l e = (tt, record { fits = omega (arith, ltb-false 1073741823 n e) })
 delay-fits (negsuc n) l e = let z : _≡_ {A = ℕ} 0 1 = cc in absurd (omega arith)
+
+-- it is never exactly below 0
+pub never-below : (z : ℤ) → ltZ z (pos 0) ≡ neverPurges z
+unfolding neverPurges
+never-below (pos n) = le-ltb n 0 (omega arith)
+never-below (negsuc n) = refl
 
 -- ---- arming: no deadline, an earlier one, and one that is not earlier
 

@@ -1,5 +1,5 @@
 -- The clock and the deadlines of document 01, "Clock" and "Sweeping". Assumes nothing.
-use mathlib.Core.Bool.{Bool, cond, not, _&&_, _||_}
+use mathlib.Core.Bool.{Bool, true, false, cond, not, _&&_, _||_}
 use Prim.Native.Nat.{ℕ, zero, suc, _+_, _-_, _/_, _%_, _^_, min}
 use lib.Dec.{leb, ltb, eqb}
 use lib.IntN.{ℤ, pos, negsuc}
@@ -17,6 +17,11 @@ nowMs ns = orOne (ns / 1000000 % 2 ^ 32)
 unfoldable pub delayMs : ℤ → ℕ
 delayMs (pos n) = min n 1073741823
 delayMs (negsuc n) = 0
+
+-- document 02, wish 2, "minus one means never": a negative delay means that nothing is purged
+unfoldable pub neverPurges : ℤ → Bool
+neverPurges (pos n) = false
+neverPurges (negsuc n) = true
 
 -- "wrapping at 2^32": the difference and the sum of two readings of the clock
 abbrev pub minus : ℕ → ℕ → ℕ

@@ -1,6 +1,6 @@
 // The wrapping clock of 32-bit milliseconds: `now_ms`, `delay_ms`, `arm` and the due test of `purge_due` (arena.rs).
 ghost use mathlib.Core.Path.{_≡_};
-ghost use Rattle.clock.specs.Clock.{orOne, nowMs, delayMs, armed, isDue, ageOf, dueAt};
+ghost use Rattle.clock.specs.Clock.{orOne, nowMs, delayMs, neverPurges, armed, isDue, ageOf, dueAt};
 
 // A longer delay than this counts as this: a quarter of the clock's round.
 const LONGEST_DELAY: i64 = 1073741823;
@@ -33,6 +33,13 @@ pub fn delay_ms(delay: i64) -> u32
         return LONGEST_DELAY as u32;
     }
     delay as u32
+}
+
+// Whether the purge delay says that nothing is purged: −1 does, and every other negative one.
+pub fn never_purges(delay: i64) -> bool
+    ensures { λ r. ⌜ r ≡ neverPurges delay ⌝ }
+{
+    delay < 0
 }
 
 // The deadline after `due` is armed over it: the earlier of the two, 0 being none.

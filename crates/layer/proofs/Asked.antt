@@ -1,9 +1,9 @@
 -- The open question is of the call that put it: what the rules' own run remembers of that call is what the question says. Assumes nothing.
-use Rattle.layer.proofs.Prelude.{_≡_, refl, sym, ap, _∙_, subst, Bool, true, false, cond, List, ℕ, suc, _+_, _-_, _<_, _≤_, arith, ℤ, pos, negsuc, length, set, length-set, Refusal, Arena, isOn, takeRun, never, Settings, Sweep, Question, Idle, Committing, Purging, Reserving, GivingBack, Waiting, Reserve, Claim, Kind, Reply, Outcome, after, at, chunksFor, askMemory, withRecord, withStamps, serves, searchOf, missReply, visit, sweepFrom, isFor, counted, failReply, resume, answerTo, answerOf, Act, reserve, manage, adopt, claim, release, sweep, Call, act, query, answer, sweepOf, actOn, stepOn, isIdle}
+use Rattle.layer.proofs.Prelude.{_≡_, refl, sym, ap, _∙_, subst, Bool, true, false, cond, List, ℕ, suc, _+_, _-_, _<_, _≤_, arith, ℤ, pos, negsuc, length, set, length-set, Refusal, Arena, isOn, takeRun, never, Settings, Sweep, Question, Idle, Committing, Purging, Reserving, GivingBack, Waiting, Reserve, Claim, Kind, Reply, Outcome, after, at, chunksFor, askMemory, withRecord, withStamps, serves, searchOf, missReply, visit, sweepFrom, isFor, counted, failReply, resume, answerTo, answerOf, Act, reserve, manage, adopt, claim, release, sweep, Call, act, query, answer, sweepOf, actOn, stepOn, isIdle, staysPending, sweepsNone}
 use Rattle.layer.proofs.Tools.{at-same, by-not}
 use Rattle.layer.proofs.Rules.{not-shared, served-named, Again, again}
 use Rattle.layer.proofs.Cases.{register, grant-cases, search-cases, miss-cases, claim-cases, release-in-cases, release-cases, reserve-cases, register-cases, manage-cases, adopt-cases, memory-cases}
-use Rattle.layer.proofs.Sweeps.{visit-cases, sweep-cases}
+use Rattle.layer.proofs.Sweeps.{visit-cases, sweep-cases, all-or-none}
 
 -- the arena that a claim at the id was served in: the one that it names, and with a negative id one that is not exclusive
 abbrev pub ServedIn : List Arena → ℤ → ℕ → Type 0
@@ -85,9 +85,11 @@ module _ (S : ℕ) (l : List Arena) (stamps : List ℕ) (k : ℕ) (mark : Bool) 
       claim-cases S l stamps k mark (AskedOf S (act (claim id n commits))) id n commits settings (λ e. tt) (λ e f. tt)
       (λ e f. search-asked S l stamps k mark long few id id n commits _ (serves-in id n) (memory-asked id n commits settings))
   act-asked q ns settings (release x n told pending) =
-      release-cases S l stamps k mark (AskedOf S _) n told pending _ _ x (λ e. tt) (λ e f. tt)
-      (λ i e u f. release-in-cases S l stamps k mark (AskedOf S _) n told pending _ _ i _ (λ g. tt) (λ g v. tt) (λ g v. tt))
-  act-asked q ns settings (sweep force) = sweep-asked (sweepOf force ns settings) force k 0 l
+      release-cases S l stamps k mark (AskedOf S _) n told (staysPending settings pending) _ _ x (λ e. tt) (λ e f. tt)
+      (λ i e u f. release-in-cases S l stamps k mark (AskedOf S _) n told (staysPending settings pending) _ _ i _ (λ g. tt) (λ g v. tt) (λ g v. tt))
+  act-asked q ns settings (sweep force) =
+      all-or-none S stamps k mark (sweepOf force ns settings) (AskedOf S (act (sweep force))) (sweepsNone settings force) l
+      (λ f h. sweep-asked (sweepOf force ns settings) force f 0 l)
 
   -- ---- answers: the call that put the question goes on
 

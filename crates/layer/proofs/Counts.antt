@@ -1,5 +1,5 @@
 -- How many arenas there are after a call, and the book of a new one. Assumes nothing.
-use Rattle.layer.proofs.Prelude.{_≡_, refl, sym, _∙_, subst, Bool, true, false, List, ℕ, zero, suc, _+_, _/_, _≤_, _<_, arith, ℤ, length-set, Refusal, by-cond, Found, At, Nothing, Arena, Commitment, newArena, reservedArena, managedArena, adoptedArena, sweepDue, nextAsked, stampsOf, Rows, Settings, Sweep, Question, Idle, Committing, Purging, Reserving, GivingBack, Waiting, Reserve, Claim, Kind, ForCommit, ForPurge, ForMemory, ForGiveBack, ForNone, Reply, Outcome, after, at, askMemory, badCount, withRecord, withStamps, searchOf, claimOf, releaseOf, purgeReply, sweptReply, visitAt, visit, sweepFrom, isFor, counted, failReply, resume, answerOf, Act, reserve, manage, adopt, claim, release, sweep, Call, act, query, answer, actOn, stepOn, opened, Place}
+use Rattle.layer.proofs.Prelude.{_≡_, refl, sym, _∙_, subst, Bool, true, false, List, ℕ, zero, suc, _+_, _/_, _≤_, _<_, arith, ℤ, length-set, Refusal, by-cond, Found, At, Nothing, Arena, Commitment, newArena, reservedArena, managedArena, adoptedArena, sweepDue, nextAsked, stampsOf, Rows, Settings, Sweep, Question, Idle, Committing, Purging, Reserving, GivingBack, Waiting, Reserve, Claim, Kind, ForCommit, ForPurge, ForMemory, ForGiveBack, ForNone, Reply, Outcome, after, at, askMemory, badCount, withRecord, withStamps, searchOf, claimOf, releaseOf, purgeReply, sweptReply, visitAt, visit, sweepFrom, isFor, counted, failReply, resume, answerOf, Act, reserve, manage, adopt, claim, release, sweep, Call, act, query, answer, actOn, stepOn, opened, Place, staysPending, sweepsNone, sweepOf}
 use Rattle.layer.proofs.Tools.{at-same, by-not}
 use Rattle.layer.proofs.Facts.{SoundTable}
 use Rattle.layer.proofs.Rules.{Again, again, count-facts}
@@ -9,6 +9,7 @@ use Rattle.layer.proofs.View.{book-reserved, book-managed, book-adopted
 use Rattle.layer.proofs.Cases.{register, grant-cases, search-cases, miss-cases, claim-cases, release-in-cases, release-cases, reserve-cases, register-cases, manage-cases, adopt-cases, memory-cases}
 use Rattle.layer.proofs.Along.{Stands, rests}
 use Rattle.layer.proofs.Does.{Does, shown, passed, resumes}
+use Rattle.layer.proofs.Sweeps.{all-or-none}
 
 -- ---- how many arenas there are after it: as many, or one more with record a, whose book is opened; it then does to that book what it does to any (a claim
 -- that waited may be granted a run in it)
@@ -118,8 +119,10 @@ module _ (S : ℕ) (l : List Arena) (stamps : List ℕ) (k : ℕ) (mark : Bool) 
       adopt-cases S l stamps k mark (Counts S l k Idle _) address size (as-many refl) (as-many refl) (as-many refl) (λ i w u e. as-many refl)
       (λ w. registers _ _ _ (λ x. refl) (adopted-made S address (size / S)))
   act-counts ns settings (claim id n commits) = as-many (claim-count S k mark l stamps id n commits settings)
-  act-counts ns settings (release x n tell pending) = as-many (release-count S k mark l stamps x n tell pending _ _)
-  act-counts ns settings (sweep force) = as-many (sweep-count S k mark stamps _ k 0 l)
+  act-counts ns settings (release x n tell pending) = as-many (release-count S k mark l stamps x n tell (staysPending settings pending) _ _)
+  act-counts ns settings (sweep force) =
+      all-or-none S stamps k mark (sweepOf force ns settings) (Counts S l k Idle (act (sweep force))) (sweepsNone settings force) l
+      (λ f h. as-many (sweep-count S k mark stamps (sweepOf force ns settings) f 0 l))
 
   fail-counts : (q : Question) (call : Call) (why : Refusal) (waiting : Waiting) → Counts S l k q call (after (failReply k mark why waiting) l stamps)
   fail-counts q call why Reserve = as-many refl

@@ -1,6 +1,6 @@
 -- What one call does to the share book of any arena below the count, shared or exclusive, and by which call: demand 3's exclusive arena is a case (`Keeps`).
 -- Assumes nothing.
-use Rattle.layer.proofs.Prelude.{_≡_, refl, sym, ap, ap₂, _∙_, subst, Bool, true, false, cond, _&&_, true≢false, List, [], _∷_, _++_, _⊎_, inl, inr, ⊎-elim, ℕ, suc, _+_, _-_, _*_, _/_, _%_, _≤_, _<_, div-add-mod', arith, ℕ-discrete, eq-eqb, ne-eqb, eqb-true, eqb-false, leb-true, ℤ, pos, negsuc, eqb, leb, set, length-set, Refusal, QuestionOpen, Zero, NotWhole, PastEnd, NoRun, CommitRefused, lt-or-le, when, unless, Found, At, Nothing, lowestRun, nowMs, delayMs, arenaAllowed, Arena, isOn, Commitment, grownArena, findRun, giveBackRun, bytesOf, endOf, isInside, Rows, never, return-rows, Settings, Sweep, Question, Idle, Committing, Purging, Reserving, GivingBack, Waiting, Reserve, Claim, Kind, ForCommit, ForPurge, ForMemory, ForGiveBack, ForNone, Answer, Refused, Registered, Released, Outcome, stateWith, reply, after, turnDown, at, isAt, withRecord, withStamps, grows as growsBy, eligible, serves, missReply, claimOf, releaseOf, visit, sweepFrom, isFor, counted, resume, answerCommit, answerPurge, answerOf, Act, reserve, manage, adopt, claim, release, sweep, Call, act, query, answer, actOn, stepOn, Eligible, Book, lowest, Fed, claims, releases, Say, refused, released, turn, unheld, hold, unhold, claimed, enter, isIdle, said, inRange, isAnswer}
+use Rattle.layer.proofs.Prelude.{_≡_, refl, sym, ap, ap₂, _∙_, subst, Bool, true, false, cond, _&&_, true≢false, List, [], _∷_, _++_, _⊎_, inl, inr, ⊎-elim, ℕ, suc, _+_, _-_, _*_, _/_, _%_, _≤_, _<_, div-add-mod', arith, ℕ-discrete, eq-eqb, ne-eqb, eqb-true, eqb-false, leb-true, ℤ, pos, negsuc, eqb, leb, set, length-set, Refusal, QuestionOpen, Zero, NotWhole, PastEnd, NoRun, CommitRefused, lt-or-le, when, unless, Found, At, Nothing, lowestRun, nowMs, delayMs, arenaAllowed, Arena, isOn, Commitment, grownArena, findRun, giveBackRun, bytesOf, endOf, isInside, Rows, never, return-rows, Settings, Sweep, Question, Idle, Committing, Purging, Reserving, GivingBack, Waiting, Reserve, Claim, Kind, ForCommit, ForPurge, ForMemory, ForGiveBack, ForNone, Answer, Refused, Registered, Released, Outcome, stateWith, reply, after, turnDown, at, isAt, withRecord, withStamps, grows as growsBy, eligible, serves, missReply, claimOf, releaseOf, visit, sweepFrom, isFor, counted, resume, answerCommit, answerPurge, answerOf, Act, reserve, manage, adopt, claim, release, sweep, Call, act, query, answer, actOn, stepOn, Eligible, Book, lowest, Fed, claims, releases, Say, refused, released, turn, unheld, hold, unhold, claimed, enter, isIdle, said, inRange, isAnswer, staysPending, sweepsNone, sweepOf}
 use Rattle.refusals.specs.Number.{number}
 use Rattle.arena.proofs.PlaceLaws.{Within, inside-facts}
 use Rattle.layer.proofs.Tools.{at-same, by-not}
@@ -11,6 +11,7 @@ use Rattle.layer.proofs.Shown.{View, calm, committing, purging, viewOf,
 use Rattle.layer.proofs.View.{view-commit, view-purge, view-commit-other, view-purge-other, book-committed, freed-held, book-freed, book-released, book-returned, book-grown, unchanged, finish-same, give-back-same, release-same, return-same, grown-same}
 use Rattle.layer.proofs.Cases.{releaseIn, claim-cases, release-in-cases, release-cases, reserve-cases, manage-cases, adopt-cases, memory-cases}
 use Rattle.layer.proofs.Along.{Given, none-owed, Stands, Leaves, Takes, Seeks, none, other, this, rests, unmoved, elsewhere, added, seeks, asks-memory, misses, releases-elsewhere, registers-one, fails, visits, sweeps}
+use Rattle.layer.proofs.Sweeps.{all-or-none}
 
 -- ---- what a call does to one arena's book
 
@@ -356,12 +357,12 @@ module _ (S id : ℕ) (l : List Arena) (stamps : List ℕ) (k : ℕ) (mark : Boo
   release-role x m tell pending b e managed = ap (λ (y : Bool). feeding (cond y (releases x m ∷ []) [] ++ [])) e
 
   -- one in the range is the arena's
-  own-release : (x m : ℕ) (tell : Commitment) (pending : Bool) (now delay : ℕ) → isInside S (at l id) x ≡ true
-      → Does S id l Idle (act (release x m tell pending)) (releaseOf S l stamps k mark x m tell pending now delay)
+  own-release : (x m : ℕ) (tell : Commitment) (pending stays : Bool) (now delay : ℕ) → isInside S (at l id) x ≡ true
+      → Does S id l Idle (act (release x m tell pending)) (releaseOf S l stamps k mark x m tell stays now delay)
   unfolding enter
-  own-release x m tell pending now delay e =
-      release-cases S l stamps k mark P m tell pending now delay x (λ f. turned call (releases x m) Zero names (when (eqb m 0) _ _ f)) (λ f g. absurd (true≢false (sym e ∙ g id low)))
-      (λ i f u g. subst (λ (j : ℕ). P (releaseIn S l stamps k mark j (x - at l j .base) m tell pending now delay)) (only-one S l k id i x t low u e g) (inside f))
+  own-release x m tell pending stays now delay e =
+      release-cases S l stamps k mark P m tell stays now delay x (λ f. turned call (releases x m) Zero names (when (eqb m 0) _ _ f)) (λ f g. absurd (true≢false (sym e ∙ g id low)))
+      (λ i f u g. subst (λ (j : ℕ). P (releaseIn S l stamps k mark j (x - at l j .base) m tell stays now delay)) (only-one S l k id i x t low u e g) (inside f))
     where
       call : Call
       call = act (release x m tell pending)
@@ -375,14 +376,14 @@ module _ (S id : ℕ) (l : List Arena) (stamps : List ℕ) (k : ℕ) (mark : Boo
       s : ℕ
       s = (x - at l id .base) / S
 
-      inside : eqb m 0 ≡ false → P (releaseIn S l stamps k mark id (x - at l id .base) m tell pending now delay)
+      inside : eqb m 0 ≡ false → P (releaseIn S l stamps k mark id (x - at l id .base) m tell stays now delay)
       inside z =
-          release-in-cases S l stamps k mark P m tell pending now delay id (x - at l id .base)
+          release-in-cases S l stamps k mark P m tell stays now delay id (x - at l id .base)
           (λ f. turned call (releases x m) NotWhole names (unless (eqb m 0) _ _ z ∙ unless (eqb ((x - at l id .base) % S) 0) _ _ f))
           (λ f g. turned call (releases x m) PastEnd names (unless (eqb m 0) _ _ z ∙ when (eqb ((x - at l id .base) % S) 0) _ _ f ∙ unless (leb (s + m) (at l id .chunks)) _ _ g))
           (λ f g. record {
             what = drops s m;
-            does-it = ap (bookIn S calm) (stored _) ∙ book-released (at l id) s m (t .rows id low) (omega (arith, leb-true (s + m) (at l id .chunks) g, small)) tell pending now delay;
+            does-it = ap (bookIn S calm) (stored _) ∙ book-released (at l id) s m (t .rows id low) (omega (arith, leb-true (s + m) (at l id .chunks) g, small)) tell stays now delay;
             because = record {
               address = x;
               told = tell;
@@ -399,7 +400,7 @@ module _ (S id : ℕ) (l : List Arena) (stamps : List ℕ) (k : ℕ) (mark : Boo
               closed = refl;
             };
             low = low;
-            same = subst (Same (at l id) (at l id .chunks)) (sym (stored _)) (release-same _ _ _ (unchanged (at l id)) s m tell pending now delay);
+            same = subst (Same (at l id) (at l id .chunks)) (sym (stored _)) (release-same _ _ _ (unchanged (at l id)) s m tell stays now delay);
           })
 
   -- ---- adopting: the arena that ends at the block
@@ -459,12 +460,13 @@ module _ (S id : ℕ) (l : List Arena) (stamps : List ℕ) (k : ℕ) (mark : Boo
   acts ns settings (claim (negsuc i) m commits) = other-claim (negsuc i) m commits settings (λ managed. refl)
   acts ns settings (release x m tell pending) = go (isInside S (at l id) x) refl
     where
-      go : (b : Bool) → isInside S (at l id) x ≡ b → Does S id l Idle (act (release x m tell pending)) (releaseOf S l stamps k mark x m tell pending (nowMs ns) (delayMs (settings .delay)))
-      go true e = own-release x m tell pending _ _ e
+      go : (b : Bool) → isInside S (at l id) x ≡ b → Does S id l Idle (act (release x m tell pending)) (releaseOf S l stamps k mark x m tell (staysPending settings pending) (nowMs ns) (delayMs (settings .delay)))
+      go true e = own-release x m tell pending (staysPending settings pending) _ _ e
       go false e =
-          over Idle _ _ refl (release-role x m tell pending false e) (releases-elsewhere S id (at l id) small (before Idle) l stamps k mark (stands Idle refl) x m tell pending _ _ e)
+          over Idle _ _ refl (release-role x m tell pending false e) (releases-elsewhere S id (at l id) small (before Idle) l stamps k mark (stands Idle refl) x m tell (staysPending settings pending) _ _ e)
   acts ns settings (sweep force) =
-      over Idle _ _ refl (λ managed. refl) (sweeps S id (at l id) small (before Idle) stamps k mark _ low (t .few) k 0 l (t .long) (stands Idle refl .ready))
+      all-or-none S stamps k mark (sweepOf force ns settings) (Does S id l Idle (act (sweep force))) (sweepsNone settings force) l
+      (λ f h. over Idle _ _ refl (λ managed. refl) (sweeps S id (at l id) small (before Idle) stamps k mark _ low (t .few) f 0 l (t .long) (stands Idle refl .ready)))
 
   -- ---- answers
 

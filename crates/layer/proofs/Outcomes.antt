@@ -1,6 +1,6 @@
 -- What the answer of a call on a sound table tells, whatever the call: a refusal is none of row 1's, and a grant lies in no exclusive arena but one that the
 -- call or the open question names. Assumes nothing.
-use Rattle.layer.proofs.Prelude.{_≡_, refl, sym, ap, ap₂, _∙_, subst, Bool, true, false, cond, not, List, ℕ, suc, _+_, _-_, _*_, _/_, _%_, _<_, _≤_, add-mul, mul-le-mul-right, arith, eqb-false, leb, ltb, eqb, ℤ, pos, negsuc, length, by-cond, all, and-both, pageSizeSound, Refusal, Broken, Arena, isOn, reservedArena, isInside, soundArena, never, found-inside, Settings, Question, Idle, Committing, Purging, Reserving, GivingBack, Waiting, Reserve, Claim, Unusable, Count, Misaligned, Full, Kind, Answer, Refused, Asks, Registered, Claimed, Released, Swept, Owns, Area, World, Outcome, after, outcome, at, meets, badRange, apart, soundTable, soundLent, sound, askMemory, badCount, withRecord, withStamps, serves, claimOf, isFor, causeRefusal, counted, failReply, answerCommit, resume, answerMemory, answerTo, answerOf, Act, reserve, manage, adopt, claim, release, sweep, owns, area, Call, act, query, answer, sweepOf, actOn, stepOn, rules, isBroken, chunksOf}
+use Rattle.layer.proofs.Prelude.{_≡_, refl, sym, ap, ap₂, _∙_, subst, Bool, true, false, cond, not, List, ℕ, suc, _+_, _-_, _*_, _/_, _%_, _<_, _≤_, add-mul, mul-le-mul-right, arith, eqb-false, leb, ltb, eqb, ℤ, pos, negsuc, length, by-cond, all, and-both, pageSizeSound, Refusal, Broken, Arena, isOn, reservedArena, isInside, soundArena, never, found-inside, Settings, Question, Idle, Committing, Purging, Reserving, GivingBack, Waiting, Reserve, Claim, Unusable, Count, Misaligned, Full, Kind, Answer, Refused, Asks, Registered, Claimed, Released, Swept, Owns, Area, World, Outcome, after, outcome, at, meets, badRange, apart, soundTable, soundLent, sound, askMemory, badCount, withRecord, withStamps, serves, claimOf, isFor, causeRefusal, counted, failReply, answerCommit, resume, answerMemory, answerTo, answerOf, Act, reserve, manage, adopt, claim, release, sweep, owns, area, Call, act, query, answer, sweepOf, actOn, stepOn, rules, isBroken, chunksOf, staysPending, sweepsNone}
 use Rattle.refusals.specs.Number.{number}
 use Rattle.arena.proofs.PlaceLaws.{inside-test}
 use Rattle.layer.specs.Answering.{isIdle}
@@ -10,7 +10,7 @@ use Rattle.layer.proofs.Facts.{SoundTable, SoundQuestion, question-fact
 use Rattle.layer.proofs.Rules.{not-shared, served-named, Again, again, count-facts}
 use Rattle.layer.proofs.Registered.{good-range, new-table, reserved-rows, reserved-sound, reserved-range}
 use Rattle.layer.proofs.Cases.{register, grant-cases, search-cases, miss-cases, claim-cases, release-in-cases, release-cases, reserve-cases, register-cases, manage-cases, adopt-cases, memory-cases}
-use Rattle.layer.proofs.Sweeps.{visit-cases, sweep-cases}
+use Rattle.layer.proofs.Sweeps.{visit-cases, sweep-cases, all-or-none}
 use Rattle.layer.proofs.Does.{only-one}
 
 -- ---- no address lies in two arenas
@@ -185,10 +185,11 @@ module _ (S : ℕ) (l : List Arena) (stamps : List ℕ) (k : ℕ) (mark : Bool) 
   act-tells q ns settings (claim (pos i) n commits) = claim-tells S l stamps k mark (pos i) n commits settings
   act-tells q ns settings (claim (negsuc i) n commits) = claim-tells S l stamps k mark (negsuc i) n commits settings
   act-tells q ns settings (release x n told pending) =
-      release-cases S l stamps k mark (TellsOf S l k 0 (λ j. false)) n told pending _ _ x (λ e. refl) (λ e f. refl)
-      (λ i e u f. release-in-cases S l stamps k mark (TellsOf S l k 0 (λ j. false)) n told pending _ _ i _ (λ g. refl) (λ g v. refl) (λ g v. tt))
+      release-cases S l stamps k mark (TellsOf S l k 0 (λ j. false)) n told (staysPending settings pending) _ _ x (λ e. refl) (λ e f. refl)
+      (λ i e u f. release-in-cases S l stamps k mark (TellsOf S l k 0 (λ j. false)) n told (staysPending settings pending) _ _ i _ (λ g. refl) (λ g v. refl) (λ g v. tt))
   act-tells q ns settings (sweep force) =
-      sweep-cases S stamps k mark (sweepOf force ns settings) (TellsOf S l k 0 (λ j. false)) 0 (λ m x a j u. tt) (λ m. tt) k 0 l (omega arith)
+      all-or-none S stamps k mark (sweepOf force ns settings) (TellsOf S l k 0 (λ j. false)) (sweepsNone settings force) l
+      (λ f h. sweep-cases S stamps k mark (sweepOf force ns settings) (TellsOf S l k 0 (λ j. false)) 0 (λ m x a j u. tt) (λ m. tt) f 0 l (omega arith))
 
   query-tells : (q : Question) (ns : ℕ) (settings : Settings) (c : Query) (w : World) → Tells S l k 0 (λ j. false) (queryOn S l stamps k mark q ns settings c) w
   query-tells q ns settings (owns address) w = tt

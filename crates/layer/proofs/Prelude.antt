@@ -15,7 +15,7 @@ pub use native.Mathlib.Omega.{arith}
 pub use Rattle.refusals.specs.declared.Refusal.{Refusal}
 pub use Rattle.refusals.specs.declared.Refusal.the-variants.{ArenasOff, Broken, ChunkCount, CommitRefused, MemoryRefused, NoRun, NoSuchQuestion, NoWholeChunk, NotWhole, PastEnd, QuestionOpen, Range, TableFull, Zero}
 pub use Rattle.clock.specs.Clock.{ageOf}
-unfoldable pub use Rattle.clock.specs.Clock.{armed, delayMs, isDue, keeps, nowMs, orOne}
+unfoldable pub use Rattle.clock.specs.Clock.{armed, delayMs, isDue, keeps, neverPurges, nowMs, orOne}
 unfoldable pub use Rattle.options.specs.Options.{arenaAllowed, pageSizeSound}
 pub use Rattle.bitmap.proofs.runs.LowestLaws.{First, all-free-of, first-says, free-all, lowest-says}
 pub use Rattle.bitmap.proofs.runs.SearchLaws.{and-both}
@@ -62,7 +62,7 @@ unfoldable pub use Rattle.layer.specs.Joining.{joinOn, joinRules, tables
 pub use Rattle.layer.specs.Registering.{firstWhole, pastWhole, withRecord, withStamps}
 unfoldable pub use Rattle.layer.specs.Registering.{adoptOf, askMemory, badCount, bytesAsked, chunksFor, grows, manageOf, noWholeChunk, reserveOf, reserveReply, tooLarge}
 unfoldable pub use Rattle.layer.specs.Releasing.{releaseOf}
-pub use Rattle.layer.specs.Step.{Act, Call, act, actOn, adopt, answer, area, areaOf, claim, manage, owns, query, release, reserve, step, stepOn, sweep, sweepOf}
+pub use Rattle.layer.specs.Step.{Act, Call, act, actOn, adopt, answer, area, areaOf, claim, manage, owns, query, release, reserve, step, staysPending, stepOn, sweep, sweepOf, sweepsNone}
 unfoldable pub use Rattle.layer.specs.Step.{rules}
 pub use Rattle.layer.specs.Sweeping.{visitAt}
 unfoldable pub use Rattle.layer.specs.Sweeping.{purgeReply, sweepFrom, sweptReply, visit}

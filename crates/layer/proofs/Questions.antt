@@ -1,5 +1,5 @@
 -- What each call leaves of the open question. Assumes nothing.
-use Rattle.layer.proofs.Prelude.{byRules, _≡_, refl, sym, ap, _∙_, subst, Bool, true, false, not, true≢false, List, _⊎_, inl, inr, ℕ, suc, _+_, _-_, _*_, _%_, _≤_, _^_, _<_, arith, ne-eqb, lt-leb, eqb, leb, Refusal, NoSuchQuestion, Range, MemoryRefused, by-cond, when, unless, Arena, reservedArena, Settings, Sweep, Question, Idle, Committing, Purging, Reserving, GivingBack, Waiting, Reserve, Claim, Count, Misaligned, Full, Kind, Reply, Answer, Refused, Asks, Registered, Claimed, Released, Swept, Owns, Area, World, Outcome, stateWith, worldOf, after, badRange, sound, chunksFor, tooLarge, bytesAsked, reserveReply, reserveOf, askMemory, badCount, withRecord, withStamps, isFor, counted, failReply, resume, answerPurge, answerMemory, answerTo, answerOf, Act, reserve, manage, adopt, claim, release, sweep, Call, act, query, answer, sweepOf, actOn, stepOn}
+use Rattle.layer.proofs.Prelude.{byRules, _≡_, refl, sym, ap, _∙_, subst, Bool, true, false, not, true≢false, List, _⊎_, inl, inr, ℕ, suc, _+_, _-_, _*_, _%_, _≤_, _^_, _<_, arith, ne-eqb, lt-leb, eqb, leb, Refusal, NoSuchQuestion, Range, MemoryRefused, by-cond, when, unless, Arena, reservedArena, Settings, Sweep, Question, Idle, Committing, Purging, Reserving, GivingBack, Waiting, Reserve, Claim, Count, Misaligned, Full, Kind, Reply, Answer, Refused, Asks, Registered, Claimed, Released, Swept, Owns, Area, World, Outcome, stateWith, worldOf, after, badRange, sound, chunksFor, tooLarge, bytesAsked, reserveReply, reserveOf, askMemory, badCount, withRecord, withStamps, isFor, counted, failReply, resume, answerPurge, answerMemory, answerTo, answerOf, Act, reserve, manage, adopt, claim, release, sweep, Call, act, query, answer, sweepOf, actOn, stepOn, staysPending, sweepsNone}
 use Rattle.refusals.specs.Number.{number}
 use Rattle.layer.specs.declared.Ask.{Ask}
 use Rattle.layer.specs.declared.Ask.the-variants.{AskMemory}
@@ -10,7 +10,7 @@ use Rattle.layer.proofs.ChunkLaws.{size-fits, up-is}
 use Rattle.layer.proofs.Facts.{SoundQuestion}
 use Rattle.layer.proofs.Rules.{Again, again}
 use Rattle.layer.proofs.Cases.{register, grant-cases, search-cases, miss-cases, claim-cases, release-in-cases, release-cases, reserve-cases, register-cases, manage-cases, adopt-cases}
-use Rattle.layer.proofs.Sweeps.{visit-cases, sweep-cases}
+use Rattle.layer.proofs.Sweeps.{visit-cases, sweep-cases, all-or-none}
 use Rattle.layer.proofs.Plain.{some-chunk, few-chunks, not-6, passes}
 use Rattle.layer.proofs.Outcomes.{sound-question}
 use Rattle.layer.proofs.Demand.{no-question}
@@ -39,9 +39,11 @@ module _ (S : ℕ) (l : List Arena) (stamps : List ℕ) (k : ℕ) (mark : Bool) 
       (λ e f. search-cases S l stamps k mark Put id n commits _ (λ g. miss-cases S l stamps k mark Put id n commits settings (inl refl) (inl refl) (inr (_, refl)))
       (λ i h g. grant-cases S l stamps k mark Put i n commits (λ _. inl refl) (λ s _. inl refl) (λ s _. inr (_, refl))))
   act-put ns settings (release x n told pending) =
-      release-cases S l stamps k mark Put n told pending _ _ x (λ e. inl refl) (λ e f. inl refl)
-      (λ i e u f. release-in-cases S l stamps k mark Put n told pending _ _ i _ (λ g. inl refl) (λ g v. inl refl) (λ g v. inl refl))
-  act-put ns settings (sweep force) = sweep-cases S stamps k mark (sweepOf force ns settings) Put 0 (λ m x a j u. inr (_, refl)) (λ m. inl refl) k 0 l (omega arith)
+      release-cases S l stamps k mark Put n told (staysPending settings pending) _ _ x (λ e. inl refl) (λ e f. inl refl)
+      (λ i e u f. release-in-cases S l stamps k mark Put n told (staysPending settings pending) _ _ i _ (λ g. inl refl) (λ g v. inl refl) (λ g v. inl refl))
+  act-put ns settings (sweep force) =
+      all-or-none S stamps k mark (sweepOf force ns settings) Put (sweepsNone settings force) l
+      (λ f h. sweep-cases S stamps k mark (sweepOf force ns settings) Put 0 (λ m x a j u. inr (_, refl)) (λ m. inl refl) f 0 l (omega arith))
 
 -- ---- answers
 

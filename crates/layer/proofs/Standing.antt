@@ -1,12 +1,12 @@
 -- As many arenas stand after a call, or one more, the one that the call asked for. Assumes nothing.
-use Rattle.layer.proofs.Prelude.{byRules, _≡_, refl, sym, ap, _∙_, subst, Bool, true, false, List, _⊎_, inl, inr, ℕ, suc, _+_, _-_, _*_, _/_, _%_, _<_, _≤_, arith, ℕ-discrete, eqb, ℤ, length, set, length-set, eqb-true, Refusal, MemoryRefused, and-both, Arena, isOn, newArena, reservedArena, managedArena, adoptedArena, takeRun, dirtyRun, flag-read, Settings, Question, Idle, Committing, Purging, Reserving, GivingBack, Waiting, Reserve, Claim, Kind, Outcome, after, at, soundLent, askMemory, withRecord, withStamps, firstWhole, pastWhole, isFor, causeRefusal, counted, failReply, resume, answerTo, answerOf, Act, reserve, manage, adopt, claim, release, sweep, Call, act, query, answer, sweepOf, actOn, stepOn}
+use Rattle.layer.proofs.Prelude.{byRules, _≡_, refl, sym, ap, _∙_, subst, Bool, true, false, List, _⊎_, inl, inr, ℕ, suc, _+_, _-_, _*_, _/_, _%_, _<_, _≤_, arith, ℕ-discrete, eqb, ℤ, length, set, length-set, eqb-true, Refusal, MemoryRefused, and-both, Arena, isOn, newArena, reservedArena, managedArena, adoptedArena, takeRun, dirtyRun, flag-read, Settings, Question, Idle, Committing, Purging, Reserving, GivingBack, Waiting, Reserve, Claim, Kind, Outcome, after, at, soundLent, askMemory, withRecord, withStamps, firstWhole, pastWhole, isFor, causeRefusal, counted, failReply, resume, answerTo, answerOf, Act, reserve, manage, adopt, claim, release, sweep, Call, act, query, answer, sweepOf, actOn, stepOn, staysPending, sweepsNone}
 use Rattle.layer.specs.World.{sizeOf}
 use Rattle.layer.specs.Standing.{Brought, AskedFor, NoneUnasked}
 use Rattle.layer.proofs.Tools.{at-same, at-other, by-not}
 use Rattle.layer.proofs.ChunkLaws.{size-fits, whole, managed-inside}
 use Rattle.layer.proofs.Rules.{Again, again, count-facts}
 use Rattle.layer.proofs.Cases.{register, grant-cases, search-cases, miss-cases, claim-cases, release-in-cases, release-cases, reserve-cases, register-cases, manage-cases, adopt-cases, memory-cases}
-use Rattle.layer.proofs.Sweeps.{visit-cases, sweep-cases}
+use Rattle.layer.proofs.Sweeps.{visit-cases, sweep-cases, all-or-none}
 use Rattle.layer.proofs.Plain.{passes}
 
 -- a change that leaves the range and the flag
@@ -55,9 +55,11 @@ module _ (S : ℕ) (some-size : 0 < S) (l : List Arena) (stamps : List ℕ) (k :
       (λ e f. search-cases S l stamps k mark (Stands (λ a. ⊥)) id n commits _ (λ g. miss-cases S l stamps k mark (Stands (λ a. ⊥)) id n commits settings (inl refl) (inl refl) (inl refl))
       (λ i h g. grant-cases S l stamps k mark (Stands (λ a. ⊥)) i n commits (λ _. inl refl) (λ s _. inl refl) (λ s _. inl refl)))
   act-stands q ns settings (release x n told pending) =
-      release-cases S l stamps k mark (Stands (λ a. ⊥)) n told pending _ _ x (λ e. inl refl) (λ e f. inl refl)
-      (λ i e u f. release-in-cases S l stamps k mark (Stands (λ a. ⊥)) n told pending _ _ i _ (λ g. inl refl) (λ g v. inl refl) (λ g v. inl refl))
-  act-stands q ns settings (sweep force) = sweep-cases S stamps k mark (sweepOf force ns settings) (Stands (λ a. ⊥)) 0 (λ m x a j u. inl refl) (λ m. inl refl) k 0 l (omega arith)
+      release-cases S l stamps k mark (Stands (λ a. ⊥)) n told (staysPending settings pending) _ _ x (λ e. inl refl) (λ e f. inl refl)
+      (λ i e u f. release-in-cases S l stamps k mark (Stands (λ a. ⊥)) n told (staysPending settings pending) _ _ i _ (λ g. inl refl) (λ g v. inl refl) (λ g v. inl refl))
+  act-stands q ns settings (sweep force) =
+      all-or-none S stamps k mark (sweepOf force ns settings) (Stands (λ a. ⊥)) (sweepsNone settings force) l
+      (λ f h. sweep-cases S stamps k mark (sweepOf force ns settings) (Stands (λ a. ⊥)) 0 (λ m x a j u. inl refl) (λ m. inl refl) f 0 l (omega arith))
 
   -- ---- answers
 

@@ -1,5 +1,5 @@
 -- Sound in, sound out, for every call: answers, and then the one step. Assumes nothing.
-use Rattle.layer.proofs.Prelude.{_≡_, ap₂, _∙_, Bool, true, false, _&&_, List, ℕ, suc, _+_, _-_, _*_, _<_, _≤_, arith, leb-true, le-leb, eqb-true, eq-eqb, leb, eqb, ℤ, length, all, all-free-of, free-all, and-both, pageSizeSound, Arena, reservedArena, giveBackRun, finishGrant, returnChunk, soundArena, SoundRange, arena-facts, Rows, return-rows, Settings, Sweep, Question, Idle, Committing, Purging, Reserving, GivingBack, Waiting, Reserve, Claim, Kind, Refusal, NoRun, World, worldOf, calm, turnDown, at, meets, apart, soundTable, soundLent, sound, askMemory, withRecord, withStamps, missReply, claimOf, isFor, counted, failReply, answerCommit, answerPurge, resume, answerMemory, answerTo, answerOf, sweepFrom, Act, reserve, manage, adopt, claim, release, sweep, Call, act, query, answer, sweepOf, actOn, stepOn, rules}
+use Rattle.layer.proofs.Prelude.{_≡_, ap₂, _∙_, Bool, true, false, _&&_, List, ℕ, suc, _+_, _-_, _*_, _<_, _≤_, arith, leb-true, le-leb, eqb-true, eq-eqb, leb, eqb, ℤ, length, all, all-free-of, free-all, and-both, pageSizeSound, Arena, reservedArena, giveBackRun, finishGrant, returnChunk, soundArena, SoundRange, arena-facts, Rows, return-rows, Settings, Sweep, Question, Idle, Committing, Purging, Reserving, GivingBack, Waiting, Reserve, Claim, Kind, Refusal, NoRun, World, worldOf, calm, turnDown, at, meets, apart, soundTable, soundLent, sound, askMemory, withRecord, withStamps, missReply, claimOf, isFor, counted, failReply, answerCommit, answerPurge, resume, answerMemory, answerTo, answerOf, sweepFrom, Act, reserve, manage, adopt, claim, release, sweep, Call, act, query, answer, sweepOf, actOn, stepOn, rules, staysPending, sweepsNone}
 use Rattle.arena.proofs.SoundLaws.{arena-test}
 use Rattle.arena.proofs.Changes.{finish-rows, give-back-rows}
 use Rattle.arena.proofs.StaysSound.{finish-sound, give-back-sound, return-sound}
@@ -10,6 +10,7 @@ use Rattle.layer.proofs.Rules.{count-facts}
 use Rattle.layer.proofs.Cases.{miss-cases, claim-cases, memory-cases}
 use Rattle.layer.proofs.Kept.{SoundWorld, Kept, calm-kept, search-kept, release-kept, visit-kept, sweep-kept, finish-range, give-back-range, return-range}
 use Rattle.layer.proofs.Registered.{good-range, new-table, new-stamps, reserved-rows, reserved-sound, reserved-range, reserve-kept, manage-kept, adopt-kept}
+use Rattle.layer.proofs.Sweeps.{all-or-none}
 
 module _ (S : ℕ) (pos : 0 < S) (l : List Arena) (stamps : List ℕ) (k : ℕ) (mark : Bool) (t : SoundTable S l k) (ls : length stamps ≡ 32768) where
   -- ---- claims
@@ -106,8 +107,10 @@ module _ (S : ℕ) (pos : 0 < S) (l : List Arena) (stamps : List ℕ) (k : ℕ) 
   act-kept q ns settings (manage start size exclusive node mapped reserved) = manage-kept S l stamps k mark t ls pos start size exclusive node mapped reserved
   act-kept q ns settings (adopt address size) = adopt-kept S l stamps k mark t ls pos address size
   act-kept q ns settings (claim id n commits) = claim-kept id n commits settings
-  act-kept q ns settings (release address n told pending) = release-kept S l stamps k mark t ls address n told pending _ _
-  act-kept q ns settings (sweep force) = sweep-kept S stamps k mark (sweepOf force ns settings) ls k 0 l t (omega arith) (omega arith)
+  act-kept q ns settings (release address n told pending) = release-kept S l stamps k mark t ls address n told (staysPending settings pending) _ _
+  act-kept q ns settings (sweep force) =
+      all-or-none S stamps k mark (sweepOf force ns settings) (Kept S) (sweepsNone settings force) l
+      (λ f h. sweep-kept S stamps k mark (sweepOf force ns settings) ls f 0 l t (omega (arith, h)) (omega arith))
 
   pub step-on-kept : (q : Question) (ns : ℕ) (settings : Settings) (c : Call) → SoundQuestion l k q → Kept S (stepOn S l stamps k mark q ns settings c)
   step-on-kept q ns settings (act a) h = by-not (Kept S) (isIdle q) _ _ (λ e. act-kept q ns settings a) (λ e. record { table = t; stamps = ls; question = h })

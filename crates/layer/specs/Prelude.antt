@@ -8,7 +8,7 @@ pub use lib.IntN.{ℤ, pos, negsuc}
 pub use lib.ListN.{length, getD, set, replicate}
 pub use Rattle.refusals.specs.declared.Refusal.{Refusal}
 pub use Rattle.refusals.specs.declared.Refusal.the-variants.{Broken, QuestionOpen, NoSuchQuestion, Zero, ArenasOff, Range, NotWhole, NotInside, PastEnd, NoRun, CommitRefused, ChunkCount, TableFull, MemoryRefused, NoWholeChunk, HostRefused, TablesOverlap, TooManyArenas}
-pub use Rattle.clock.specs.Clock.{nowMs, delayMs}
+pub use Rattle.clock.specs.Clock.{nowMs, delayMs, neverPurges}
 pub use Rattle.options.specs.Options.{pageSizeSound, arenaAllowed}
 pub use Rattle.bitmap.specs.Bits.{bitAt}
 pub use Rattle.bitmap.specs.declared.runs.Found.{Found}

@@ -1,11 +1,11 @@
 -- One call: the rules of document 01 put together. Assumes nothing.
-use Rattle.layer.specs.Prelude.{Bool, cond, not, List, [], _∷_, ℕ, ltb, ℤ, pos, negsuc, Broken, QuestionOpen, nowMs, delayMs, Arena, Commitment, bytesOf, Settings, Sweep, Question, Kind, Answer, Owns, Area}
+use Rattle.layer.specs.Prelude.{Bool, cond, not, _&&_, List, [], _∷_, ℕ, ltb, ℤ, pos, negsuc, Broken, QuestionOpen, nowMs, delayMs, neverPurges, Arena, Commitment, bytesOf, Settings, Sweep, Question, Kind, Answer, Owns, Area}
 use Rattle.layer.specs.World.{World, Outcome, sizeOf, stateWith, worldOf, reply, after, refuse, firstOf}
 use Rattle.layer.specs.Table.{at, isAt, findArena, sound}
 use Rattle.layer.specs.Registering.{reserveOf, manageOf, adoptOf}
 use Rattle.layer.specs.Claiming.{claimOf}
 use Rattle.layer.specs.Releasing.{releaseOf}
-use Rattle.layer.specs.Sweeping.{sweepFrom}
+use Rattle.layer.specs.Sweeping.{sweptReply, sweepFrom}
 use Rattle.layer.specs.Answering.{isIdle, answerOf}
 
 -- what is done where no question is open; later requests add cases
@@ -34,6 +34,14 @@ abbrev pub sweepOf : Bool → ℕ → Settings → Sweep
 sweepOf force ns settings =
     record { force = force; now = nowMs ns; delay = delayMs (settings .delay); decommit = settings .decommits; purged = 0 }
 
+-- document 02, wish 2: with a negative delay "a pending release stamps nothing, marks nothing and arms nothing"; it is one that is not pending
+abbrev pub staysPending : Settings → Bool → Bool
+staysPending settings pending = pending && not (neverPurges (settings .delay))
+
+-- document 02, wish 2: then "an unforced sweep puts no question and leaves deadlines; a forced sweep works as before"
+abbrev pub sweepsNone : Settings → Bool → Bool
+sweepsNone settings force = not force && neverPurges (settings .delay)
+
 -- "`arena_area` answers base and chunks × S, or 0 and 0."
 abbrev pub areaOf : ℕ → List Arena → ℕ → ℤ → Answer
 areaOf S l k (pos i) = cond (ltb i k) (Area (at l i .base) (bytesOf S (at l i))) (Area 0 0)
@@ -47,8 +55,9 @@ module _ (S : ℕ) (l : List Arena) (stamps : List ℕ) (k : ℕ) (mark : Bool) 
   actOn (manage start size exclusive node mapped reserved) = manageOf S l stamps k mark start size exclusive node mapped reserved
   actOn (adopt address size) = adoptOf S l stamps k mark address size
   actOn (claim id n commits) = claimOf S l stamps k mark id n commits settings
-  actOn (release address n told pending) = releaseOf S l stamps k mark address n told pending (nowMs ns) (delayMs (settings .delay))
-  actOn (sweep force) = sweepFrom S stamps k mark (sweepOf force ns settings) k 0 l
+  actOn (release address n told pending) = releaseOf S l stamps k mark address n told (staysPending settings pending) (nowMs ns) (delayMs (settings .delay))
+  actOn (sweep force) =
+      cond (sweepsNone settings force) (after (sweptReply k mark (sweepOf force ns settings)) l stamps) (sweepFrom S stamps k mark (sweepOf force ns settings) k 0 l)
 
   abbrev pub queryOn : Query → Answer
   queryOn (owns address) = Owns (isAt (findArena S l k address))

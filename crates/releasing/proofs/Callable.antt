@@ -1,4 +1,4 @@
--- Functions of `releasing` that a walk calls, each in one step: chunk-release-step, delay-of-step, fits-step, is-untold-step, is-whole-step, offset-of-step, release-step, release-in-step, released-step, start-of-step. Written by tools/walks.
+-- Functions of `releasing` that a walk calls, each in one step: chunk-release-step, delay-of-step, fits-step, is-untold-step, is-whole-step, offset-of-step, release-step, release-in-step, released-step, start-of-step, stays-pending-step. Written by tools/walks.
 -- Assumes `Given`, the callee's theorem, and that the table of calls is monotone under a frame.
 use Rattle.walks.proofs.Walking.{_≡_, refl, sym, _∙_, ap, subst, Bool, ℕ, _<_, _≤_, _+_, _*_, _^_, List, [], _∷_, eqb, leb, length, set, w32, w64, Operand, Val, vint, vbool, URA, SProp, emp, id⊢, Memory, Routine, Heap, Env, Calls, Atoms, Given, Item, Goal, Seq, ‵, _⊛_, Opds, Fun, factI, bool, u32, u64, usize, yes, Is, Ises, owns-make, uint-makes, bool-tells, bool-makes, plain, only, tripleOf, Contract, Triple, Loan, lent, sliceOf, Site, plain-call, mut2-call}
 use Rattle.layer.proofs.State as T-State
@@ -19,7 +19,7 @@ use Rattle.arena.specs.declared.Commitment.{Commitment}
 use Rattle.arena.specs.declared.Arena.{Arena}
 use Rattle.layer.specs.declared.Reply.{Reply}
 use Rattle.layer.specs.World.{worldOf, Leaves, sizeOf, reply, calm}
-use Rattle.layer.specs.Step.{release, step, act}
+use Rattle.layer.specs.Step.{release, step, act, staysPending}
 use Rattle.clock.specs.Clock.{delayMs, nowMs}
 use Rattle.table.specs.declared.heads.Head.{Head}
 use Rattle.releasing.specs.Told.{isUntold}
@@ -50,6 +50,8 @@ use Rattle.releasing.proofs.released as released′
 use Rattle.releasing.proofs.released.Symbol.{name as #releasing·released}
 use Rattle.releasing.proofs.start_of as start-of′
 use Rattle.releasing.proofs.start_of.Symbol.{name as #releasing·start-of}
+use Rattle.releasing.proofs.stays_pending as stays-pending′
+use Rattle.releasing.proofs.stays_pending.Symbol.{name as #releasing·stays-pending}
 
 -- the contracts that a walk cites
 module _ {M : Type 1} (𝓤 : URA M) (H : Heap 𝓤) (A : Atoms 𝓤) (mem : Memory → SProp 𝓤) (run : Routine → Fun 𝓤) where
@@ -82,6 +84,9 @@ module _ {M : Type 1} (𝓤 : URA M) (H : Heap 𝓤) (A : Atoms 𝓤) (mem : Mem
 
   abbrev pub StartOfSpec : Contract 𝓤
   StartOfSpec = tripleOf 𝓤 H A start-of′.signature (start-of′.spec 𝓤 H A mem run)
+
+  abbrev pub StaysPendingSpec : Contract 𝓤
+  StaysPendingSpec = tripleOf 𝓤 H A stays-pending′.signature (stays-pending′.spec 𝓤 H A mem run)
 
 module _ {M : Type 1} {𝓤 : URA M} {H : Heap 𝓤} {A : Atoms 𝓤} {K : Type 0} {W : Given 𝓤 H A} {Γ : List (Item 𝓤)} {C : Calls 𝓤 H} {E : Env 𝓤 H} {xs : List Operand} {G : Goal 𝓤 H} {after : Val → Goal 𝓤 H} {more : Item 𝓤} where
   pub chunk-release-step : K → Site K W Γ C E #releasing·chunk-release xs G after → (mem : Memory → SProp 𝓤) (run : Routine → Fun 𝓤) → Triple 𝓤 (C #releasing·chunk-release) (ChunkReleaseSpec 𝓤 H A mem run)
@@ -147,22 +152,22 @@ module _ {M : Type 1} {𝓤 : URA M} {H : Heap 𝓤} {A : Atoms 𝓤} {K : Type 
   pub release-step : K → Site K W Γ C E #releasing·release xs G after → (mem : Memory → SProp 𝓤) (run : Routine → Fun 𝓤) → Triple 𝓤 (C #releasing·release) (ReleaseSpec 𝓤 H A mem run)
       → (L-records : Loan) (records : List Arena) → (L-stamps : Loan) (stamps : List ℕ) → (state : State) (v-state : Val) → Is T-State.the-row state (v-state ∷ []) → (ns : ℕ) → ns < 2 ^ 64 → (settings : Settings) (v-settings : Val) → Is T-Settings.the-row settings (v-settings ∷ []) → (address : ℕ) → address < 2 ^ 64 → (n : ℕ) → n < 2 ^ 64 → (told : Commitment) (v-told : Val) → Is T-Commitment.the-row told (v-told ∷ []) → (pending : Bool) → (Ready records state × Stamped stamps)
       → ((hd′ : Item 𝓤) → Opds K W (hd′ ∷ Γ) E xs (sliceOf L-records ∷ sliceOf L-stamps ∷ v-state ∷ vint w64 ns ∷ v-settings ∷ vint w64 address ∷ vint w64 n ∷ v-told ∷ vbool pending ∷ []))
-      → ((val′ : Val) (out : Reply) (records-exit : List Arena) (stamps-exit : List ℕ) → Is T-Reply.the-row out (val′ ∷ []) → Leaves (releaseOf (sizeOf state) records stamps (state .count) (state .mark) address n told pending (nowMs ns) (delayMs (settings .delay))) out records-exit stamps-exit → length records-exit ≡ length records → length stamps-exit ≡ length stamps → Seq K W ((‵ (lent T-Arena.the-row L-records records-exit) ⊛ (‵ (lent u32 L-stamps stamps-exit) ⊛ more)) ∷ Γ) (after val′))
+      → ((val′ : Val) (out : Reply) (records-exit : List Arena) (stamps-exit : List ℕ) → Is T-Reply.the-row out (val′ ∷ []) → Leaves (releaseOf (sizeOf state) records stamps (state .count) (state .mark) address n told (staysPending settings pending) (nowMs ns) (delayMs (settings .delay))) out records-exit stamps-exit → length records-exit ≡ length records → length stamps-exit ≡ length stamps → Seq K W ((‵ (lent T-Arena.the-row L-records records-exit) ⊛ (‵ (lent u32 L-stamps stamps-exit) ⊛ more)) ∷ Γ) (after val′))
       → Seq K W ((‵ (lent T-Arena.the-row L-records records) ⊛ (‵ (lent u32 L-stamps stamps) ⊛ more)) ∷ Γ) G
   release-step bang site mem run known L-records records L-stamps stamps state v-state g-state ns f-ns settings v-settings g-settings address f-address n f-n told v-told g-told pending need ops then′ =
       mut2-call bang site T-Arena.the-row u32 L-records L-stamps T-Reply.the-row (plain (λ _. T-State.the-row) ∷ plain (λ _. u64) ∷ plain (λ _. T-Settings.the-row) ∷ plain (λ _. u64) ∷ plain (λ _. usize) ∷ plain (λ _. T-Commitment.the-row) ∷ plain (λ _. bool) ∷ []) (yes, (yes, (yes, (yes, (yes, (yes, (yes, tt))))))) (release′.clauses 𝓤 H A mem run) known records stamps (λ _. (state, (ns, (settings, (address, (n, (told, (pending, tt)))))))) (λ _. (v-state ∷ [], (vint w64 ns ∷ [], (v-settings ∷ [], (vint w64 address ∷ [], (vint w64 n ∷ [], (v-told ∷ [], (vbool pending ∷ [], tt))))))))
       (λ _. owns-make 𝓤 H A (T-State.the-row ∷ u64 ∷ T-Settings.the-row ∷ u64 ∷ usize ∷ T-Commitment.the-row ∷ bool ∷ []) (Ises (T-State.the-row ∷ u64 ∷ T-Settings.the-row ∷ u64 ∷ usize ∷ T-Commitment.the-row ∷ bool ∷ [])) (LL.makes T-State.the-type L-State.the-plain 𝓤 H A, (uint-makes 𝓤 H A W w64, (LL.makes T-Settings.the-type L-Settings.the-plain 𝓤 H A, (uint-makes 𝓤 H A W w64, (uint-makes 𝓤 H A W w64, (EL.makes T-Commitment.the-type L-Commitment.the-plain 𝓤 H A, (bool-makes 𝓤 H A W, tt))))))) (state, (ns, (settings, (address, (n, (told, (pending, tt))))))) (v-state ∷ [], (vint w64 ns ∷ [], (v-settings ∷ [], (vint w64 address ∷ [], (vint w64 n ∷ [], (v-told ∷ [], (vbool pending ∷ [], tt))))))) (g-state, ((refl, f-ns), (g-settings, ((refl, f-address), ((refl, f-n), (g-told, (refl, tt)))))))) (λ _ _ _. tt) (λ _ _ _. factI 𝓤 _ (emp 𝓤) need)
-      (λ out records-exit stamps-exit. Leaves (releaseOf (sizeOf state) records stamps (state .count) (state .mark) address n told pending (nowMs ns) (delayMs (settings .delay))) out records-exit stamps-exit) (λ _ _ _ out ws. id⊢ 𝓤 _) (λ hd′ _. ops hd′) (λ val′ out records-exit stamps-exit rel′ eq′ l-records l-stamps. then′ val′ out records-exit stamps-exit rel′ eq′ l-records l-stamps)
+      (λ out records-exit stamps-exit. Leaves (releaseOf (sizeOf state) records stamps (state .count) (state .mark) address n told (staysPending settings pending) (nowMs ns) (delayMs (settings .delay))) out records-exit stamps-exit) (λ _ _ _ out ws. id⊢ 𝓤 _) (λ hd′ _. ops hd′) (λ val′ out records-exit stamps-exit rel′ eq′ l-records l-stamps. then′ val′ out records-exit stamps-exit rel′ eq′ l-records l-stamps)
 
   pub release-in-step : K → Site K W Γ C E #releasing·release-in xs G after → (mem : Memory → SProp 𝓤) (run : Routine → Fun 𝓤) → Triple 𝓤 (C #releasing·release-in) (ReleaseInSpec 𝓤 H A mem run)
       → (L-records : Loan) (records : List Arena) → (L-stamps : Loan) (stamps : List ℕ) → (state : State) (v-state : Val) → Is T-State.the-row state (v-state ∷ []) → (ns : ℕ) → ns < 2 ^ 64 → (settings : Settings) (v-settings : Val) → Is T-Settings.the-row settings (v-settings ∷ []) → (i : ℕ) → i < 2 ^ 64 → (s : ℕ) → s < 2 ^ 64 → (n : ℕ) → n < 2 ^ 64 → (told : Commitment) (v-told : Val) → Is T-Commitment.the-row told (v-told ∷ []) → (pending : Bool) → ((i < 32) × (length records ≡ 32) × (s + n ≤ 1024) × Stamped stamps)
       → ((hd′ : Item 𝓤) → Opds K W (hd′ ∷ Γ) E xs (sliceOf L-records ∷ sliceOf L-stamps ∷ v-state ∷ vint w64 ns ∷ v-settings ∷ vint w64 i ∷ vint w64 s ∷ vint w64 n ∷ v-told ∷ vbool pending ∷ []))
-      → ((val′ : Val) → Is T-Reply.the-row (reply Released (calm (state .count) (state .mark))) (val′ ∷ []) → length (set records i (releaseRun (at records i) s n told pending (nowMs ns) (delayMs (settings .delay)))) ≡ length records → length (cond pending (stampRun stamps (1024 * i + s) n (nowMs ns)) stamps) ≡ length stamps → Seq K W ((‵ (lent T-Arena.the-row L-records (set records i (releaseRun (at records i) s n told pending (nowMs ns) (delayMs (settings .delay))))) ⊛ (‵ (lent u32 L-stamps (cond pending (stampRun stamps (1024 * i + s) n (nowMs ns)) stamps)) ⊛ more)) ∷ Γ) (after val′))
+      → ((val′ : Val) → Is T-Reply.the-row (reply Released (calm (state .count) (state .mark))) (val′ ∷ []) → length (set records i (releaseRun (at records i) s n told (staysPending settings pending) (nowMs ns) (delayMs (settings .delay)))) ≡ length records → length (cond (staysPending settings pending) (stampRun stamps (1024 * i + s) n (nowMs ns)) stamps) ≡ length stamps → Seq K W ((‵ (lent T-Arena.the-row L-records (set records i (releaseRun (at records i) s n told (staysPending settings pending) (nowMs ns) (delayMs (settings .delay))))) ⊛ (‵ (lent u32 L-stamps (cond (staysPending settings pending) (stampRun stamps (1024 * i + s) n (nowMs ns)) stamps)) ⊛ more)) ∷ Γ) (after val′))
       → Seq K W ((‵ (lent T-Arena.the-row L-records records) ⊛ (‵ (lent u32 L-stamps stamps) ⊛ more)) ∷ Γ) G
   release-in-step bang site mem run known L-records records L-stamps stamps state v-state g-state ns f-ns settings v-settings g-settings i f-i s f-s n f-n told v-told g-told pending need ops then′ =
       mut2-call bang site T-Arena.the-row u32 L-records L-stamps T-Reply.the-row (plain (λ _. T-State.the-row) ∷ plain (λ _. u64) ∷ plain (λ _. T-Settings.the-row) ∷ plain (λ _. usize) ∷ plain (λ _. usize) ∷ plain (λ _. usize) ∷ plain (λ _. T-Commitment.the-row) ∷ plain (λ _. bool) ∷ []) (yes, (yes, (yes, (yes, (yes, (yes, (yes, (yes, tt)))))))) (release-in′.clauses 𝓤 H A mem run) known records stamps (λ _. (state, (ns, (settings, (i, (s, (n, (told, (pending, tt))))))))) (λ _. (v-state ∷ [], (vint w64 ns ∷ [], (v-settings ∷ [], (vint w64 i ∷ [], (vint w64 s ∷ [], (vint w64 n ∷ [], (v-told ∷ [], (vbool pending ∷ [], tt)))))))))
       (λ _. owns-make 𝓤 H A (T-State.the-row ∷ u64 ∷ T-Settings.the-row ∷ usize ∷ usize ∷ usize ∷ T-Commitment.the-row ∷ bool ∷ []) (Ises (T-State.the-row ∷ u64 ∷ T-Settings.the-row ∷ usize ∷ usize ∷ usize ∷ T-Commitment.the-row ∷ bool ∷ [])) (LL.makes T-State.the-type L-State.the-plain 𝓤 H A, (uint-makes 𝓤 H A W w64, (LL.makes T-Settings.the-type L-Settings.the-plain 𝓤 H A, (uint-makes 𝓤 H A W w64, (uint-makes 𝓤 H A W w64, (uint-makes 𝓤 H A W w64, (EL.makes T-Commitment.the-type L-Commitment.the-plain 𝓤 H A, (bool-makes 𝓤 H A W, tt)))))))) (state, (ns, (settings, (i, (s, (n, (told, (pending, tt)))))))) (v-state ∷ [], (vint w64 ns ∷ [], (v-settings ∷ [], (vint w64 i ∷ [], (vint w64 s ∷ [], (vint w64 n ∷ [], (v-told ∷ [], (vbool pending ∷ [], tt)))))))) (g-state, ((refl, f-ns), (g-settings, ((refl, f-i), ((refl, f-s), ((refl, f-n), (g-told, (refl, tt))))))))) (λ _ _ _. tt) (λ _ _ _. factI 𝓤 _ (emp 𝓤) need)
-      (λ out records-exit stamps-exit. (out ≡ reply Released (calm (state .count) (state .mark))) × (records-exit ≡ set records i (releaseRun (at records i) s n told pending (nowMs ns) (delayMs (settings .delay)))) × (stamps-exit ≡ cond pending (stampRun stamps (1024 * i + s) n (nowMs ns)) stamps)) (λ _ _ _ out ws. id⊢ 𝓤 _) (λ hd′ _. ops hd′) (λ val′ out records-exit stamps-exit rel′ eq′ l-records l-stamps. subst (λ (lst′ : List Arena). Seq K W ((‵ (lent T-Arena.the-row L-records lst′) ⊛ (‵ (lent u32 L-stamps stamps-exit) ⊛ more)) ∷ Γ) (after val′)) (sym (eq′ .1)) (subst (λ (lst′ : List ℕ). Seq K W ((‵ (lent T-Arena.the-row L-records (set records i (releaseRun (at records i) s n told pending (nowMs ns) (delayMs (settings .delay))))) ⊛ (‵ (lent u32 L-stamps lst′) ⊛ more)) ∷ Γ) (after val′)) (sym (eq′ .2)) (then′ val′ (subst (λ (obj′ : Reply). Is T-Reply.the-row obj′ (val′ ∷ [])) (eq′ .0) rel′) (subst (λ (lst′ : List Arena). length lst′ ≡ length records) (eq′ .1) l-records) (subst (λ (lst′ : List ℕ). length lst′ ≡ length stamps) (eq′ .2) l-stamps))))
+      (λ out records-exit stamps-exit. (out ≡ reply Released (calm (state .count) (state .mark))) × (records-exit ≡ set records i (releaseRun (at records i) s n told (staysPending settings pending) (nowMs ns) (delayMs (settings .delay)))) × (stamps-exit ≡ cond (staysPending settings pending) (stampRun stamps (1024 * i + s) n (nowMs ns)) stamps)) (λ _ _ _ out ws. id⊢ 𝓤 _) (λ hd′ _. ops hd′) (λ val′ out records-exit stamps-exit rel′ eq′ l-records l-stamps. subst (λ (lst′ : List Arena). Seq K W ((‵ (lent T-Arena.the-row L-records lst′) ⊛ (‵ (lent u32 L-stamps stamps-exit) ⊛ more)) ∷ Γ) (after val′)) (sym (eq′ .1)) (subst (λ (lst′ : List ℕ). Seq K W ((‵ (lent T-Arena.the-row L-records (set records i (releaseRun (at records i) s n told (staysPending settings pending) (nowMs ns) (delayMs (settings .delay))))) ⊛ (‵ (lent u32 L-stamps lst′) ⊛ more)) ∷ Γ) (after val′)) (sym (eq′ .2)) (then′ val′ (subst (λ (obj′ : Reply). Is T-Reply.the-row obj′ (val′ ∷ [])) (eq′ .0) rel′) (subst (λ (lst′ : List Arena). length lst′ ≡ length records) (eq′ .1) l-records) (subst (λ (lst′ : List ℕ). length lst′ ≡ length stamps) (eq′ .2) l-stamps))))
 
   pub released-step : K → Site K W Γ C E #releasing·released xs G after → (mem : Memory → SProp 𝓤) (run : Routine → Fun 𝓤) → Triple 𝓤 (C #releasing·released) (ReleasedSpec 𝓤 H A mem run)
       → (state : State) (v-state : Val) → Is T-State.the-row state (v-state ∷ [])
@@ -183,3 +188,13 @@ module _ {M : Type 1} {𝓤 : URA M} {H : Heap 𝓤} {A : Atoms 𝓤} {K : Type 
       plain-call bang site usize (plain (λ _. u64) ∷ plain (λ _. u64) ∷ []) (yes, (yes, tt)) (start-of′.clauses 𝓤 H A mem run) known (offset, (chunk-size, tt)) (vint w64 offset ∷ [], (vint w64 chunk-size ∷ [], tt))
       (owns-make 𝓤 H A (u64 ∷ u64 ∷ []) (Ises (u64 ∷ u64 ∷ [])) (uint-makes 𝓤 H A W w64, (uint-makes 𝓤 H A W w64, tt)) (offset, (chunk-size, tt)) (vint w64 offset ∷ [], (vint w64 chunk-size ∷ [], tt)) ((refl, f-offset), ((refl, f-chunk-size), tt))) tt (factI 𝓤 _ (emp 𝓤) need)
       (λ out. out ≡ offset / chunk-size) (λ out ws. id⊢ 𝓤 _) ops (λ val′ out rel′ eq′. subst (λ (new′ : Val). Seq K W (more ∷ Γ) (after new′)) (sym (ap only (rel′ .0) ∙ ap (vint w64) eq′)) (then′ (subst (λ (num′ : ℕ). num′ < 2 ^ 64) eq′ (rel′ .1))))
+
+  pub stays-pending-step : K → Site K W Γ C E #releasing·stays-pending xs G after → (mem : Memory → SProp 𝓤) (run : Routine → Fun 𝓤) → Triple 𝓤 (C #releasing·stays-pending) (StaysPendingSpec 𝓤 H A mem run)
+      → (settings : Settings) (v-settings : Val) → Is T-Settings.the-row settings (v-settings ∷ []) → (pending : Bool)
+      → ((hd′ : Item 𝓤) → Opds K W (hd′ ∷ Γ) E xs (v-settings ∷ vbool pending ∷ []))
+      → (Seq K W (more ∷ Γ) (after (vbool (staysPending settings pending))))
+      → Seq K W (more ∷ Γ) G
+  stays-pending-step bang site mem run known settings v-settings g-settings pending ops then′ =
+      plain-call bang site bool (plain (λ _. T-Settings.the-row) ∷ plain (λ _. bool) ∷ []) (yes, (yes, tt)) (stays-pending′.clauses 𝓤 H A mem run) known (settings, (pending, tt)) (v-settings ∷ [], (vbool pending ∷ [], tt))
+      (owns-make 𝓤 H A (T-Settings.the-row ∷ bool ∷ []) (Ises (T-Settings.the-row ∷ bool ∷ [])) (LL.makes T-Settings.the-type L-Settings.the-plain 𝓤 H A, (bool-makes 𝓤 H A W, tt)) (settings, (pending, tt)) (v-settings ∷ [], (vbool pending ∷ [], tt)) (g-settings, (refl, tt))) tt (id⊢ 𝓤 _)
+      (λ out. out ≡ staysPending settings pending) (λ out ws. id⊢ 𝓤 _) ops (λ val′ out rel′ eq′. subst (λ (new′ : Val). Seq K W (more ∷ Γ) (after new′)) (sym (ap only (bool-tells out (val′ ∷ []) rel′) ∙ ap vbool eq′)) (then′))

@@ -1,5 +1,5 @@
 -- A release row by row: what is known of the arena that the address lies in, and that each return is the definition's. Assumes nothing.
-use Rattle.state.proofs.Prelude.{_≡_, refl, sym, ap, _∙_, subst, Bool, true, false, not, cond, true≢false, List, [], _∷_, ℕ, _+_, _-_, _*_, _/_, _%_, _<_, _≤_, div-lt-iff-lt-mul, arith, leb-true, eqb, leb, length, set, Refusal, Zero, NotInside, NotWhole, PastEnd, when, unless, nowMs, delayMs, Found, At, Nothing, First, first-says, Arena, Commitment, releaseRun, stampRun, isInside, inside-facts, Released, Settings, State, Outcome, sizeOf, worldOf, after, Leaves, reply, turnDown, calm, at, isAt, idFound, findArena, releaseOf}
+use Rattle.state.proofs.Prelude.{_≡_, refl, sym, ap, _∙_, subst, Bool, true, false, not, cond, true≢false, List, [], _∷_, ℕ, _+_, _-_, _*_, _/_, _%_, _<_, _≤_, div-lt-iff-lt-mul, arith, leb-true, eqb, leb, length, set, Refusal, Zero, NotInside, NotWhole, PastEnd, when, unless, nowMs, delayMs, Found, At, Nothing, First, first-says, Arena, Commitment, staysPending, releaseRun, stampRun, isInside, inside-facts, Released, Settings, State, Outcome, sizeOf, worldOf, after, Leaves, reply, turnDown, calm, at, isAt, idFound, findArena, releaseOf}
 use Rattle.arena.proofs.PlaceLaws.{Within}
 use Rattle.layer.specs.World.{refuse, firstOf}
 use Rattle.state.specs.Ready.{Standing, Ready}
@@ -61,8 +61,11 @@ module _ (l : List Arena) (stamps : List ℕ) (state : State) (ns : ℕ) (settin
   abbrev delay : ℕ
   delay = delayMs (settings .delay)
 
+  abbrev stays : Bool
+  stays = staysPending settings pending
+
   abbrev out : Outcome
-  out = releaseOf S l stamps k (state .mark) address n told pending ms delay
+  out = releaseOf S l stamps k (state .mark) address n told stays ms delay
 
   down : (why : Refusal) → after (turnDown why (calm k (state .mark))) l stamps ≡ after (turnDown why state) l stamps
   down why = ap (λ (s : State). after (turnDown why s) l stamps) (sym (calm-is l state ready))
@@ -83,8 +86,8 @@ module _ (l : List Arena) (stamps : List ℕ) (state : State) (ns : ℕ) (settin
       ∷ refuse w NotWhole (not (eqb (offset % S) 0))
       ∷ refuse w PastEnd (not (leb (offset / S + n) (at l i .chunks)))
       ∷ [])
-      (after (reply Released (calm k (state .mark))) (set l i (releaseRun (at l i) (offset / S) n told pending ms delay))
-      (cond pending (stampRun stamps (1024 * i + offset / S) n ms) stamps))
+      (after (reply Released (calm k (state .mark))) (set l i (releaseRun (at l i) (offset / S) n told stays ms delay))
+      (cond stays (stampRun stamps (1024 * i + offset / S) n ms) stamps))
 
   by-place : (f : Found) → findArena S l k address ≡ f → out ≡ by f
   unfolding releaseOf
@@ -109,10 +112,10 @@ module _ (l : List Arena) (stamps : List ℕ) (state : State) (ns : ℕ) (settin
         end-row e = comes out _ l stamps (by-place (At i) found ∙ unless _ _ _ some ∙ unless _ _ _ (ap not whole) ∙ when _ _ _ (ap not e) ∙ down PastEnd)
 
         abbrev new : List Arena
-        new = set l i (releaseRun (at l i) (offset / S) n told pending ms delay)
+        new = set l i (releaseRun (at l i) (offset / S) n told stays ms delay)
 
         abbrev stamped : List ℕ
-        stamped = cond pending (stampRun stamps (1024 * i + offset / S) n ms) stamps
+        stamped = cond stays (stampRun stamps (1024 * i + offset / S) n ms) stamps
 
         pub released : inside ≡ true → Leaves out (reply Released (calm k (state .mark))) new stamped
         released e = comes out _ new stamped (by-place (At i) found ∙ unless _ _ _ some ∙ unless _ _ _ (ap not whole) ∙ unless _ _ _ (ap not e))

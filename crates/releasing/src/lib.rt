@@ -11,7 +11,7 @@ ghost use Rattle.layer.specs.declared.Answer.the-variants.{Released};
 ghost use Rattle.layer.specs.World.{sizeOf, worldOf, Leaves, reply, calm};
 ghost use Rattle.layer.specs.Table.{at};
 ghost use Rattle.layer.specs.Releasing.{releaseOf};
-ghost use Rattle.layer.specs.Step.{release, step, act};
+ghost use Rattle.layer.specs.Step.{staysPending, release, step, act};
 ghost use Rattle.state.specs.Ready.{Ready, Stamped};
 ghost use Rattle.releasing.specs.Told.{isUntold};
 use arena::Arena;
@@ -76,13 +76,20 @@ fn is_untold(told: Commitment) -> bool
     }
 }
 
+// Whether the run stays pending, for a later sweep to purge: not with a negative delay, which means never.
+fn stays_pending(settings: Settings, pending: bool) -> bool
+    ensures { λ r. ⌜ r ≡ staysPending settings «pending» ⌝ }
+{
+    pending && !clock::never_purges(settings.delay)
+}
+
 fn released(state: State) -> Reply
     ensures { λ r. ⌜ r ≡ reply Released (calm (state .count) (state .mark)) ⌝ }
 {
     state::settled(Answer::Released, state.count, state.mark)
 }
 
-// The run of n from s on in arena i. Clock and delay are worked out only where it is pending.
+// The run of n from s on in arena i. Clock and delay are worked out only where it stays pending.
 fn release_in(
     records: &mut [Arena],
     stamps: &mut [u32],
@@ -96,10 +103,10 @@ fn release_in(
     pending: bool,
 ) -> Reply
     requires { ⌜ (i < 32) × (length (now records) ≡ 32) × (s + n ≤ 1024) × Stamped (now stamps) ⌝ }
-    ensures { λ r. ⌜ (r ≡ reply Released (calm (state .count) (state .mark))) × (now (records .exit) ≡ set (now (records .entry)) i (releaseRun (at (now (records .entry)) i) s n told pending (nowMs ns) (delayMs (settings .delay)))) × (now (stamps .exit) ≡ cond pending (stampRun (now (stamps .entry)) (1024 * i + s) n (nowMs ns)) (now (stamps .entry))) ⌝ }
+    ensures { λ r. ⌜ (r ≡ reply Released (calm (state .count) (state .mark))) × (now (records .exit) ≡ set (now (records .entry)) i (releaseRun (at (now (records .entry)) i) s n told (staysPending settings «pending») (nowMs ns) (delayMs (settings .delay)))) × (now (stamps .exit) ≡ cond (staysPending settings «pending») (stampRun (now (stamps .entry)) (1024 * i + s) n (nowMs ns)) (now (stamps .entry))) ⌝ }
 {
     let a = table::records::load(records, i);
-    if pending {
+    if stays_pending(settings, pending) {
         let ms = clock::now_ms(ns);
         let delay = delay_of(settings);
         let waiting = arena::arena_runs::release_pending(a, s, n, told, ms, delay);
@@ -132,7 +139,7 @@ pub fn release(
     pending: bool,
 ) -> Reply
     requires { ⌜ Ready (now records) state × Stamped (now stamps) ⌝ }
-    ensures { λ r. ⌜ Leaves (releaseOf (sizeOf state) (now (records .entry)) (now (stamps .entry)) (state .count) (state .mark) address n told pending (nowMs ns) (delayMs (settings .delay))) r (now (records .exit)) (now (stamps .exit)) ⌝ }
+    ensures { λ r. ⌜ Leaves (releaseOf (sizeOf state) (now (records .entry)) (now (stamps .entry)) (state .count) (state .mark) address n told (staysPending settings «pending») (nowMs ns) (delayMs (settings .delay))) r (now (records .exit)) (now (stamps .exit)) ⌝ }
 {
     if n == 0 {
         return state::refuse(Refusal::Zero, state);

@@ -16,7 +16,7 @@ pub use native.Mathlib.Numerals.{add-one}
 pub use native.Mathlib.Omega.{arith}
 pub use Rattle.refusals.specs.declared.Refusal.{Refusal}
 pub use Rattle.refusals.specs.declared.Refusal.the-variants.{ArenasOff, Broken, ChunkCount, CommitRefused, HostRefused, MemoryRefused, NoRun, NoSuchQuestion, NoWholeChunk, NotInside, NotWhole, PastEnd, QuestionOpen, Range, TableFull, Zero}
-unfoldable pub use Rattle.clock.specs.Clock.{delayMs, nowMs}
+unfoldable pub use Rattle.clock.specs.Clock.{delayMs, neverPurges, nowMs}
 unfoldable pub use Rattle.options.specs.Options.{arenaAllowed, pageSizeSound}
 pub use Rattle.bitmap.proofs.runs.LowestLaws.{First, all-free-of, first-says, free-all, least-none}
 pub use Rattle.bitmap.proofs.runs.SearchLaws.{and-both, same}
@@ -46,7 +46,7 @@ unfoldable pub use Rattle.layer.specs.Claiming.{claimOf, eligible, grantArena, 
 pub use Rattle.layer.specs.Registering.{firstWhole, growing, pastWhole, withRecord, withStamps}
 unfoldable pub use Rattle.layer.specs.Registering.{askMemory, badCount, chunksFor, grows, noWholeChunk, reserveReply, tooLarge}
 unfoldable pub use Rattle.layer.specs.Releasing.{releaseOf}
-pub use Rattle.layer.specs.Step.{Act, Call, Query, act, actOn, answer, claim, query, queryOn, release, step, sweep, sweepOf}
+pub use Rattle.layer.specs.Step.{Act, Call, Query, act, actOn, answer, claim, query, queryOn, release, staysPending, step, sweep, sweepOf, sweepsNone}
 unfoldable pub use Rattle.layer.specs.Step.{rules}
 pub use Rattle.layer.specs.Sweeping.{visitAt}
 unfoldable pub use Rattle.layer.specs.Sweeping.{purgeReply, sweepFrom, sweptReply, visit}

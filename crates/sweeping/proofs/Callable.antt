@@ -1,4 +1,4 @@
--- Functions of `sweeping` that a walk calls, each in one step: answer-purge-step, behind-step, chunk-of-step, count-answer-step, deadline-anew-step, deadline-without-step, decommits-step, is-due-at-step, next-chunk-step, purge-due-step, purge-question-step, question-at-step, sweep-step, sweep-of-step, sweep-on-step, swept-step, visit-step. Written by tools/walks.
+-- Functions of `sweeping` that a walk calls, each in one step: answer-purge-step, behind-step, chunk-of-step, count-answer-step, deadline-anew-step, deadline-without-step, decommits-step, is-due-at-step, next-chunk-step, purge-due-step, purge-question-step, question-at-step, sweep-step, sweep-of-step, sweep-on-step, sweeps-none-step, swept-step, visit-step. Written by tools/walks.
 -- Assumes `Given`, the callee's theorem, and that the table of calls is monotone under a frame.
 use Rattle.walks.proofs.Walking.{_≡_, refl, sym, _∙_, ap, subst, Bool, true, ℕ, _<_, _≤_, _+_, _*_, _^_, List, [], _∷_, length, set, w32, w64, Operand, Val, vint, vbool, URA, SProp, emp, id⊢, Memory, Routine, Heap, Env, Calls, Atoms, Given, Item, Goal, Seq, ‵, _⊛_, Opds, Fun, factI, bool, u32, u64, usize, yes, Is, Ises, owns-make, uint-makes, bool-tells, bool-makes, plain, only, tripleOf, Contract, Triple, Loan, lent, sliceOf, Site, plain-call, shr-call, mut2-call}
 use Rattle.layer.proofs.State as T-State
@@ -31,7 +31,7 @@ use Rattle.state.specs.Ready.{Stamped, Ready}
 use Rattle.bitmap.specs.Rows.{clearRun}
 use Rattle.arena.specs.Sweeping.{sweepDue, nextAsked}
 use Rattle.layer.specs.declared.Settings.{Settings}
-use Rattle.layer.specs.Step.{sweep, step, act, sweepOf}
+use Rattle.layer.specs.Step.{sweep, step, act, actOn, sweepOf, sweepsNone}
 use Rattle.table.specs.declared.heads.Head.{Head}
 use Rattle.layer.specs.Sweeping.{purgeReply, sweepFrom, sweptReply}
 use Rattle.table.specs.Heads.{headed}
@@ -66,6 +66,8 @@ use Rattle.sweeping.proofs.sweep_of as sweep-of′
 use Rattle.sweeping.proofs.sweep_of.Symbol.{name as #sweeping·sweep-of}
 use Rattle.sweeping.proofs.sweep_on as sweep-on′
 use Rattle.sweeping.proofs.sweep_on.Symbol.{name as #sweeping·sweep-on}
+use Rattle.sweeping.proofs.sweeps_none as sweeps-none′
+use Rattle.sweeping.proofs.sweeps_none.Symbol.{name as #sweeping·sweeps-none}
 use Rattle.sweeping.proofs.swept as swept′
 use Rattle.sweeping.proofs.swept.Symbol.{name as #sweeping·swept}
 use Rattle.sweeping.proofs.visit as visit′
@@ -117,6 +119,9 @@ module _ {M : Type 1} (𝓤 : URA M) (H : Heap 𝓤) (A : Atoms 𝓤) (mem : Mem
 
   abbrev pub SweepOnSpec : Contract 𝓤
   SweepOnSpec = tripleOf 𝓤 H A sweep-on′.signature (sweep-on′.spec 𝓤 H A mem run)
+
+  abbrev pub SweepsNoneSpec : Contract 𝓤
+  SweepsNoneSpec = tripleOf 𝓤 H A sweeps-none′.signature (sweeps-none′.spec 𝓤 H A mem run)
 
   abbrev pub SweptSpec : Contract 𝓤
   SweptSpec = tripleOf 𝓤 H A swept′.signature (swept′.spec 𝓤 H A mem run)
@@ -248,12 +253,12 @@ module _ {M : Type 1} {𝓤 : URA M} {H : Heap 𝓤} {A : Atoms 𝓤} {K : Type 
   pub sweep-step : K → Site K W Γ C E #sweeping·sweep xs G after → (mem : Memory → SProp 𝓤) (run : Routine → Fun 𝓤) → Triple 𝓤 (C #sweeping·sweep) (SweepSpec 𝓤 H A mem run)
       → (L-records : Loan) (records : List Arena) → (L-stamps : Loan) (stamps : List ℕ) → (state : State) (v-state : Val) → Is T-State.the-row state (v-state ∷ []) → (ns : ℕ) → ns < 2 ^ 64 → (settings : Settings) (v-settings : Val) → Is T-Settings.the-row settings (v-settings ∷ []) → (force : Bool) → (Ready records state × Stamped stamps)
       → ((hd′ : Item 𝓤) → Opds K W (hd′ ∷ Γ) E xs (sliceOf L-records ∷ sliceOf L-stamps ∷ v-state ∷ vint w64 ns ∷ v-settings ∷ vbool force ∷ []))
-      → ((val′ : Val) (out : Reply) (records-exit : List Arena) (stamps-exit : List ℕ) → Is T-Reply.the-row out (val′ ∷ []) → Leaves (sweepFrom (sizeOf state) stamps (state .count) (state .mark) (sweepOf force ns settings) (state .count) 0 records) out records-exit stamps-exit → length records-exit ≡ length records → length stamps-exit ≡ length stamps → Seq K W ((‵ (lent T-Arena.the-row L-records records-exit) ⊛ (‵ (lent u32 L-stamps stamps-exit) ⊛ more)) ∷ Γ) (after val′))
+      → ((val′ : Val) (out : Reply) (records-exit : List Arena) (stamps-exit : List ℕ) → Is T-Reply.the-row out (val′ ∷ []) → Leaves (actOn (sizeOf state) records stamps (state .count) (state .mark) (state .question) ns settings (sweep force)) out records-exit stamps-exit → length records-exit ≡ length records → length stamps-exit ≡ length stamps → Seq K W ((‵ (lent T-Arena.the-row L-records records-exit) ⊛ (‵ (lent u32 L-stamps stamps-exit) ⊛ more)) ∷ Γ) (after val′))
       → Seq K W ((‵ (lent T-Arena.the-row L-records records) ⊛ (‵ (lent u32 L-stamps stamps) ⊛ more)) ∷ Γ) G
   sweep-step bang site mem run known L-records records L-stamps stamps state v-state g-state ns f-ns settings v-settings g-settings force need ops then′ =
       mut2-call bang site T-Arena.the-row u32 L-records L-stamps T-Reply.the-row (plain (λ _. T-State.the-row) ∷ plain (λ _. u64) ∷ plain (λ _. T-Settings.the-row) ∷ plain (λ _. bool) ∷ []) (yes, (yes, (yes, (yes, tt)))) (sweep′.clauses 𝓤 H A mem run) known records stamps (λ _. (state, (ns, (settings, (force, tt))))) (λ _. (v-state ∷ [], (vint w64 ns ∷ [], (v-settings ∷ [], (vbool force ∷ [], tt)))))
       (λ _. owns-make 𝓤 H A (T-State.the-row ∷ u64 ∷ T-Settings.the-row ∷ bool ∷ []) (Ises (T-State.the-row ∷ u64 ∷ T-Settings.the-row ∷ bool ∷ [])) (LL.makes T-State.the-type L-State.the-plain 𝓤 H A, (uint-makes 𝓤 H A W w64, (LL.makes T-Settings.the-type L-Settings.the-plain 𝓤 H A, (bool-makes 𝓤 H A W, tt)))) (state, (ns, (settings, (force, tt)))) (v-state ∷ [], (vint w64 ns ∷ [], (v-settings ∷ [], (vbool force ∷ [], tt)))) (g-state, ((refl, f-ns), (g-settings, (refl, tt))))) (λ _ _ _. tt) (λ _ _ _. factI 𝓤 _ (emp 𝓤) need)
-      (λ out records-exit stamps-exit. Leaves (sweepFrom (sizeOf state) stamps (state .count) (state .mark) (sweepOf force ns settings) (state .count) 0 records) out records-exit stamps-exit) (λ _ _ _ out ws. id⊢ 𝓤 _) (λ hd′ _. ops hd′) (λ val′ out records-exit stamps-exit rel′ eq′ l-records l-stamps. then′ val′ out records-exit stamps-exit rel′ eq′ l-records l-stamps)
+      (λ out records-exit stamps-exit. Leaves (actOn (sizeOf state) records stamps (state .count) (state .mark) (state .question) ns settings (sweep force)) out records-exit stamps-exit) (λ _ _ _ out ws. id⊢ 𝓤 _) (λ hd′ _. ops hd′) (λ val′ out records-exit stamps-exit rel′ eq′ l-records l-stamps. then′ val′ out records-exit stamps-exit rel′ eq′ l-records l-stamps)
 
   pub sweep-of-step : K → Site K W Γ C E #sweeping·sweep-of xs G after → (mem : Memory → SProp 𝓤) (run : Routine → Fun 𝓤) → Triple 𝓤 (C #sweeping·sweep-of) (SweepOfSpec 𝓤 H A mem run)
       → (force : Bool) → (ns : ℕ) → ns < 2 ^ 64 → (settings : Settings) (v-settings : Val) → Is T-Settings.the-row settings (v-settings ∷ [])
@@ -274,6 +279,16 @@ module _ {M : Type 1} {𝓤 : URA M} {H : Heap 𝓤} {A : Atoms 𝓤} {K : Type 
       mut2-call bang site T-Arena.the-row u32 L-records L-stamps T-Reply.the-row (plain (λ _. T-State.the-row) ∷ plain (λ _. usize) ∷ plain (λ _. T-Sweep.the-row) ∷ []) (yes, (yes, (yes, tt))) (sweep-on′.clauses 𝓤 H A mem run) known records stamps (λ _. (state, (from′, (w, tt)))) (λ _. (v-state ∷ [], (vint w64 from′ ∷ [], (v-w ∷ [], tt))))
       (λ _. owns-make 𝓤 H A (T-State.the-row ∷ usize ∷ T-Sweep.the-row ∷ []) (Ises (T-State.the-row ∷ usize ∷ T-Sweep.the-row ∷ [])) (LL.makes T-State.the-type L-State.the-plain 𝓤 H A, (uint-makes 𝓤 H A W w64, (LL.makes T-Sweep.the-type L-Sweep.the-plain 𝓤 H A, tt))) (state, (from′, (w, tt))) (v-state ∷ [], (vint w64 from′ ∷ [], (v-w ∷ [], tt))) (g-state, ((refl, f-from′), (g-w, tt)))) (λ _ _ _. tt) (λ _ _ _. factI 𝓤 _ (emp 𝓤) need)
       (λ out records-exit stamps-exit. Leaves (sweepFrom (sizeOf state) stamps (state .count) (state .mark) w (state .count - from′) from′ records) out records-exit stamps-exit) (λ _ _ _ out ws. id⊢ 𝓤 _) (λ hd′ _. ops hd′) (λ val′ out records-exit stamps-exit rel′ eq′ l-records l-stamps. then′ val′ out records-exit stamps-exit rel′ eq′ l-records l-stamps)
+
+  pub sweeps-none-step : K → Site K W Γ C E #sweeping·sweeps-none xs G after → (mem : Memory → SProp 𝓤) (run : Routine → Fun 𝓤) → Triple 𝓤 (C #sweeping·sweeps-none) (SweepsNoneSpec 𝓤 H A mem run)
+      → (settings : Settings) (v-settings : Val) → Is T-Settings.the-row settings (v-settings ∷ []) → (force : Bool)
+      → ((hd′ : Item 𝓤) → Opds K W (hd′ ∷ Γ) E xs (v-settings ∷ vbool force ∷ []))
+      → (Seq K W (more ∷ Γ) (after (vbool (sweepsNone settings force))))
+      → Seq K W (more ∷ Γ) G
+  sweeps-none-step bang site mem run known settings v-settings g-settings force ops then′ =
+      plain-call bang site bool (plain (λ _. T-Settings.the-row) ∷ plain (λ _. bool) ∷ []) (yes, (yes, tt)) (sweeps-none′.clauses 𝓤 H A mem run) known (settings, (force, tt)) (v-settings ∷ [], (vbool force ∷ [], tt))
+      (owns-make 𝓤 H A (T-Settings.the-row ∷ bool ∷ []) (Ises (T-Settings.the-row ∷ bool ∷ [])) (LL.makes T-Settings.the-type L-Settings.the-plain 𝓤 H A, (bool-makes 𝓤 H A W, tt)) (settings, (force, tt)) (v-settings ∷ [], (vbool force ∷ [], tt)) (g-settings, (refl, tt))) tt (id⊢ 𝓤 _)
+      (λ out. out ≡ sweepsNone settings force) (λ out ws. id⊢ 𝓤 _) ops (λ val′ out rel′ eq′. subst (λ (new′ : Val). Seq K W (more ∷ Γ) (after new′)) (sym (ap only (bool-tells out (val′ ∷ []) rel′) ∙ ap vbool eq′)) (then′))
 
   pub swept-step : K → Site K W Γ C E #sweeping·swept xs G after → (mem : Memory → SProp 𝓤) (run : Routine → Fun 𝓤) → Triple 𝓤 (C #sweeping·swept) (SweptSpec 𝓤 H A mem run)
       → (state : State) (v-state : Val) → Is T-State.the-row state (v-state ∷ []) → (w : Sweep) (v-w : Val) → Is T-Sweep.the-row w (v-w ∷ [])

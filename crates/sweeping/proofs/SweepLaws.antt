@@ -118,6 +118,14 @@ module _ (S : ℕ) (stamps : List ℕ) (k : ℕ) (mark : Bool) (w : Sweep) where
       pub asks-none : k ≤ i → Leaves all (sweptReply k mark w) m stamps
       asks-none past = comes all _ m stamps (sym (going .1) ∙ ended (k - i) i m (omega (arith, past)))
 
-  -- the whole sweep is the sweep from the first arena on
-  pub from-first : (l : List Arena) (r : Reply) (m : List Arena) (ts : List ℕ) → Leaves (sweepFrom S stamps k mark w (k - 0) 0 l) r m ts → Leaves (sweepFrom S stamps k mark w k 0 l) r m ts
-  from-first l r m ts = subst (λ (f : ℕ). Leaves (sweepFrom S stamps k mark w f 0 l) r m ts) (let z : k - 0 ≡ k = omega arith in z)
+  -- the call: over no arena, or over all of them from the first on
+  abbrev called : Bool → List Arena → Outcome
+  called none l = cond none (after (sweptReply k mark w) l stamps) (sweepFrom S stamps k mark w k 0 l)
+
+  pub over-none : (none : Bool) (l : List Arena) → none ≡ true → Leaves (called none l) (sweptReply k mark w) l stamps
+  over-none none l e = comes (called none l) _ l stamps (when _ _ _ e)
+
+  pub over-all : (none : Bool) (l : List Arena) (r : Reply) (m : List Arena) (ts : List ℕ) → none ≡ false → Leaves (sweepFrom S stamps k mark w (k - 0) 0 l) r m ts → Leaves (called none l) r m ts
+  over-all none l r m ts e h =
+      subst (λ (o : Outcome). Leaves o r m ts) (sym (unless none (after (sweptReply k mark w) l stamps) _ e))
+      (subst (λ (f : ℕ). Leaves (sweepFrom S stamps k mark w f 0 l) r m ts) (let z : k - 0 ≡ k = omega arith in z) h)

@@ -12,7 +12,7 @@ ghost use Rattle.layer.specs.World.{sizeOf, worldOf, Leaves};
 ghost use Rattle.layer.specs.Table.{at, isAt};
 ghost use Rattle.layer.specs.Sweeping.{purgeReply, sweptReply, sweepFrom};
 ghost use Rattle.layer.specs.Answering.{counted, answerPurge};
-ghost use Rattle.layer.specs.Step.{sweep, sweepOf, step, act};
+ghost use Rattle.layer.specs.Step.{sweep, sweepOf, sweepsNone, actOn, step, act};
 ghost use Rattle.table.specs.Heads.{headed};
 ghost use Rattle.state.specs.Ready.{Ready, Stamped};
 ghost use Rattle.sweeping.specs.Visit.{comesDue, chunkOf, askedAt, visited, Sweepable, Borrowed};
@@ -205,7 +205,14 @@ fn sweep_of(force: bool, ns: u64, settings: Settings) -> Sweep
     }
 }
 
-// A sweep of all arenas, on a table that rows 1 and 2 let pass.
+// With a negative delay, which means never, only a forced sweep goes over the arenas.
+fn sweeps_none(settings: Settings, force: bool) -> bool
+    ensures { λ r. ⌜ r ≡ sweepsNone settings «force» ⌝ }
+{
+    !force && clock::never_purges(settings.delay)
+}
+
+// A sweep of all arenas, or of none, on a table that rows 1 and 2 let pass.
 pub fn sweep(
     records: &mut [Arena],
     stamps: &mut [u32],
@@ -215,9 +222,12 @@ pub fn sweep(
     force: bool,
 ) -> Reply
     requires { ⌜ Ready (now records) state × Stamped (now stamps) ⌝ }
-    ensures { λ r. ⌜ Leaves (sweepFrom (sizeOf state) (now (stamps .entry)) (state .count) (state .mark) (sweepOf force ns settings) (state .count) 0 (now (records .entry))) r (now (records .exit)) (now (stamps .exit)) ⌝ }
+    ensures { λ r. ⌜ Leaves (actOn (sizeOf state) (now (records .entry)) (now (stamps .entry)) (state .count) (state .mark) (state .question) ns settings (sweep force)) r (now (records .exit)) (now (stamps .exit)) ⌝ }
 {
     let w = sweep_of(force, ns, settings);
+    if sweeps_none(settings, force) {
+        return swept(state, w);
+    }
     sweep_on(records, stamps, state, 0, w)
 }
 

@@ -26,6 +26,7 @@ use Rattle.layer.specs.declared.Reply.{Reply}
 use Rattle.clock.specs.Clock.{nowMs, delayMs}
 use Rattle.layer.specs.World.{sizeOf, Leaves, turnDown, blank, reply, calm}
 use Rattle.layer.specs.Releasing.{releaseOf}
+use Rattle.layer.specs.Step.{staysPending}
 use Rattle.state.specs.Ready.{Ready, Stamped}
 use Rattle.refusals.specs.declared.Refusal.the-variants.{Zero, NotInside, NotWhole, PastEnd}
 use Rattle.layer.specs.Table.{findArena, isAt, at}
@@ -109,7 +110,7 @@ module _ {M : Type 1} (𝓤 : URA M) (H : Heap 𝓤) (A : Atoms 𝓤) (W : Given
     v-told = EL.val T-Commitment.the-type L-Commitment.the-laws told
 
     abbrev χ : Reply → List Arena → List ℕ → Type 0
-    χ out records-exit stamps-exit = Leaves (releaseOf (sizeOf state) records stamps (state .count) (state .mark) address n told pending (nowMs ns) (delayMs (settings .delay))) out records-exit stamps-exit
+    χ out records-exit stamps-exit = Leaves (releaseOf (sizeOf state) records stamps (state .count) (state .mark) address n told (staysPending settings pending) (nowMs ns) (delayMs (settings .delay))) out records-exit stamps-exit
 
     abbrev Shown : (Reply → List Arena → List ℕ → Type 0) → Type 1
     Shown says = Sq W ((‵ (lent T-Arena.the-row L-records records) ⊛ (‵ (lent u32 L-stamps stamps) ⊛ ‵ ftrue)) ∷ []) (prop (WpFn 𝓤 H (𝓣 .C) (𝓣 .Λ) code.function (sliceOf L-records ∷ sliceOf L-stamps ∷ v-state ∷ vint w64 ns ∷ v-settings ∷ vint w64 address ∷ vint w64 n ∷ v-told ∷ vbool pending ∷ []) (Done2 𝓤 H A T-Arena.the-row u32 L-records L-stamps T-Reply.the-row records stamps says)))
@@ -211,7 +212,7 @@ module _ {M : Type 1} (𝓤 : URA M) (H : Heap 𝓤) (A : Atoms 𝓤) (W : Given
         assigns ! (agg ! (and-then ! (in-local ! refl) (and-then ! (load ! (from ! (fld ! refl (stop !))) (look-in ! 5 (sub ! 1 refl (whole !)))) (no-more !)))) (from ! (stop !)) (init ! 59 refl (tt, (tt, (record { fits = known-stamps .1 .0 }, tt)))) $
         arg-fits ! 3 refl (λ f0-2. arg-fits ! 5 refl (λ f0-4. arg-fits ! 6 refl (λ f0-5. arg-fits ! 7 refl (λ f0-6.
         release-in-step ! (in-seq ! (fmOf 𝓤 H (W .laws) 𝓣)) mem run known-release-in L-records records L-stamps stamps state v-state g-state _ (f0-2 .fits) settings v-settings g-settings _ (f0-4 .fits) _ (f0-5 .fits) _ (f0-6 .fits) told v-told g-told _ (let g = releasable records state (need .0 .0) address i i-says n (is-true t16-3 (T-not-not t16-3 h4)) in (g .0, g .1, g .2, need .1))
-        (λ _. and-then ! (arg ! refl) (and-then ! (arg ! refl) (and-then ! (arg ! refl) (and-then ! (arg ! refl) (and-then ! (arg ! refl) (and-then ! (arg ! refl) (and-then ! (arg ! refl) (and-then ! (arg ! refl) (and-then ! (arg ! refl) (and-then ! (arg ! refl) (no-more !))))))))))) (λ v-result g-result l-records-1 l-stamps-1. let result : Reply = reply Released (calm (state .count) (state .mark)) in let records-1 : List Arena = set records i (releaseRun (at records i) s n told pending (nowMs ns) (delayMs (settings .delay))) in let stamps-1 : List ℕ = cond pending (stampRun stamps (1024 * i + s) n (nowMs ns)) stamps in
+        (λ _. and-then ! (arg ! refl) (and-then ! (arg ! refl) (and-then ! (arg ! refl) (and-then ! (arg ! refl) (and-then ! (arg ! refl) (and-then ! (arg ! refl) (and-then ! (arg ! refl) (and-then ! (arg ! refl) (and-then ! (arg ! refl) (and-then ! (arg ! refl) (no-more !))))))))))) (λ v-result g-result l-records-1 l-stamps-1. let result : Reply = reply Released (calm (state .count) (state .mark)) in let records-1 : List Arena = set records i (releaseRun (at records i) s n told (staysPending settings pending) (nowMs ns) (delayMs (settings .delay))) in let stamps-1 : List ℕ = cond (staysPending settings pending) (stampRun stamps (1024 * i + s) n (nowMs ns)) stamps in
         land ! (from ! (stop !)) (init ! 1 refl (LL.lawful T-Reply.the-type L-Reply.the-laws 𝓤 H A W .typed result (v-result ∷ []) g-result .0)) $
         returns ! (look ! 1 refl) $ used ! $ used ! $ used ! $ used ! $ used ! $ used ! $ used ! $ used ! $ used ! $ used ! $ used ! $ used ! $ used ! $ used ! $ used ! $ used ! $ used ! $ room ! $ used ! $ used ! $ used ! $ room ! $ used ! $ used ! $ room ! $ room ! $ used ! $ used ! $ used ! $ used ! $ free0 ! $
         finish2 𝓤 H A T-Arena.the-row u32 L-records L-stamps T-Reply.the-row records stamps χ W (‵ ftrue) v-result result records-1 stamps-1 g-result l-records-1 l-stamps-1 (released records stamps state ns settings address n told pending (need .0) (is-false (eqb n 0) h1) i i-says (is-true t16-2 (T-not-not t16-2 h3)) (is-true t16-3 (T-not-not t16-3 h4)))))))))))))))))))))))))
@@ -219,7 +220,7 @@ module _ {M : Type 1} (𝓤 : URA M) (H : Heap 𝓤) (A : Atoms 𝓤) (W : Given
   release-meets : Meets 𝓤 H A release′.signature (WpFn 𝓤 H (𝓣 .C) (𝓣 .Λ) code.function) (release′.spec 𝓤 H A mem run)
   release-meets = mut2-meets 𝓤 H A W T-Arena.the-row u32 T-Reply.the-row (plain (λ _. T-State.the-row) ∷ plain (λ _. u64) ∷ plain (λ _. T-Settings.the-row) ∷ plain (λ _. u64) ∷ plain (λ _. usize) ∷ plain (λ _. T-Commitment.the-row) ∷ plain (λ _. bool) ∷ []) (yes, (yes, (yes, (yes, (yes, (yes, (yes, tt))))))) (release′.clauses 𝓤 H A mem run)
       (λ κs. (LL.vals T-State.the-type L-State.the-laws, (uint-vals w64, (LL.vals T-Settings.the-type L-Settings.the-laws, (uint-vals w64, (uint-vals w64, (EL.vals T-Commitment.the-type L-Commitment.the-laws, (bool-vals, tt)))))))) (λ κs a. (tt, (tt, (tt, (tt, (tt, (tt, (tt, tt))))))))
-      (λ κs x g. Ready (x .0 .now) (x .1 .1 .0) × Stamped (x .1 .0 .now)) (λ κs x g out records-exit stamps-exit. Leaves (releaseOf (sizeOf (x .1 .1 .0)) (x .0 .now) (x .1 .0 .now) ((x .1 .1 .0) .count) ((x .1 .1 .0) .mark) (x .1 .1 .1 .1 .1 .0) (x .1 .1 .1 .1 .1 .1 .0) (x .1 .1 .1 .1 .1 .1 .1 .0) (x .1 .1 .1 .1 .1 .1 .1 .1 .0) (nowMs (x .1 .1 .1 .0)) (delayMs ((x .1 .1 .1 .1 .0) .delay))) out records-exit stamps-exit)
+      (λ κs x g. Ready (x .0 .now) (x .1 .1 .0) × Stamped (x .1 .0 .now)) (λ κs x g out records-exit stamps-exit. Leaves (releaseOf (sizeOf (x .1 .1 .0)) (x .0 .now) (x .1 .0 .now) ((x .1 .1 .0) .count) ((x .1 .1 .0) .mark) (x .1 .1 .1 .1 .1 .0) (x .1 .1 .1 .1 .1 .1 .0) (x .1 .1 .1 .1 .1 .1 .1 .0) (staysPending (x .1 .1 .1 .1 .0) (x .1 .1 .1 .1 .1 .1 .1 .1 .0)) (nowMs (x .1 .1 .1 .0)) (delayMs ((x .1 .1 .1 .1 .0) .delay))) out records-exit stamps-exit)
       (LL.makes T-Reply.the-type L-Reply.the-plain 𝓤 H A) ((λ κs x f. refl), ((λ κs x f. refl), ((λ κs x f. refl), ((λ κs x f. refl), ((λ κs x f. refl), ((λ κs x f. refl), ((λ κs x f. refl), tt))))))) (λ κs. (LL.tells T-State.the-type L-State.the-laws, (uint-tells w64, (LL.tells T-Settings.the-type L-Settings.the-laws, (uint-tells w64, (uint-tells w64, (EL.tells T-Commitment.the-type L-Commitment.the-laws, (bool-tells, tt))))))))
       (λ κs x g. id⊢ 𝓤 _) (λ κs x g out records-exit stamps-exit e. factI 𝓤 _ (emp 𝓤) e) code.function 𝓣
       (λ κs q0 q1 x g known0 known1 are l. walk (κs .0) (κs .1 .0) q0 q1 (x .0 .name) (x .1 .0 .name) (x .0 .ptr .0) (x .1 .0 .ptr .0) (x .0 .ptr .1) (x .1 .0 .ptr .1) (x .0 .now) (x .1 .0 .now) (x .1 .1 .0) (x .1 .1 .1 .0) (x .1 .1 .1 .1 .0) (x .1 .1 .1 .1 .1 .0) (x .1 .1 .1 .1 .1 .1 .0) (x .1 .1 .1 .1 .1 .1 .1 .0) (x .1 .1 .1 .1 .1 .1 .1 .1 .0) known0 known1 (are .0) (are .1 .0 .1) (are .1 .1 .0) (are .1 .1 .1 .0 .1) (are .1 .1 .1 .1 .0 .1) (are .1 .1 .1 .1 .1 .0) l)

@@ -1,6 +1,6 @@
 -- `releasing::release_in` meets its contract: a walk of its MIR. Pending or not: one record is stored, and where it is pending the stamps.
 -- Written by tools/walks. Assumes nothing.
-use Rattle.walks.proofs.Walking.{_≡_, refl, sym, subst, Bool, ℕ, _<_, _≤_, _+_, _*_, _^_, List, [], _∷_, length, getD, set, w64, Val, vint, vbool, is-true, is-false, URA, SProp, emp, id⊢, Lft, GName, Share, ftrue, Memory, Routine, Heap, WpFn, Tables, Atoms, fmOf, Given, Sq, prop, !, ‵, _⊛_, _$_, agg, whole, sub, look-in, look, init, store, stop, hop, fld, from, load, addr, of-opd, and-then, no-more, assigns, land, returns, returns-within, params1, pass1, pass0, free0, Fun, factI, givenOf, tables, tablesOf, bool, u32, u64, usize, yes, Is, nothing-lawful, uint-vals, uint-tells, bool-vals, bool-tells, plain, Meets, tripleOf, Triple, entered, cited, Loan, Known, lent, sliceOf, enters, used, room, in-local, if-else, arg, arg-fits, in-seq, swaps}
+use Rattle.walks.proofs.Walking.{_≡_, refl, sym, subst, Bool, ℕ, _<_, _≤_, _+_, _*_, _^_, List, [], _∷_, length, getD, set, w64, Val, vint, vbool, is-true, is-false, URA, SProp, emp, id⊢, Lft, GName, Share, ftrue, Memory, Routine, Heap, WpFn, Tables, Atoms, fmOf, Given, Sq, prop, !, ‵, _⊛_, _$_, agg, whole, sub, look-in, look, init, store, stop, hop, fld, from, load, addr, and-then, no-more, assigns, land, returns, returns-within, params1, pass1, pass0, free0, Fun, factI, givenOf, tables, tablesOf, bool, u32, u64, usize, yes, Is, nothing-lawful, uint-vals, uint-tells, bool-vals, bool-tells, plain, Meets, tripleOf, Triple, entered, cited, Loan, Known, lent, sliceOf, enters, used, room, in-local, if-else, arg, arg-fits, in-seq, swaps}
 use Rattle.layer.proofs.State as T-State
 use Rattle.layer.proofs.State.Laws as L-State
 use denote.Struct.Laws as LL
@@ -24,6 +24,7 @@ use Rattle.arena.specs.Releasing.{releaseRun, stampRun, tellRun, pendRun}
 use Rattle.layer.specs.declared.Answer.the-variants.{Released}
 use Rattle.layer.specs.World.{reply, calm, blank}
 use Rattle.layer.specs.Table.{at}
+use Rattle.layer.specs.Step.{staysPending}
 use Rattle.state.specs.Ready.{Stamped}
 use Rattle.arena.specs.Claiming.{giveBackRun}
 use Rattle.releasing.specs.Told.{isUntold}
@@ -32,6 +33,9 @@ use Rattle.walks.proofs.Frame.{Done2, finish2, mut2-meets}
 use Rattle.table.proofs.records.load.Symbol as load-def
 use Rattle.table.proofs.records.load.Symbol.{name as #table·records·load}
 use Rattle.table.proofs.records.load.Met as load-thm
+use Rattle.releasing.proofs.stays_pending.Symbol as stays-pending-def
+use Rattle.releasing.proofs.stays_pending.Symbol.{name as #releasing·stays-pending}
+use Rattle.releasing.proofs.stays_pending.Met as stays-pending-thm
 use Rattle.clock.proofs.now_ms.Symbol as now-ms-def
 use Rattle.clock.proofs.now_ms.Symbol.{name as #clock·now-ms}
 use Rattle.clock.proofs.now_ms.Met as now-ms-thm
@@ -60,8 +64,8 @@ use Rattle.arena.proofs.arena_runs.release_run.Symbol as release-run-def
 use Rattle.arena.proofs.arena_runs.release_run.Symbol.{name as #arena·arena-runs·release-run}
 use Rattle.arena.proofs.arena_runs.release_run.Met as release-run-thm
 use Rattle.table.proofs.Callable.{LoadSpec, StoreSpec, load-step, store-step}
+use Rattle.releasing.proofs.Callable.{StaysPendingSpec, DelayOfSpec, ReleasedSpec, IsUntoldSpec, stays-pending-step, delay-of-step, released-step, is-untold-step}
 use Rattle.clock.proofs.Callable.{NowMsSpec, now-ms-step}
-use Rattle.releasing.proofs.Callable.{DelayOfSpec, ReleasedSpec, IsUntoldSpec, delay-of-step, released-step, is-untold-step}
 use Rattle.arena.proofs.Callable.{ReleasePendingSpec, StampRunOfSpec, GiveBackRunSpec, ReleaseRunSpec, release-pending-step, stamp-run-of-step, give-back-run-step, release-run-step}
 use Rattle.releasing.proofs.release_in.Key.{name as #releasing·release-in}
 use Rattle.releasing.proofs.release_in as release-in′
@@ -70,6 +74,7 @@ use Rattle.releasing.proofs.release_in.Code as code
 
 module _ {M : Type 1} (𝓤 : URA M) (H : Heap 𝓤) (A : Atoms 𝓤) (W : Given 𝓤 H A) (mem : Memory → SProp 𝓤) (run : Routine → Fun 𝓤) (𝓣 : Tables 𝓤 H)
     (known-load : Triple 𝓤 (𝓣 .C #table·records·load) (LoadSpec 𝓤 H A mem run))
+    (known-stays-pending : Triple 𝓤 (𝓣 .C #releasing·stays-pending) (StaysPendingSpec 𝓤 H A mem run))
     (known-now-ms : Triple 𝓤 (𝓣 .C #clock·now-ms) (NowMsSpec 𝓤 H A mem run))
     (known-delay-of : Triple 𝓤 (𝓣 .C #releasing·delay-of) (DelayOfSpec 𝓤 H A mem run))
     (known-release-pending : Triple 𝓤 (𝓣 .C #arena·arena-runs·release-pending) (ReleasePendingSpec 𝓤 H A mem run))
@@ -96,7 +101,7 @@ module _ {M : Type 1} (𝓤 : URA M) (H : Heap 𝓤) (A : Atoms 𝓤) (W : Given
     v-told = EL.val T-Commitment.the-type L-Commitment.the-laws told
 
     abbrev χ : Reply → List Arena → List ℕ → Type 0
-    χ out records-exit stamps-exit = (out ≡ reply Released (calm (state .count) (state .mark))) × (records-exit ≡ set records i (releaseRun (at records i) s n told pending (nowMs ns) (delayMs (settings .delay)))) × (stamps-exit ≡ cond pending (stampRun stamps (1024 * i + s) n (nowMs ns)) stamps)
+    χ out records-exit stamps-exit = (out ≡ reply Released (calm (state .count) (state .mark))) × (records-exit ≡ set records i (releaseRun (at records i) s n told (staysPending settings pending) (nowMs ns) (delayMs (settings .delay)))) × (stamps-exit ≡ cond (staysPending settings pending) (stampRun stamps (1024 * i + s) n (nowMs ns)) stamps)
 
     abbrev Shown : (Reply → List Arena → List ℕ → Type 0) → Type 1
     Shown says = Sq W ((‵ (lent T-Arena.the-row L-records records) ⊛ (‵ (lent u32 L-stamps stamps) ⊛ ‵ ftrue)) ∷ []) (prop (WpFn 𝓤 H (𝓣 .C) (𝓣 .Λ) code.function (sliceOf L-records ∷ sliceOf L-stamps ∷ v-state ∷ vint w64 ns ∷ v-settings ∷ vint w64 i ∷ vint w64 s ∷ vint w64 n ∷ v-told ∷ vbool pending ∷ []) (Done2 𝓤 H A T-Arena.the-row u32 L-records L-stamps T-Reply.the-row records stamps says)))
@@ -106,6 +111,9 @@ module _ {M : Type 1} (𝓤 : URA M) (H : Heap 𝓤) (A : Atoms 𝓤) (W : Given
 
     abbrev a : Arena
     a = getD records i blank
+
+    abbrev t19 : Bool
+    t19 = staysPending settings pending
 
     abbrev ms : ℕ
     ms = nowMs ns
@@ -150,7 +158,9 @@ module _ {M : Type 1} (𝓤 : URA M) (H : Heap 𝓤) (A : Atoms 𝓤) (W : Given
         load-step ! (in-seq ! (fmOf 𝓤 H (W .laws) 𝓣)) mem run known-load L-records records _ (f11-1 .fits) (subst (λ (x : ℕ). i < x) (sym (need .1)) (need .0))
         (λ _. and-then ! (arg ! refl) (and-then ! (arg ! refl) (no-more !))) (λ v-a g-a.
         land ! (from ! (stop !)) (init ! 23 refl (LL.lawful T-Arena.the-type L-Arena.the-laws 𝓤 H A W .typed a (v-a ∷ []) g-a .0)) $
-        assigns ! (of-opd ! (arg ! refl)) (from ! (stop !)) (init ! 39 refl (tt, tt)) $
+        stays-pending-step ! (in-seq ! (fmOf 𝓤 H (W .laws) 𝓣)) mem run known-stays-pending settings v-settings g-settings _
+        (λ _. and-then ! (arg ! refl) (and-then ! (arg ! refl) (no-more !))) (
+        land ! (from ! (stop !)) (init ! 39 refl (tt, tt)) $
         if-else ! (arg ! refl)
         (λ h1.
         arg-fits ! 0 refl (λ f12-1.
@@ -181,7 +191,7 @@ module _ {M : Type 1} (𝓤 : URA M) (H : Heap 𝓤) (A : Atoms 𝓤) (W : Given
         (λ _. and-then ! (arg ! refl) (no-more !)) (λ v-result g-result.
         land ! (from ! (stop !)) (init ! 1 refl (LL.lawful T-Reply.the-type L-Reply.the-laws 𝓤 H A W .typed result (v-result ∷ []) g-result .0)) $
         returns-within ! Post refl (look ! 1 refl) $ used ! $ used ! $ used ! $ used ! $ used ! $ used ! $ used ! $ used ! $ used ! $ used ! $ used ! $ used ! $ used ! $ used ! $ used ! $ room ! $ room ! $ used ! $ used ! $ used ! $ used ! $ used ! $ used ! $ used ! $ used ! $ room ! $ room ! $ room ! $ room ! $ room ! $ room ! $ room ! $ free0 ! $
-        finish2 𝓤 H A T-Arena.the-row u32 L-records L-stamps T-Reply.the-row records stamps χ W (‵ ftrue) v-result result records-1 stamps-1 g-result l-records-1 l-stamps-1 (waits result records stamps i s n told pending (nowMs ns) (delayMs (settings .delay)) (is-true pending h1)))))))))))))))))))
+        finish2 𝓤 H A T-Arena.the-row u32 L-records L-stamps T-Reply.the-row records stamps χ W (‵ ftrue) v-result result records-1 stamps-1 g-result l-records-1 l-stamps-1 (waits result records stamps i s n told (staysPending settings pending) (nowMs ns) (delayMs (settings .delay)) (is-true t19 h1)))))))))))))))))))
         (λ h1.
         is-untold-step ! (in-seq ! (fmOf 𝓤 H (W .laws) 𝓣)) mem run known-is-untold told v-told g-told
         (λ _. and-then ! (arg ! refl) (no-more !)) (
@@ -202,7 +212,7 @@ module _ {M : Type 1} (𝓤 : URA M) (H : Heap 𝓤) (A : Atoms 𝓤) (W : Given
         (λ _. and-then ! (arg ! refl) (no-more !)) (λ v-result g-result. let result : Reply = reply Released (calm (state .count) (state .mark)) in
         land ! (from ! (stop !)) (init ! 1 refl (LL.lawful T-Reply.the-type L-Reply.the-laws 𝓤 H A W .typed result (v-result ∷ []) g-result .0)) $
         returns-within ! Post refl (look ! 1 refl) $ used ! $ used ! $ used ! $ used ! $ used ! $ used ! $ used ! $ used ! $ used ! $ used ! $ used ! $ used ! $ room ! $ room ! $ room ! $ used ! $ room ! $ used ! $ used ! $ used ! $ room ! $ room ! $ room ! $ room ! $ room ! $ used ! $ used ! $ used ! $ used ! $ room ! $ room ! $ room ! $ free0 ! $
-        finish2 𝓤 H A T-Arena.the-row u32 L-records L-stamps T-Reply.the-row records stamps χ W (‵ ftrue) v-result result records-2 stamps g-result l-records-2 refl (untold result records stamps i s n told pending (nowMs ns) (delayMs (settings .delay)) (is-false pending h1) (is-true t25 h2)))))))))
+        finish2 𝓤 H A T-Arena.the-row u32 L-records L-stamps T-Reply.the-row records stamps χ W (‵ ftrue) v-result result records-2 stamps g-result l-records-2 refl (untold result records stamps i s n told (staysPending settings pending) (nowMs ns) (delayMs (settings .delay)) (is-false t19 h1) (is-true t25 h2)))))))))
         (λ h2.
         arg-fits ! 1 refl (λ f16-2. arg-fits ! 2 refl (λ f16-3.
         release-run-step ! (in-seq ! (fmOf 𝓤 H (W .laws) 𝓣)) mem run known-release-run a v-a g-a _ (f16-2 .fits) _ (f16-3 .fits) told v-told g-told (need .2)
@@ -218,12 +228,12 @@ module _ {M : Type 1} (𝓤 : URA M) (H : Heap 𝓤) (A : Atoms 𝓤) (W : Given
         (λ _. and-then ! (arg ! refl) (no-more !)) (λ v-result g-result. let result : Reply = reply Released (calm (state .count) (state .mark)) in
         land ! (from ! (stop !)) (init ! 1 refl (LL.lawful T-Reply.the-type L-Reply.the-laws 𝓤 H A W .typed result (v-result ∷ []) g-result .0)) $
         returns ! (look ! 1 refl) $ used ! $ used ! $ used ! $ used ! $ used ! $ used ! $ used ! $ used ! $ used ! $ used ! $ used ! $ used ! $ room ! $ room ! $ room ! $ room ! $ used ! $ used ! $ used ! $ used ! $ room ! $ room ! $ room ! $ room ! $ room ! $ used ! $ room ! $ room ! $ room ! $ used ! $ used ! $ used ! $ free0 ! $
-        finish2 𝓤 H A T-Arena.the-row u32 L-records L-stamps T-Reply.the-row records stamps χ W (‵ ftrue) v-result result records-3 stamps g-result l-records-3 refl (waits-not result records stamps i s n told pending (nowMs ns) (delayMs (settings .delay)) (is-false pending h1))))))))))))))
+        finish2 𝓤 H A T-Arena.the-row u32 L-records L-stamps T-Reply.the-row records stamps χ W (‵ ftrue) v-result result records-3 stamps g-result l-records-3 refl (waits-not result records stamps i s n told (staysPending settings pending) (nowMs ns) (delayMs (settings .delay)) (is-false t19 h1)))))))))))))))
 
   release-in-meets : Meets 𝓤 H A release-in′.signature (WpFn 𝓤 H (𝓣 .C) (𝓣 .Λ) code.function) (release-in′.spec 𝓤 H A mem run)
   release-in-meets = mut2-meets 𝓤 H A W T-Arena.the-row u32 T-Reply.the-row (plain (λ _. T-State.the-row) ∷ plain (λ _. u64) ∷ plain (λ _. T-Settings.the-row) ∷ plain (λ _. usize) ∷ plain (λ _. usize) ∷ plain (λ _. usize) ∷ plain (λ _. T-Commitment.the-row) ∷ plain (λ _. bool) ∷ []) (yes, (yes, (yes, (yes, (yes, (yes, (yes, (yes, tt)))))))) (release-in′.clauses 𝓤 H A mem run)
       (λ κs. (LL.vals T-State.the-type L-State.the-laws, (uint-vals w64, (LL.vals T-Settings.the-type L-Settings.the-laws, (uint-vals w64, (uint-vals w64, (uint-vals w64, (EL.vals T-Commitment.the-type L-Commitment.the-laws, (bool-vals, tt))))))))) (λ κs a. (tt, (tt, (tt, (tt, (tt, (tt, (tt, (tt, tt)))))))))
-      (λ κs x g. ((x .1 .1 .1 .1 .1 .0) < 32) × (length (x .0 .now) ≡ 32) × ((x .1 .1 .1 .1 .1 .1 .0) + (x .1 .1 .1 .1 .1 .1 .1 .0) ≤ 1024) × Stamped (x .1 .0 .now)) (λ κs x g out records-exit stamps-exit. (out ≡ reply Released (calm ((x .1 .1 .0) .count) ((x .1 .1 .0) .mark))) × (records-exit ≡ set (x .0 .now) (x .1 .1 .1 .1 .1 .0) (releaseRun (at (x .0 .now) (x .1 .1 .1 .1 .1 .0)) (x .1 .1 .1 .1 .1 .1 .0) (x .1 .1 .1 .1 .1 .1 .1 .0) (x .1 .1 .1 .1 .1 .1 .1 .1 .0) (x .1 .1 .1 .1 .1 .1 .1 .1 .1 .0) (nowMs (x .1 .1 .1 .0)) (delayMs ((x .1 .1 .1 .1 .0) .delay)))) × (stamps-exit ≡ cond (x .1 .1 .1 .1 .1 .1 .1 .1 .1 .0) (stampRun (x .1 .0 .now) (1024 * (x .1 .1 .1 .1 .1 .0) + (x .1 .1 .1 .1 .1 .1 .0)) (x .1 .1 .1 .1 .1 .1 .1 .0) (nowMs (x .1 .1 .1 .0))) (x .1 .0 .now)))
+      (λ κs x g. ((x .1 .1 .1 .1 .1 .0) < 32) × (length (x .0 .now) ≡ 32) × ((x .1 .1 .1 .1 .1 .1 .0) + (x .1 .1 .1 .1 .1 .1 .1 .0) ≤ 1024) × Stamped (x .1 .0 .now)) (λ κs x g out records-exit stamps-exit. (out ≡ reply Released (calm ((x .1 .1 .0) .count) ((x .1 .1 .0) .mark))) × (records-exit ≡ set (x .0 .now) (x .1 .1 .1 .1 .1 .0) (releaseRun (at (x .0 .now) (x .1 .1 .1 .1 .1 .0)) (x .1 .1 .1 .1 .1 .1 .0) (x .1 .1 .1 .1 .1 .1 .1 .0) (x .1 .1 .1 .1 .1 .1 .1 .1 .0) (staysPending (x .1 .1 .1 .1 .0) (x .1 .1 .1 .1 .1 .1 .1 .1 .1 .0)) (nowMs (x .1 .1 .1 .0)) (delayMs ((x .1 .1 .1 .1 .0) .delay)))) × (stamps-exit ≡ cond (staysPending (x .1 .1 .1 .1 .0) (x .1 .1 .1 .1 .1 .1 .1 .1 .1 .0)) (stampRun (x .1 .0 .now) (1024 * (x .1 .1 .1 .1 .1 .0) + (x .1 .1 .1 .1 .1 .1 .0)) (x .1 .1 .1 .1 .1 .1 .1 .0) (nowMs (x .1 .1 .1 .0))) (x .1 .0 .now)))
       (LL.makes T-Reply.the-type L-Reply.the-plain 𝓤 H A) ((λ κs x f. refl), ((λ κs x f. refl), ((λ κs x f. refl), ((λ κs x f. refl), ((λ κs x f. refl), ((λ κs x f. refl), ((λ κs x f. refl), ((λ κs x f. refl), tt)))))))) (λ κs. (LL.tells T-State.the-type L-State.the-laws, (uint-tells w64, (LL.tells T-Settings.the-type L-Settings.the-laws, (uint-tells w64, (uint-tells w64, (uint-tells w64, (EL.tells T-Commitment.the-type L-Commitment.the-laws, (bool-tells, tt)))))))))
       (λ κs x g. id⊢ 𝓤 _) (λ κs x g out records-exit stamps-exit e. factI 𝓤 _ (emp 𝓤) e) code.function 𝓣
       (λ κs q0 q1 x g known0 known1 are l. walk (κs .0) (κs .1 .0) q0 q1 (x .0 .name) (x .1 .0 .name) (x .0 .ptr .0) (x .1 .0 .ptr .0) (x .0 .ptr .1) (x .1 .0 .ptr .1) (x .0 .now) (x .1 .0 .now) (x .1 .1 .0) (x .1 .1 .1 .0) (x .1 .1 .1 .1 .0) (x .1 .1 .1 .1 .1 .0) (x .1 .1 .1 .1 .1 .1 .0) (x .1 .1 .1 .1 .1 .1 .1 .0) (x .1 .1 .1 .1 .1 .1 .1 .1 .0) (x .1 .1 .1 .1 .1 .1 .1 .1 .1 .0) known0 known1 (are .0) (are .1 .0 .1) (are .1 .1 .0) (are .1 .1 .1 .0 .1) (are .1 .1 .1 .1 .0 .1) (are .1 .1 .1 .1 .1 .0 .1) (are .1 .1 .1 .1 .1 .1 .0) l)
@@ -235,6 +245,7 @@ release-in-spec 𝓤 H 𝓜 𝓖 𝓡 =
     (tables 𝓤 H 𝓜 𝓡 code.env .C) (tables 𝓤 H 𝓜 𝓡 code.env .Λ) #releasing·release-in code.function (code.unfolded 𝓤 H 𝓜 𝓡)
     (release-in-meets 𝓤 H (𝓖 .A) (givenOf 𝓤 H 𝓜 𝓖) (𝓜 .mem) (𝓡 .run) (tablesOf 𝓤 H 𝓜 (tables 𝓤 H 𝓜 𝓡 code.env))
     (cited 𝓤 H (LoadSpec 𝓤 H (𝓖 .A) (𝓜 .mem) (𝓡 .run)) 𝓜 𝓡 code.env #table·records·load load-def.routine code.calls-table·records·load (load-thm.met 𝓤 H 𝓜 𝓖 𝓡))
+    (cited 𝓤 H (StaysPendingSpec 𝓤 H (𝓖 .A) (𝓜 .mem) (𝓡 .run)) 𝓜 𝓡 code.env #releasing·stays-pending stays-pending-def.routine code.calls-releasing·stays-pending (stays-pending-thm.met 𝓤 H 𝓜 𝓖 𝓡))
     (cited 𝓤 H (NowMsSpec 𝓤 H (𝓖 .A) (𝓜 .mem) (𝓡 .run)) 𝓜 𝓡 code.env #clock·now-ms now-ms-def.routine code.calls-clock·now-ms (now-ms-thm.met 𝓤 H 𝓜 𝓖 𝓡))
     (cited 𝓤 H (DelayOfSpec 𝓤 H (𝓖 .A) (𝓜 .mem) (𝓡 .run)) 𝓜 𝓡 code.env #releasing·delay-of delay-of-def.routine code.calls-releasing·delay-of (delay-of-thm.met 𝓤 H 𝓜 𝓖 𝓡))
     (cited 𝓤 H (ReleasePendingSpec 𝓤 H (𝓖 .A) (𝓜 .mem) (𝓡 .run)) 𝓜 𝓡 code.env #arena·arena-runs·release-pending release-pending-def.routine code.calls-arena·arena-runs·release-pending (release-pending-thm.met 𝓤 H 𝓜 𝓖 𝓡))

@@ -1,5 +1,5 @@
 -- Demand 3 of the exported calls: read back, they answer and leave what the rules say. Assumes nothing.
-use Rattle.state.proofs.Prelude.{_≡_, refl, sym, ap, ap₂, _∙_, subst, Bool, true, false, List, ℕ, suc, _+_, _-_, _&&_, arith, eqb, ltb, pos, negsuc, by-cond, when, unless, Refusal, Broken, QuestionOpen, NoSuchQuestion, Zero, ArenasOff, Range, NotWhole, NotInside, PastEnd, NoRun, CommitRefused, ChunkCount, TableFull, MemoryRefused, NoWholeChunk, HostRefused, Arena, Settings, State, Question, Idle, Committing, Purging, Reserving, GivingBack, Waiting, Reserve, Claim, Kind, AskCommit, AskPurge, AskMemory, Answer, Asks, Registered, Claimed, Released, Area, World, Outcome, sizeOf, worldOf, after, sound, askMemory, withRecord, withStamps, isFor, counted, failReply, resume, answerTo, answerOf as answerOn, Act, claim, release, sweep, Query, Call, act, query, answer, sweepOf, actOn, queryOn, rules, step}
+use Rattle.state.proofs.Prelude.{_≡_, refl, sym, ap, ap₂, _∙_, subst, Bool, true, false, List, ℕ, suc, _+_, _-_, _&&_, arith, eqb, ltb, pos, negsuc, by-cond, when, unless, Refusal, Broken, QuestionOpen, NoSuchQuestion, Zero, ArenasOff, Range, NotWhole, NotInside, PastEnd, NoRun, CommitRefused, ChunkCount, TableFull, MemoryRefused, NoWholeChunk, HostRefused, Arena, Settings, State, Question, Idle, Committing, Purging, Reserving, GivingBack, Waiting, Reserve, Claim, Kind, AskCommit, AskPurge, AskMemory, Answer, Asks, Registered, Claimed, Released, Area, World, Outcome, sizeOf, worldOf, after, sound, askMemory, withRecord, withStamps, isFor, counted, failReply, resume, answerTo, answerOf as answerOn, Act, claim, release, sweep, Query, Call, act, query, answer, staysPending, sweepOf, sweepsNone, actOn, queryOn, rules, step}
 use Rattle.refusals.specs.declared.Refusal.the-variants.{TablesOverlap, TooManyArenas}
 use Rattle.refusals.specs.Number.{number}
 use Rattle.arena.proofs.FlagLaws.{flag-read}
@@ -14,7 +14,7 @@ use Rattle.layer.specs.Demand.{Demand3}
 use Rattle.layer.proofs.Tools.{by-not}
 use Rattle.layer.proofs.Rules.{Again, again}
 use Rattle.layer.proofs.Cases.{register, grant-cases, search-cases, miss-cases, claim-cases, release-in-cases, release-cases, reserve-cases, register-cases, manage-cases, adopt-cases, memory-cases}
-use Rattle.layer.proofs.Sweeps.{visit-cases, sweep-cases}
+use Rattle.layer.proofs.Sweeps.{visit-cases, sweep-cases, all-or-none}
 use Rattle.layer.proofs.Elsewhere.{demand3}
 use Rattle.surface.specs.declared.StateNumbers.{StateNumbers}
 use Rattle.surface.specs.Numbers.{stateOf, numbersOf, isState}
@@ -54,9 +54,11 @@ module _ (S : ℕ) (l : List Arena) (stamps : List ℕ) (k : ℕ) (mark : Bool) 
       (λ e f. search-cases S l stamps k mark (ShapeOf claiming) id n commits _ (λ g. miss-cases S l stamps k mark (ShapeOf claiming) id n commits settings tt tt tt)
       (λ i h g. grant-cases S l stamps k mark (ShapeOf claiming) i n commits (λ _. tt) (λ s _. refl) (λ s _. tt)))
   act-shape q ns settings (release x n told pending) =
-      release-cases S l stamps k mark (ShapeOf releasing) n told pending _ _ x (λ e. tt) (λ e f. tt)
-      (λ i e u f. release-in-cases S l stamps k mark (ShapeOf releasing) n told pending _ _ i _ (λ g. tt) (λ g v. tt) (λ g v. refl))
-  act-shape q ns settings (sweep force) = sweep-cases S stamps k mark (sweepOf force ns settings) (ShapeOf sweeping) 0 (λ m x a j u. tt) (λ m. refl) k 0 l (omega arith)
+      release-cases S l stamps k mark (ShapeOf releasing) n told (staysPending settings pending) _ _ x (λ e. tt) (λ e f. tt)
+      (λ i e u f. release-in-cases S l stamps k mark (ShapeOf releasing) n told (staysPending settings pending) _ _ i _ (λ g. tt) (λ g v. tt) (λ g v. refl))
+  act-shape q ns settings (sweep force) =
+      all-or-none S stamps k mark (sweepOf force ns settings) (ShapeOf sweeping) (sweepsNone settings force) l
+      (λ f h. sweep-cases S stamps k mark (sweepOf force ns settings) (ShapeOf sweeping) 0 (λ m x a j u. tt) (λ m. refl) f 0 l (omega arith))
 
   fail-shape : (g : Grant) (why : Refusal) (waiting : Waiting) → ShapeOf g (after (failReply k mark why waiting) l stamps)
   fail-shape g why Reserve = tt

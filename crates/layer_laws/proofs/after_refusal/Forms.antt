@@ -1,5 +1,5 @@
 -- Every outcome of a call is of one of six forms: what holds of each of them holds of the call. Assumes nothing.
-use Rattle.layer.proofs.Prelude.{_≡_, refl, sym, ap, _∙_, subst, Bool, true, false, not, List, [], _∷_, _⊎_, inl, inr, ⊎-elim, ℕ, zero, suc, _+_, _-_, _*_, _/_, _%_, _<_, _≤_, arith, eqb-false, eqb, leb, ltb, ℤ, pos, negsuc, set, set-getD, Refusal, Broken, QuestionOpen, Range, NoRun, by-cond, Found, At, Nothing, and-both, Arena, isOn, Commitment, Untold, Committed, Uncommitted, grownArena, takeRun, giveBackRun, commitRun, dirtyRun, finishGrant, tellRun, pendRun, releaseRun, sweepDue, nextAsked, disarm, borrowChunk, unpendChunk, returnChunk, nextWait, rearmAt, rearm, stampsOf, World, Outcome, blank, stateWith, worldOf, outcome, after, turnDown, calm, refuse, firstOf, at, badRange, sound, askMemory, badCount, withRecord, withStamps, grows, searchOf, claimOf, purgeReply, sweptReply, visitAt, visit, sweepFrom, isFor, counted, failReply, answerCommit, resume, answerMemory, answerTo, answerOf, Call, reserve, manage, adopt, claim, release, sweep, answer, owns, area, sweepOf, stepOn, act, query, rules}
+use Rattle.layer.proofs.Prelude.{_≡_, refl, sym, ap, _∙_, subst, Bool, true, false, not, List, [], _∷_, _⊎_, inl, inr, ⊎-elim, ℕ, zero, suc, _+_, _-_, _*_, _/_, _%_, _<_, _≤_, arith, eqb-false, eqb, leb, ltb, ℤ, pos, negsuc, set, set-getD, Refusal, Broken, QuestionOpen, Range, NoRun, by-cond, Found, At, Nothing, and-both, Arena, isOn, Commitment, Untold, Committed, Uncommitted, grownArena, takeRun, giveBackRun, commitRun, dirtyRun, finishGrant, tellRun, pendRun, releaseRun, sweepDue, nextAsked, disarm, borrowChunk, unpendChunk, returnChunk, nextWait, rearmAt, rearm, stampsOf, World, Outcome, blank, stateWith, worldOf, outcome, after, turnDown, calm, refuse, firstOf, at, badRange, sound, askMemory, badCount, withRecord, withStamps, grows, searchOf, claimOf, purgeReply, sweptReply, visitAt, visit, sweepFrom, isFor, counted, failReply, answerCommit, resume, answerMemory, answerTo, answerOf, Call, reserve, manage, adopt, claim, release, sweep, answer, owns, area, sweepOf, stepOn, act, query, rules, staysPending, sweepsNone}
 use Rattle.layer.specs.declared.Settings.{Settings}
 use Rattle.layer.specs.declared.Sweep.{Sweep}
 use Rattle.layer.specs.declared.Question.{Question}
@@ -19,6 +19,7 @@ use Rattle.layer.proofs.Rules.{grows-facts}
 use Rattle.layer.proofs.Cases.{register, grant-cases, search-cases, miss-cases, claim-cases, release-in-cases, release-cases, reserve-cases, register-cases, manage-cases, adopt-cases}
 use Rattle.layer.proofs.Kept.{take-range}
 use Rattle.layer_laws.specs.after_refusal.Standing.{headOf, longer, Grown, GoesOn, ArenasStand}
+use Rattle.layer.proofs.Sweeps.{all-or-none}
 
 abbrev pub isAsk : Answer → Bool
 isAsk (Refused why) = false
@@ -268,12 +269,14 @@ module _ (S : ℕ) (l : List Arena) (stamps : List ℕ) (k : ℕ) (mark : Bool) 
     step-on-forms (act (claim id n asks)) f = act-forms _ f _ (claim-forms id n asks settings f)
     step-on-forms (act (release address n told pending)) f =
         act-forms _ f _
-        (release-cases S l stamps k mark P n told pending _ _ address (λ e. down c f _) (λ e g. down c f _)
-        (λ i e h g. release-in-cases S l stamps k mark P n told pending _ _ i _ (λ x. down c f _) (λ x y. down c f _) (λ x y. f .ended _ refl _ _ k mark (stand-put l k l k i _ (release-head (at l i) _ n told pending _ _) (stand-same l k)) (λ z. z))))
+        (release-cases S l stamps k mark P n told (staysPending settings pending) _ _ address (λ e. down c f _) (λ e g. down c f _)
+        (λ i e h g. release-in-cases S l stamps k mark P n told (staysPending settings pending) _ _ i _ (λ x. down c f _) (λ x y. down c f _) (λ x y. f .ended _ refl _ _ k mark (stand-put l k l k i _ (release-head (at l i) _ n told (staysPending settings pending) _ _) (stand-same l k)) (λ z. z))))
       where
         c : Call
         c = act (release address n told pending)
-    step-on-forms (act (sweep force)) f = act-forms _ f _ (sweep-forms (act (sweep force)) f (sweepOf force ns settings) k 0 l (stand-same l k))
+    step-on-forms (act (sweep force)) f =
+        act-forms _ f _
+        (all-or-none S stamps k mark (sweepOf force ns settings) P (sweepsNone settings force) l (λ g h. sweep-forms (act (sweep force)) f (sweepOf force ns settings) g 0 l (stand-same l k)))
     step-on-forms (answer kind granted base) f = answer-forms kind granted base f
     step-on-forms (query (owns address)) f = f .as-it-was _ refl
     step-on-forms (query (area (pos i))) f =

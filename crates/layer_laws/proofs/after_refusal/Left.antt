@@ -1,5 +1,5 @@
 -- What each refusal leaves: one theorem over every call, `refusal-leaves`. Assumes nothing.
-use Rattle.layer.proofs.Prelude.{_≡_, refl, sym, subst, Bool, true, false, not, _&&_, List, _⊎_, inl, inr, ℕ, zero, suc, _+_, _-_, _*_, _%_, eqb, leb, ℤ, negsuc, set, Refusal, Broken, NoSuchQuestion, Range, NotWhole, NoRun, CommitRefused, ChunkCount, TableFull, MemoryRefused, by-cond, Found, At, Nothing, least, Arena, reservedArena, findRun, sweepDue, nextAsked, disarm, returnChunk, stampsOf, World, Outcome, stateWith, worldOf, after, turnDown, calm, at, badRange, sound, tooLarge, askMemory, badCount, withRecord, withStamps, serves, asksCommit, grantArena, grantReply, isNegative, missReply, grantFound, searchAt, searchOf, claimOf, purgeReply, sweptReply, visitAt, visit, sweepFrom, causeRefusal, counted, failReply, answerCommit, answerPurge, resume, answerMemory, isFor, answerTo, answerOf, Act, Call, reserve, manage, adopt, claim, release, sweep, answer, owns, area, sweepOf, act, actOn, query, rules}
+use Rattle.layer.proofs.Prelude.{_≡_, refl, sym, subst, Bool, true, false, not, _&&_, List, _⊎_, inl, inr, ℕ, zero, suc, _+_, _-_, _*_, _%_, eqb, leb, ℤ, negsuc, set, Refusal, Broken, NoSuchQuestion, Range, NotWhole, NoRun, CommitRefused, ChunkCount, TableFull, MemoryRefused, by-cond, Found, At, Nothing, least, Arena, reservedArena, findRun, sweepDue, nextAsked, disarm, returnChunk, stampsOf, World, Outcome, stateWith, worldOf, after, turnDown, calm, at, badRange, sound, tooLarge, askMemory, badCount, withRecord, withStamps, serves, asksCommit, grantArena, grantReply, isNegative, missReply, grantFound, searchAt, searchOf, claimOf, purgeReply, sweptReply, visitAt, visit, sweepFrom, causeRefusal, counted, failReply, answerCommit, answerPurge, resume, answerMemory, isFor, answerTo, answerOf, Act, Call, reserve, manage, adopt, claim, release, sweep, answer, owns, area, sweepOf, act, actOn, query, rules, staysPending, sweepsNone}
 use Rattle.layer.specs.declared.Settings.{Settings}
 use Rattle.layer.specs.declared.Sweep.{Sweep}
 use Rattle.layer.specs.declared.Question.{Question}
@@ -15,6 +15,7 @@ use Rattle.layer.proofs.Cases.{register, claim-cases, release-in-cases, release
 use Rattle.layer.proofs.Calls.{calm-world, act-cases}
 use Rattle.layer_laws.proofs.after_refusal.Answers.{same-refusal, asks-not, registered-not, claimed-not, released-not, swept-not}
 use Rattle.layer_laws.specs.after_refusal.Left.{closed, markSet, LeftByAnswer, LeftBy}
+use Rattle.layer.proofs.Sweeps.{all-or-none}
 
 -- an outcome that is a refusal leaves what document 01 says
 abbrev pub Says : World → ℕ → Outcome → Type 0
@@ -179,9 +180,11 @@ module _ (S : ℕ) (l : List Arena) (stamps : List ℕ) (k : ℕ) (mark : Bool) 
       adopt-cases S l stamps k mark U address size (λ why e. refl) (λ why e. refl) (λ why e. refl) (λ i w u e why f. absurd (registered-not _ why f)) (λ w. register-leaves _ _)
   act-leaves q ns settings (claim id n commits) h = absurd h
   act-leaves q ns settings (release address n told pending) h =
-      release-cases S l stamps k mark U n told pending _ _ address (λ e why f. refl) (λ e f why g. refl)
-      (λ i e u f. release-in-cases S l stamps k mark U n told pending _ _ i _ (λ g why x. refl) (λ g v why x. refl) (λ g v why x. absurd (released-not why x)))
-  act-leaves q ns settings (sweep force) h = λ why e. absurd (sweep-grants S stamps k mark (sweepOf force ns settings) k 0 l why e)
+      release-cases S l stamps k mark U n told (staysPending settings pending) _ _ address (λ e why f. refl) (λ e f why g. refl)
+      (λ i e u f. release-in-cases S l stamps k mark U n told (staysPending settings pending) _ _ i _ (λ g why x. refl) (λ g v why x. refl) (λ g v why x. absurd (released-not why x)))
+  act-leaves q ns settings (sweep force) h =
+      all-or-none S stamps k mark (sweepOf force ns settings) U (sweepsNone settings force) l
+      (λ f x why e. absurd (sweep-grants S stamps k mark (sweepOf force ns settings) f 0 l why e))
 
 unclaiming : (S : ℕ) (w : World) (ns : ℕ) (settings : Settings) (a : Act) → Unclaiming a → Untouched w (rules S w ns settings (act a))
 unclaiming S w ns settings a h =

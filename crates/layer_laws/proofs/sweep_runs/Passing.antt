@@ -1,6 +1,6 @@
 -- A sweep from its first call to its end: the deadline that it leaves each arena is the one that the arena's pending chunks gave at its start.
 -- Assumes nothing.
-use Rattle.layer.proofs.Prelude.{_≡_, refl, sym, ap, ap₂, _∙_, subst, Bool, true, false, cond, not, _&&_, true≢false, List, [], _∷_, _⊎_, inl, inr, _↔_, ⊎-elim, ℕ, zero, suc, _+_, _-_, _*_, _/_, _%_, _^_, _<_, _≤_, arith, ℕ-discrete, lt-ltb, not-true, ltb, ℤ, pos, negsuc, length, set, getD, take, drop, length-set, bitAt, clearRun, by-cond, Stands, before, inside, stands, within-before, within-after, lt-or-le, Found, At, Nothing, least, First, first-says, and-both, orOne, nowMs, delayMs, ageOf, Arena, takeRun, giveBackRun, tellRun, sweepDue, young, toAsk, nextAsked, disarm, borrowChunk, unpendChunk, returnChunk, rearm, stampsOf, Rows, bit-in, bit-out, World, Outcome, stateWith, worldOf, calm, at, sound, purgeReply, sweptReply, visitAt, visit, sweepFrom, isFor, answerPurge, answerOf, Call, reserve, manage, adopt, claim, release, sweep, answer, owns, area, sweepOf, stepOn, act, query, rules}
+use Rattle.layer.proofs.Prelude.{_≡_, refl, sym, ap, ap₂, _∙_, subst, Bool, true, false, cond, not, _&&_, true≢false, List, [], _∷_, _⊎_, inl, inr, _↔_, ⊎-elim, ℕ, zero, suc, _+_, _-_, _*_, _/_, _%_, _^_, _<_, _≤_, arith, ℕ-discrete, lt-ltb, not-true, ltb, ℤ, pos, negsuc, length, set, getD, take, drop, length-set, bitAt, clearRun, by-cond, Stands, before, inside, stands, within-before, within-after, lt-or-le, Found, At, Nothing, least, First, first-says, and-both, orOne, nowMs, delayMs, ageOf, Arena, takeRun, giveBackRun, tellRun, sweepDue, young, toAsk, nextAsked, disarm, borrowChunk, unpendChunk, returnChunk, rearm, stampsOf, Rows, bit-in, bit-out, World, Outcome, stateWith, worldOf, calm, at, sound, purgeReply, sweptReply, visitAt, visit, sweepFrom, isFor, answerPurge, answerOf, Call, reserve, manage, adopt, claim, release, sweep, answer, owns, area, sweepOf, stepOn, act, query, rules, sweepsNone, unless}
 use lib.Seq.{getD-drop}
 use Rattle.bitmap.proofs.words.RowLaws.{beyond}
 use Rattle.layer.specs.declared.Settings.{Settings}
@@ -315,7 +315,7 @@ stamp-small stamps i h j = take-small 1024 (drop (1024 * i) stamps) (λ x. subst
 pub sweep-leaves : (S : ℕ) → 0 < S → (w : World) (ns : ℕ) (settings : Settings) (force : Bool) (calls : List Made) → Words w → ((j : ℕ) → getD (w .stamps) j 0 < 2 ^ 32)
     → sound S w (settings .page) ≡ true → w .state .question ≡ Idle → DeadlinesLeft S w ns settings force calls
 unfolding rules
-sweep-leaves S some w ns settings force calls words small passed idle = go _ (goes-fares S some l (w .stamps) k (w .state .mark) first clocked calls _ begins)
+sweep-leaves S some w ns settings force calls words small passed idle over = go _ (goes-fares S some l (w .stamps) k (w .state .mark) first clocked calls _ begins)
   where
     l : List Arena
     l = w .records
@@ -335,7 +335,7 @@ sweep-leaves S some w ns settings force calls words small passed idle = go _ (go
         subst (λ (o : Outcome). Fares S some l (w .stamps) k (w .state .mark) first clocked (o .world))
         (sym (past-1 S w ns settings passed (act (sweep force)) ∙ ap (λ (q : Question). stepOn S l (w .stamps) k (w .state .mark) q ns settings (act (sweep force))) idle))
         (fares S some l (w .stamps) k (w .state .mark) first clocked 0 _ (step-on-kept S some l (w .stamps) k (w .state .mark) (f .table) (f .stamps) Idle ns settings (act (sweep force)) tt)
-        (sweep-goes S l (w .stamps) k (w .state .mark) first clocked k 0 l (omega arith) (omega (arith, f .table .long, f .table .few)) (λ i u. (λ v. absurd (omega arith), λ v. refl))))
+        (subst (Goes S l (w .stamps) k (w .state .mark) first clocked) (sym (unless (sweepsNone settings force) _ _ over)) (sweep-goes S l (w .stamps) k (w .state .mark) first clocked k 0 l (omega arith) (omega (arith, f .table .long, f .table .few)) (λ i u. (λ v. absurd (omega arith), λ v. refl)))))
 
     go : (v : World) → Fares S some l (w .stamps) k (w .state .mark) first clocked v → isPurging (v .state .question) ≡ false → (i : ℕ) → i < k
         → DeadlineLeft force (at l i) (stampsOf (w .stamps) i) (nowMs ns) (delayMs (settings .delay)) (at (v .records) i .deadline)

@@ -1,6 +1,6 @@
 -- A sweep puts at most as many questions as bits were pending at its start, and counts its yes answers. Each answer clears one pending bit that was set and
 -- sets none, so the questions put and the bits still pending, the asked chunk's left out, are never more than the bits at the start. Assumes nothing.
-use Rattle.layer.proofs.Prelude.{_≡_, refl, sym, ap, _∙_, subst, Bool, true, false, cond, not, _&&_, true≢false, List, [], _∷_, ℕ, suc, _+_, _-_, _<_, _≤_, arith, ltb, ℤ, pos, negsuc, length, bitAt, by-cond, when, unless, Refusal, Broken, QuestionOpen, NoSuchQuestion, Arena, returnChunk, World, Outcome, stateWith, worldOf, outcome, at, isAt, findArena, sound, sweepFrom, isFor, counted, answerPurge, answerOf, Call, reserve, manage, adopt, claim, release, sweep, answer, owns, area, areaOf, sweepOf, stepOn, act, query, rules}
+use Rattle.layer.proofs.Prelude.{_≡_, refl, sym, ap, _∙_, subst, Bool, true, false, cond, not, _&&_, true≢false, List, [], _∷_, ℕ, suc, _+_, _-_, _<_, _≤_, arith, ltb, ℤ, pos, negsuc, length, bitAt, by-cond, when, unless, Refusal, Broken, QuestionOpen, NoSuchQuestion, Arena, returnChunk, World, Outcome, stateWith, worldOf, outcome, at, isAt, findArena, sound, sweepFrom, isFor, counted, answerPurge, answerOf, Call, reserve, manage, adopt, claim, release, sweep, answer, owns, area, areaOf, sweepOf, stepOn, act, query, rules, sweepsNone, actOn}
 use native.Mathlib.Nat.{zero-add}
 use Rattle.layer.specs.declared.Settings.{Settings}
 use Rattle.layer.specs.declared.Sweep.{Sweep}
@@ -16,6 +16,7 @@ use Rattle.layer.proofs.Stepped.{Words, sound-facts, step-on-kept}
 use Rattle.layer_laws.specs.sweep_runs.Run.{pendingIn, pendingBits, asksPurge, isRefused, isYes, saysYes, isPurging, Made, Run, isOpen, more, goOn, withCount, runSweep}
 use Rattle.layer_laws.proofs.sweep_runs.Counts.{count-some, bits-some}
 use Rattle.layer_laws.proofs.sweep_runs.Goes.{Goes, asks, ends, visit-goes, sweep-goes, return-less}
+use Rattle.layer.proofs.Sweeps.{all-or-none}
 
 -- ---- a sweep under way
 
@@ -176,11 +177,12 @@ module _ (S : ℕ) (some : 0 < S) (w : World) (ns : ℕ) (settings : Settings) (
       let m = w .state .mark in
       subst (λ (o : Outcome). Fares first S (pendingBits l k) (record { questions = asksPurge (o .answer); yes = 0; last = o }))
       (sym (past-1 S w ns settings passed (act (sweep force)) ∙ ap (λ (q : Question). stepOn S l (w .stamps) k m q ns settings (act (sweep force))) idle))
-      (let o = sweepFrom S (w .stamps) k m (sweepOf force ns settings) k 0 l in
+      (let o = actOn S l (w .stamps) k m Idle ns settings (sweep force) in
       subst (λ (n : ℕ). Fares first S (pendingBits l k) (record { questions = n; yes = 0; last = o })) (zero-add (asksPurge (o .answer)))
       (fares first S (pendingBits l k) (pendingBits l k) (w .stamps) k m (sweepOf force ns settings) 0 0 refl (omega arith) o
       (step-on-kept S some l (w .stamps) k m (f .table) (f .stamps) Idle ns settings (act (sweep force)) tt)
-      (sweep-goes S (w .stamps) k m (sweepOf force ns settings) (pendingBits l k) k 0 l (omega arith) (omega (arith, f .table .long, f .table .few)) refl)))
+      (all-or-none S (w .stamps) k m (sweepOf force ns settings) (Goes S (w .stamps) k m (sweepOf force ns settings) (pendingBits l k)) (sweepsNone settings force) l
+      (λ g h. sweep-goes S (w .stamps) k m (sweepOf force ns settings) (pendingBits l k) g 0 l (omega (arith, h)) (omega (arith, f .table .long, f .table .few)) refl))))
 
   through : Fares first S (pendingBits (w .records) (w .state .count)) (runSweep S w ns settings force calls)
   through = goes-fares first S (pendingBits (w .records) (w .state .count)) some calls _ begins

@@ -14,6 +14,7 @@ use Rattle.arena.specs.Stamps.{stampsOf}
 use Rattle.layer.specs.declared.Settings.{Settings}
 use Rattle.layer.specs.World.{World}
 use Rattle.layer.specs.Table.{at}
+use Rattle.layer.specs.Step.{sweepsNone}
 use Rattle.layer_laws.specs.sweep_runs.Run.{Made, isOpen, runSweep}
 
 module _ (a : Arena) (stamps : List ℕ) (now delay : ℕ) where
@@ -54,9 +55,10 @@ After false a stamps now delay due = Next a stamps now delay due
 abbrev pub DeadlineLeft : Bool → Arena → List ℕ → ℕ → ℕ → ℕ → Type 0
 DeadlineLeft force a stamps now delay due = (sweepDue a force now ≡ true → After force a stamps now delay due) × (sweepDue a force now ≡ false → due ≡ a .deadline)
 
--- a sweep on the world w, and then any calls until it ends: what it has left of each arena's deadline
+-- a sweep on the world w that goes over the arenas, and then any calls until it ends: what it has left of each arena's deadline. One that goes over none, by document 02's
+-- wish 2, leaves every deadline (`never`)
 abbrev pub DeadlinesLeft : ℕ → World → ℕ → Settings → Bool → List Made → Type 0
 DeadlinesLeft S w ns settings force calls =
     let r = runSweep S w ns settings force calls in
-    isOpen r ≡ false → (i : ℕ) → i < w .state .count
+    sweepsNone settings force ≡ false → isOpen r ≡ false → (i : ℕ) → i < w .state .count
     → DeadlineLeft force (at (w .records) i) (stampsOf (w .stamps) i) (nowMs ns) (delayMs (settings .delay)) (at (r .last .world .records) i .deadline)

@@ -5,3 +5,4 @@ pub mod Named
 pub mod Area
 pub mod Options
 pub mod Purge
+pub mod Delay

@@ -1,8 +1,8 @@
--- The documented purge delay (option 15) against the port's: where they agree, and the difference that is recorded, that -1 stops no
--- purging but counts as 0. Assumes nothing.
-use Rattle.walks.proofs.Prelude.{_≡_, refl, ℕ, suc, _≤_, _<_, arith, pos, negsuc}
-use Rattle.clock.specs.Clock.{delayMs}
-use Rattle.options.specs.Options.{never, delayed, unsaid, documentedDelay}
+-- The documented purge delay (option 15) against the port's: from 0 on they agree up to the longest delay of the clock; -1 means never to both, and so does to the port
+-- what lies below it, of which nothing is documented. Assumes nothing.
+use Rattle.walks.proofs.Prelude.{_≡_, refl, sym, ap, Bool, true, false, true≢false, ℕ, zero, suc, _≤_, _<_, arith, ℤ, pos, negsuc}
+use Rattle.clock.specs.Clock.{delayMs, neverPurges}
+use Rattle.options.specs.Options.{Purging, never, delayed, unsaid, documentedDelay}
 
 -- up to the longest delay of the clock the two agree
 pub delay-agrees : (n : ℕ) → n ≤ 1073741823 → (documentedDelay (pos n) ≡ delayed n) × (delayMs (pos n) ≡ n)
@@ -14,17 +14,32 @@ pub delay-clamped : (n : ℕ) → 1073741823 < n → (documentedDelay (pos n) �
 unfolding documentedDelay delayMs
 delay-clamped n h = (refl, omega arith)
 
--- the recorded difference: -1 is documented as no purging at all, and the port purges at once
-pub never-is-at-once : (documentedDelay (negsuc 0) ≡ never) × (delayMs (negsuc 0) ≡ 0)
-unfolding documentedDelay delayMs
-never-is-at-once = (refl, refl)
+-- no delay from 0 on means never
+pub delay-purges : (n : ℕ) → neverPurges (pos n) ≡ false
+unfolding neverPurges
+delay-purges n = refl
 
--- below -1 nothing is documented, and the port purges at once too
-pub unsaid-is-at-once : (n : ℕ) → (documentedDelay (negsuc (suc n)) ≡ unsaid) × (delayMs (negsuc (suc n)) ≡ 0)
-unfolding documentedDelay delayMs
-unsaid-is-at-once n = (refl, refl)
+-- what is documented as never is -1, and never to the port
+abbrev isNever : Purging → Bool
+isNever never = true
+isNever (delayed n) = false
+isNever unsaid = false
 
--- every negative delay is 0 to the port
+pub never-is-negative : (d : ℤ) → documentedDelay d ≡ never → (m : ℕ) × (d ≡ negsuc m)
+unfolding documentedDelay
+never-is-negative (pos n) e = absurd (true≢false (sym (ap isNever e)))
+never-is-negative (negsuc m) e = (m, refl)
+
+pub never-is-never : (d : ℤ) → documentedDelay d ≡ never → neverPurges d ≡ true
+unfolding neverPurges
+never-is-never d e = ap neverPurges (never-is-negative d e .1)
+
+-- below -1 nothing is documented, and the port purges nothing either
+pub unsaid-is-never : (n : ℕ) → (documentedDelay (negsuc (suc n)) ≡ unsaid) × (neverPurges (negsuc (suc n)) ≡ true)
+unfolding documentedDelay neverPurges
+unsaid-is-never n = (refl, refl)
+
+-- the clamp of every negative delay is 0, which a forced sweep keeps
 pub negative-is-zero : (n : ℕ) → delayMs (negsuc n) ≡ 0
 unfolding delayMs
 negative-is-zero n = refl

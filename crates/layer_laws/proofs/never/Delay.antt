@@ -14,7 +14,7 @@ use Rattle.layer_laws.specs.never.Delay.{withDelay, below, NothingPended
 
 -- ---- a record after a store that leaves one thing of it
 
-set-past : (l : List Arena) (i : ℕ) (a : Arena) → length l ≤ i → set l i a ≡ l
+pub set-past : (l : List Arena) (i : ℕ) (a : Arena) → length l ≤ i → set l i a ≡ l
 set-past [] i a h = refl
 set-past (b ∷ l) zero a h = absurd (omega (arith, h))
 set-past (b ∷ l) (suc i) a h = ap (λ (m : List Arena). b ∷ m) (set-past l i a (omega (arith, h)))
@@ -43,7 +43,7 @@ told-pending a s n Untold = refl
 told-pending a s n Committed = refl
 told-pending a s n Uncommitted = refl
 
-told-deadline : (a : Arena) (s n : ℕ) (told : Commitment) → tellRun (giveBackRun a s n) s n told .deadline ≡ a .deadline
+pub told-deadline : (a : Arena) (s n : ℕ) (told : Commitment) → tellRun (giveBackRun a s n) s n told .deadline ≡ a .deadline
 unfolding tellRun giveBackRun
 told-deadline a s n Untold = refl
 told-deadline a s n Committed = refl

@@ -1,15 +1,18 @@
--- What mimalloc.h documents of the options that the arena layer reads, with the numbers of version 2.4, and not read off the layer's rules. Option 15,
--- purge_delay, stands in crate `options` (`documentedDelay`), with where the port differs. Assumes nothing.
+-- What mimalloc.h documents of the options that the arena layer reads, with the numbers of version 2.4, and not read off the layer's rules. What option 15, purge_delay,
+-- means stands in crate `options` (`documentedDelay`), with where the port differs. Assumes nothing.
 use mathlib.Core.Path.{_≡_}
 use mathlib.Core.Bool.{Bool, true, false}
 use Prim.Native.Nat.{ℕ, _+_, _*_, _%_, _<_, _≤_}
-use lib.IntN.{ℤ, pos}
+use lib.IntN.{ℤ, pos, negsuc}
+use Rattle.options.specs.Options.{never, documentedDelay}
 use Rattle.bitmap.specs.Bits.{bitAt}
 use Rattle.arena.specs.declared.Arena.{Arena}
 use Rattle.layer.specs.declared.Ask.{Ask}
 use Rattle.layer.specs.declared.Ask.the-variants.{AskMemory}
 use Rattle.layer.specs.World.{World}
 use Rattle.layer.specs.Table.{at}
+use Rattle.layer.specs.History.{Marked, History, begin, next, joining, Layer, outcomeBy, Lent}
+use Rattle.layer_laws.specs.sweep_runs.Run.{asksPurge}
 use Rattle.layer_laws.specs.documented.Areas.{isExclusive, Stands}
 
 -- ---- 5, purge_decommits: "whether a purge decommits; at 0 a purge resets the memory instead"
@@ -31,6 +34,25 @@ committedAfter reset before = before
 abbrev pub answered : Bool → Purge → Bool → Bool
 answered true purge before = committedAfter purge before
 answered false purge before = before
+
+-- ---- 15, purge_delay: "−1 means that nothing is purged"
+
+-- every call of a history is made with such a delay; a join reads none
+abbrev pub EachDelay : (ℤ → Type 0) → History → Type 0
+EachDelay P begin = Unit {0}
+EachDelay P (next h m) = EachDelay P h × P (m .settings .delay)
+EachDelay P (joining side h g m) = EachDelay P h × EachDelay P g
+
+-- where P is what is said of each delay, no call is answered by a purge question, a forced sweep neither
+abbrev pub NothingPurged : (ℤ → Type 0) → Layer → Type 0
+NothingPurged P L = (h : History) (m : Marked) → Lent L (next h m) → EachDelay P (next h m) → asksPurge (outcomeBy L m .answer) ≡ 0
+
+-- what is documented as never, and every negative delay, of which only −1 is documented
+abbrev pub Never : ℤ → Type 0
+Never d = documentedDelay d ≡ never
+
+abbrev pub Negative : ℤ → Type 0
+Negative d = (m : ℕ) × (d ≡ negsuc m)
 
 -- ---- 23, arena_reserve: "the size of an arena that is reserved when none has room; kept inside in KiB and read as a size in bytes"
 

@@ -1,5 +1,5 @@
 -- The history meets the premises of demand 3, and its program is told what its share book says: computed. Assumes nothing.
-use Rattle.layer.proofs.Prelude.{_≡_, refl, ap, _∙_, true, false, not, List, [], _∷_, _++_, ℕ, _+_, _*_, arith, lit<, bit, bitAt, within, asNumber, pack, writeRun, all, least, lowestRun, orOne, nowMs, delayMs, keeps, armed, isDue, arenaAllowed, pageSizeSound, newArena, reservedArena, managedArena, adoptedArena, grownArena, findRun, runCommitted, runFresh, takeRun, giveBackRun, commitRun, dirtyRun, finishGrant, tellRun, pendRun, releaseRun, stampRun, sweepDue, disarm, young, toAsk, nextAsked, borrowChunk, unpendChunk, returnChunk, rearm, bytesOf, endOf, isInside, soundRange, clearPast, clearPastAll, soundArena, NoRun, World, Outcome, outcome, empty, meets, overlaps, badRange, findArena, apart, soundQuestion, soundTable, soundLent, chunksFor, tooLarge, bytesAsked, askMemory, reserveReply, badCount, noWholeChunk, grows, reserveOf, manageOf, adoptOf, eligible, serves, asksCommit, grantArena, grantReply, missReply, searchOf, claimOf, releaseOf, purgeReply, sweptReply, visit, sweepFrom, isFor, answerOf, join, rules, lowest, Fed, claims, releases as frees, Say, refused, granted, released, enter, sayAll, Marked, begin, isSound, byRules, Trail, start, inRange, waits, bookOf}
+use Rattle.layer.proofs.Prelude.{_≡_, refl, ap, _∙_, true, false, not, List, [], _∷_, _++_, ℕ, _+_, _*_, arith, lit<, bit, bitAt, within, asNumber, pack, writeRun, all, least, lowestRun, orOne, nowMs, delayMs, neverPurges, keeps, armed, isDue, arenaAllowed, pageSizeSound, newArena, reservedArena, managedArena, adoptedArena, grownArena, findRun, runCommitted, runFresh, takeRun, giveBackRun, commitRun, dirtyRun, finishGrant, tellRun, pendRun, releaseRun, stampRun, sweepDue, disarm, young, toAsk, nextAsked, borrowChunk, unpendChunk, returnChunk, rearm, bytesOf, endOf, isInside, soundRange, clearPast, clearPastAll, soundArena, NoRun, World, Outcome, outcome, empty, meets, overlaps, badRange, findArena, apart, soundQuestion, soundTable, soundLent, chunksFor, tooLarge, bytesAsked, askMemory, reserveReply, badCount, noWholeChunk, grows, reserveOf, manageOf, adoptOf, eligible, serves, asksCommit, grantArena, grantReply, missReply, searchOf, claimOf, releaseOf, purgeReply, sweptReply, visit, sweepFrom, isFor, answerOf, join, rules, lowest, Fed, claims, releases as frees, Say, refused, granted, released, enter, sayAll, Marked, begin, isSound, byRules, Trail, start, inRange, waits, bookOf}
 use Rattle.layer.specs.declared.Ask.the-variants.{AskCommit, AskPurge, AskMemory}
 use Rattle.layer.specs.declared.Answer.the-variants.{Refused, Asks, Registered, Claimed, Released, Swept}
 use Rattle.layer.proofs.Trails.{row-1}
@@ -32,7 +32,7 @@ pub record Calls : Type 0 where
   pub k₁₃ : Made byRules (stand w₁₀ 7 c₁₂) c₁₃ (outcome (Asks (AskCommit (base + 2 * S) S)) w₁₁) (outcome (Asks (AskCommit (base + 2 * S) S)) w₁₁)
 
 pub computed : Calls
-unfolding enter inRange bit bitAt within asNumber pack writeRun all least lowestRun orOne nowMs delayMs keeps armed isDue arenaAllowed pageSizeSound newArena reservedArena managedArena adoptedArena grownArena findRun runCommitted runFresh takeRun giveBackRun commitRun dirtyRun finishGrant tellRun pendRun releaseRun stampRun sweepDue disarm young toAsk nextAsked borrowChunk unpendChunk returnChunk rearm bytesOf endOf isInside soundRange clearPast clearPastAll soundArena empty meets overlaps badRange findArena apart soundQuestion soundTable soundLent chunksFor tooLarge bytesAsked askMemory reserveReply badCount noWholeChunk grows reserveOf manageOf adoptOf eligible serves asksCommit grantArena grantReply missReply searchOf claimOf releaseOf purgeReply sweptReply visit sweepFrom isFor answerOf rules
+unfolding enter inRange bit bitAt within asNumber pack writeRun all least lowestRun orOne nowMs delayMs neverPurges keeps armed isDue arenaAllowed pageSizeSound newArena reservedArena managedArena adoptedArena grownArena findRun runCommitted runFresh takeRun giveBackRun commitRun dirtyRun finishGrant tellRun pendRun releaseRun stampRun sweepDue disarm young toAsk nextAsked borrowChunk unpendChunk returnChunk rearm bytesOf endOf isInside soundRange clearPast clearPastAll soundArena empty meets overlaps badRange findArena apart soundQuestion soundTable soundLent chunksFor tooLarge bytesAsked askMemory reserveReply badCount noWholeChunk grows reserveOf manageOf adoptOf eligible serves asksCommit grantArena grantReply missReply searchOf claimOf releaseOf purgeReply sweptReply visit sweepFrom isFor answerOf rules
 computed = record {
   k₀ = record { sound = refl; by-rules = refl; by-layer = refl; passed = refl };
   k₁ = record { sound = refl; by-rules = refl; by-layer = refl; passed = refl };

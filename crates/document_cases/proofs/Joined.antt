@@ -1,10 +1,10 @@
 -- The worked cases of wish 1 hold of the definitions: computed. Assumes nothing.
-use Rattle.layer.proofs.Prelude.{refl, bit, bitAt, within, asNumber, pack, writeRun, all, least, orOne, nowMs, delayMs, keeps, armed, isDue, pageSizeSound, newArena, reservedArena, adoptedArena, grownArena, overwritten, sweepDue, disarm, young, toAsk, nextAsked, borrowChunk, unpendChunk, rearm, stampsOf, bytesOf, endOf, soundRange, clearPast, clearPastAll, soundArena, meets, overlaps, badRange, apart, soundQuestion, soundTable, soundLent, empty, badCount, grows, adoptOf, purgeReply, sweptReply, visit, sweepFrom, rules, tablesOverlap, joinOn, joinRules}
+use Rattle.layer.proofs.Prelude.{refl, bit, bitAt, within, asNumber, pack, writeRun, all, least, orOne, nowMs, delayMs, neverPurges, keeps, armed, isDue, pageSizeSound, newArena, reservedArena, adoptedArena, grownArena, overwritten, sweepDue, disarm, young, toAsk, nextAsked, borrowChunk, unpendChunk, rearm, stampsOf, bytesOf, endOf, soundRange, clearPast, clearPastAll, soundArena, meets, overlaps, badRange, apart, soundQuestion, soundTable, soundLent, empty, badCount, grows, adoptOf, purgeReply, sweptReply, visit, sweepFrom, rules, tablesOverlap, joinOn, joinRules}
 use Rattle.document_cases.specs.Refused.{blocks}
 use Rattle.document_cases.specs.Joined.{Cases}
 
 pub cases : Cases
-unfolding blocks bit bitAt within asNumber pack writeRun all least orOne nowMs delayMs keeps armed isDue pageSizeSound newArena reservedArena adoptedArena grownArena overwritten sweepDue disarm young toAsk nextAsked borrowChunk unpendChunk rearm stampsOf bytesOf endOf soundRange clearPast clearPastAll soundArena meets overlaps badRange apart soundQuestion soundTable soundLent empty badCount grows adoptOf purgeReply sweptReply visit sweepFrom rules tablesOverlap joinOn joinRules
+unfolding blocks bit bitAt within asNumber pack writeRun all least orOne nowMs delayMs neverPurges keeps armed isDue pageSizeSound newArena reservedArena adoptedArena grownArena overwritten sweepDue disarm young toAsk nextAsked borrowChunk unpendChunk rearm stampsOf bytesOf endOf soundRange clearPast clearPastAll soundArena meets overlaps badRange apart soundQuestion soundTable soundLent empty badCount grows adoptOf purgeReply sweptReply visit sweepFrom rules tablesOverlap joinOn joinRules
 cases = record {
   apart = refl;
   below = refl;

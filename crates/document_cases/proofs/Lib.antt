@@ -4,3 +4,4 @@ pub mod Runs
 pub mod Example
 pub mod SwitchOver
 pub mod Joined
+pub mod Never

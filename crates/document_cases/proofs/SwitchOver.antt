@@ -1,5 +1,5 @@
 -- The two histories and the one that they become meet the premises of demand 3, and program 7 is told what its share book says: computed. Assumes nothing.
-use Rattle.layer.proofs.Prelude.{_≡_, refl, true, false, [], _∷_, _+_, bit, bitAt, within, asNumber, pack, writeRun, all, least, lowestRun, orOne, nowMs, delayMs, keeps, armed, isDue, arenaAllowed, pageSizeSound, newArena, reservedArena, managedArena, adoptedArena, grownArena, findRun, runCommitted, runFresh, takeRun, giveBackRun, commitRun, dirtyRun, finishGrant, tellRun, pendRun, releaseRun, stampRun, sweepDue, disarm, young, toAsk, nextAsked, borrowChunk, unpendChunk, returnChunk, rearm, bytesOf, endOf, isInside, soundRange, clearPast, clearPastAll, soundArena, empty, meets, overlaps, badRange, findArena, apart, soundQuestion, soundTable, soundLent, chunksFor, tooLarge, bytesAsked, askMemory, reserveReply, badCount, noWholeChunk, grows, reserveOf, manageOf, adoptOf, eligible, serves, asksCommit, grantArena, grantReply, missReply, searchOf, claimOf, releaseOf, purgeReply, sweptReply, visit, sweepFrom, isFor, answerOf, rules, overwritten, outcome, JoinOutcome, joinOutcome, tablesOverlap, joinOn, joinRules, join, lowest, claims, releases as frees, granted, released, enter, sayAll, ofFirst, begin, joining, isBrokenJoin, start, inRange, bookOf, bothSound, byRules}
+use Rattle.layer.proofs.Prelude.{_≡_, refl, true, false, [], _∷_, _+_, bit, bitAt, within, asNumber, pack, writeRun, all, least, lowestRun, orOne, nowMs, delayMs, neverPurges, keeps, armed, isDue, arenaAllowed, pageSizeSound, newArena, reservedArena, managedArena, adoptedArena, grownArena, findRun, runCommitted, runFresh, takeRun, giveBackRun, commitRun, dirtyRun, finishGrant, tellRun, pendRun, releaseRun, stampRun, sweepDue, disarm, young, toAsk, nextAsked, borrowChunk, unpendChunk, returnChunk, rearm, bytesOf, endOf, isInside, soundRange, clearPast, clearPastAll, soundArena, empty, meets, overlaps, badRange, findArena, apart, soundQuestion, soundTable, soundLent, chunksFor, tooLarge, bytesAsked, askMemory, reserveReply, badCount, noWholeChunk, grows, reserveOf, manageOf, adoptOf, eligible, serves, asksCommit, grantArena, grantReply, missReply, searchOf, claimOf, releaseOf, purgeReply, sweptReply, visit, sweepFrom, isFor, answerOf, rules, overwritten, outcome, JoinOutcome, joinOutcome, tablesOverlap, joinOn, joinRules, join, lowest, claims, releases as frees, granted, released, enter, sayAll, ofFirst, begin, joining, isBrokenJoin, start, inRange, bookOf, bothSound, byRules}
 use Rattle.layer.specs.declared.Answer.the-variants.{Registered, Claimed, Released}
 use Rattle.layer.specs.declared.JoinAnswer.the-variants.{Joined}
 use Rattle.document_cases.specs.Example.{S, base, elsewhere, w₂, c₂, arena}
@@ -19,7 +19,7 @@ pub record Calls : Type 0 where
   pub k₄ : Made byRules (stand u₂ 7 e₁) e₂ (outcome (Claimed base false false) u₁) (outcome (Claimed base false false) u₁)
 
 pub computed : Calls
-unfolding enter inRange bit bitAt within asNumber pack writeRun all least lowestRun orOne nowMs delayMs keeps armed isDue arenaAllowed pageSizeSound newArena reservedArena managedArena adoptedArena grownArena findRun runCommitted runFresh takeRun giveBackRun commitRun dirtyRun finishGrant tellRun pendRun releaseRun stampRun sweepDue disarm young toAsk nextAsked borrowChunk unpendChunk returnChunk rearm bytesOf endOf isInside soundRange clearPast clearPastAll soundArena empty meets overlaps badRange findArena apart soundQuestion soundTable soundLent chunksFor tooLarge bytesAsked askMemory reserveReply badCount noWholeChunk grows reserveOf manageOf adoptOf eligible serves asksCommit grantArena grantReply missReply searchOf claimOf releaseOf purgeReply sweptReply visit sweepFrom isFor answerOf rules overwritten tablesOverlap joinOn joinRules
+unfolding enter inRange bit bitAt within asNumber pack writeRun all least lowestRun orOne nowMs delayMs neverPurges keeps armed isDue arenaAllowed pageSizeSound newArena reservedArena managedArena adoptedArena grownArena findRun runCommitted runFresh takeRun giveBackRun commitRun dirtyRun finishGrant tellRun pendRun releaseRun stampRun sweepDue disarm young toAsk nextAsked borrowChunk unpendChunk returnChunk rearm bytesOf endOf isInside soundRange clearPast clearPastAll soundArena empty meets overlaps badRange findArena apart soundQuestion soundTable soundLent chunksFor tooLarge bytesAsked askMemory reserveReply badCount noWholeChunk grows reserveOf manageOf adoptOf eligible serves asksCommit grantArena grantReply missReply searchOf claimOf releaseOf purgeReply sweptReply visit sweepFrom isFor answerOf rules overwritten tablesOverlap joinOn joinRules
 computed = record {
   k₀ = record { sound = refl; by-rules = refl; by-layer = refl; passed = refl };
   k₁ = record { sound = refl; by-rules = refl; by-layer = refl; passed = refl };

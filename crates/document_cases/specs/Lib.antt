@@ -3,3 +3,4 @@ pub mod Refused
 pub mod Example
 pub mod SwitchOver
 pub mod Joined
+pub mod Never

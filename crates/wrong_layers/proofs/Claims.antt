@@ -1,5 +1,5 @@
 -- Wrong claims and releases, each on a short history: a managed arena of one chunk at S, claimed and released by program 7. Assumes nothing.
-use Rattle.layer.proofs.Prelude.{_≡_, refl, ap, _∙_, true, false, [], _∷_, ℕ, arith, negsuc, replicate, NoRun, bit, bitAt, within, asNumber, pack, writeRun, all, least, lowestRun, orOne, nowMs, delayMs, keeps, armed, isDue, arenaAllowed, pageSizeSound, Untold, newArena, reservedArena, managedArena, adoptedArena, grownArena, findRun, runCommitted, runFresh, takeRun, giveBackRun, commitRun, dirtyRun, finishGrant, tellRun, pendRun, releaseRun, stampRun, sweepDue, disarm, young, toAsk, nextAsked, borrowChunk, unpendChunk, returnChunk, rearm, bytesOf, endOf, isInside, soundRange, clearPast, clearPastAll, soundArena, World, Outcome, blank, stateWith, worldOf, outcome, empty, meets, overlaps, badRange, findArena, apart, soundQuestion, soundTable, soundLent, chunksFor, tooLarge, bytesAsked, askMemory, reserveReply, badCount, noWholeChunk, grows, reserveOf, manageOf, adoptOf, eligible, serves, asksCommit, grantArena, grantReply, missReply, searchOf, claimOf, releaseOf, purgeReply, sweptReply, visit, sweepFrom, isFor, answerOf, release, act, answer, rules, step, lowest, claims, releases as frees, refused, granted, released, enter, sayAll, Marked, isSound, inRange, bookOf, Demand3, TenExactly}
+use Rattle.layer.proofs.Prelude.{_≡_, refl, ap, _∙_, true, false, [], _∷_, ℕ, arith, negsuc, replicate, NoRun, bit, bitAt, within, asNumber, pack, writeRun, all, least, lowestRun, orOne, nowMs, delayMs, neverPurges, keeps, armed, isDue, arenaAllowed, pageSizeSound, Untold, newArena, reservedArena, managedArena, adoptedArena, grownArena, findRun, runCommitted, runFresh, takeRun, giveBackRun, commitRun, dirtyRun, finishGrant, tellRun, pendRun, releaseRun, stampRun, sweepDue, disarm, young, toAsk, nextAsked, borrowChunk, unpendChunk, returnChunk, rearm, bytesOf, endOf, isInside, soundRange, clearPast, clearPastAll, soundArena, World, Outcome, blank, stateWith, worldOf, outcome, empty, meets, overlaps, badRange, findArena, apart, soundQuestion, soundTable, soundLent, chunksFor, tooLarge, bytesAsked, askMemory, reserveReply, badCount, noWholeChunk, grows, reserveOf, manageOf, adoptOf, eligible, serves, asksCommit, grantArena, grantReply, missReply, searchOf, claimOf, releaseOf, purgeReply, sweptReply, visit, sweepFrom, isFor, answerOf, release, act, answer, rules, step, lowest, claims, releases as frees, refused, granted, released, enter, sayAll, Marked, isSound, inRange, bookOf, Demand3, TenExactly}
 use Rattle.layer.specs.declared.Question.the-variants.{Idle}
 use Rattle.layer.specs.declared.Answer.the-variants.{Refused, Claimed, Released}
 use Rattle.document_cases.specs.Example.{S, plain, row, by}
@@ -23,7 +23,7 @@ record Facts : Type 0 where
   says-again : sayAll (bookOf arena) (claims lowest 1 ∷ frees S 1 ∷ claims lowest 1 ∷ []) ≡ granted S false ∷ released ∷ granted S false ∷ []
 
 facts : Facts
-unfolding enter inRange bit bitAt within asNumber pack writeRun all least lowestRun orOne nowMs delayMs keeps armed isDue arenaAllowed pageSizeSound newArena reservedArena managedArena adoptedArena grownArena findRun runCommitted runFresh takeRun giveBackRun commitRun dirtyRun finishGrant tellRun pendRun releaseRun stampRun sweepDue disarm young toAsk nextAsked borrowChunk unpendChunk returnChunk rearm bytesOf endOf isInside soundRange clearPast clearPastAll soundArena empty meets overlaps badRange findArena apart soundQuestion soundTable soundLent chunksFor tooLarge bytesAsked askMemory reserveReply badCount noWholeChunk grows reserveOf manageOf adoptOf eligible serves asksCommit grantArena grantReply missReply searchOf claimOf releaseOf purgeReply sweptReply visit sweepFrom isFor answerOf rules
+unfolding enter inRange bit bitAt within asNumber pack writeRun all least lowestRun orOne nowMs delayMs neverPurges keeps armed isDue arenaAllowed pageSizeSound newArena reservedArena managedArena adoptedArena grownArena findRun runCommitted runFresh takeRun giveBackRun commitRun dirtyRun finishGrant tellRun pendRun releaseRun stampRun sweepDue disarm young toAsk nextAsked borrowChunk unpendChunk returnChunk rearm bytesOf endOf isInside soundRange clearPast clearPastAll soundArena empty meets overlaps badRange findArena apart soundQuestion soundTable soundLent chunksFor tooLarge bytesAsked askMemory reserveReply badCount noWholeChunk grows reserveOf manageOf adoptOf eligible serves asksCommit grantArena grantReply missReply searchOf claimOf releaseOf purgeReply sweptReply visit sweepFrom isFor answerOf rules
 facts = record {
   sound-held = refl;
   sound-shared = refl;

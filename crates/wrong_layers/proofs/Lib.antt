@@ -6,3 +6,4 @@ pub mod Sweeps
 pub mod Full
 pub mod Joins
 pub mod Wish
+pub mod Never

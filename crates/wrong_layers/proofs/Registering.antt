@@ -1,5 +1,5 @@
 -- Wrong layers that turn an exclusive arena down which Registering's rules register: program 7's claim there then gets 10. Assumes nothing.
-use Rattle.layer.proofs.Prelude.{_≡_, refl, sym, ap, _∙_, true, false, true≢false, List, [], _∷_, _++_, ℕ, _+_, _*_, _≤_, _<_, arith, lit<, pos, negsuc, replicate, Range, NoRun, ChunkCount, TableFull, bit, bitAt, within, asNumber, pack, writeRun, all, least, lowestRun, orOne, nowMs, delayMs, keeps, armed, isDue, arenaAllowed, pageSizeSound, Arena, newArena, reservedArena, managedArena, adoptedArena, grownArena, findRun, runCommitted, runFresh, takeRun, giveBackRun, commitRun, dirtyRun, finishGrant, tellRun, pendRun, releaseRun, stampRun, sweepDue, disarm, young, toAsk, nextAsked, borrowChunk, unpendChunk, returnChunk, rearm, bytesOf, endOf, isInside, soundRange, clearPast, clearPastAll, soundArena, World, Outcome, blank, stateWith, worldOf, outcome, empty, at, meets, overlaps, badRange, findArena, apart, soundQuestion, soundTable, soundLent, sound, chunksFor, tooLarge, bytesAsked, askMemory, reserveReply, badCount, noWholeChunk, grows, reserveOf, manageOf, adoptOf, eligible, serves, asksCommit, grantArena, grantReply, missReply, searchOf, claimOf, releaseOf, purgeReply, sweptReply, visit, sweepFrom, isFor, answerOf, reserve, manage, claim, owns, act, query, answer, rules, step, lowest, claims, refused, granted, enter, sayAll, Marked, begin, next, isSound, start, Place, inRange, OpensAt, bookOf, Demand3}
+use Rattle.layer.proofs.Prelude.{_≡_, refl, sym, ap, _∙_, true, false, true≢false, List, [], _∷_, _++_, ℕ, _+_, _*_, _≤_, _<_, arith, lit<, pos, negsuc, replicate, Range, NoRun, ChunkCount, TableFull, bit, bitAt, within, asNumber, pack, writeRun, all, least, lowestRun, orOne, nowMs, delayMs, neverPurges, keeps, armed, isDue, arenaAllowed, pageSizeSound, Arena, newArena, reservedArena, managedArena, adoptedArena, grownArena, findRun, runCommitted, runFresh, takeRun, giveBackRun, commitRun, dirtyRun, finishGrant, tellRun, pendRun, releaseRun, stampRun, sweepDue, disarm, young, toAsk, nextAsked, borrowChunk, unpendChunk, returnChunk, rearm, bytesOf, endOf, isInside, soundRange, clearPast, clearPastAll, soundArena, World, Outcome, blank, stateWith, worldOf, outcome, empty, at, meets, overlaps, badRange, findArena, apart, soundQuestion, soundTable, soundLent, sound, chunksFor, tooLarge, bytesAsked, askMemory, reserveReply, badCount, noWholeChunk, grows, reserveOf, manageOf, adoptOf, eligible, serves, asksCommit, grantArena, grantReply, missReply, searchOf, claimOf, releaseOf, purgeReply, sweptReply, visit, sweepFrom, isFor, answerOf, reserve, manage, claim, owns, act, query, answer, rules, step, lowest, claims, refused, granted, enter, sayAll, Marked, begin, next, isSound, start, Place, inRange, OpensAt, bookOf, Demand3}
 use Rattle.layer.specs.declared.Question.the-variants.{Idle, Reserving}
 use Rattle.layer.specs.declared.Ask.the-variants.{AskMemory}
 use Rattle.layer.specs.declared.Waiting.the-variants.{Reserve}
@@ -71,7 +71,7 @@ record Facts : Type 0 where
   next-says : sayAll (bookOf at-next) (claims lowest 1 ∷ []) ≡ granted (3 * S) false ∷ []
 
 facts : Facts
-unfolding enter inRange bit bitAt within asNumber pack writeRun all least lowestRun orOne nowMs delayMs keeps armed isDue arenaAllowed pageSizeSound newArena reservedArena managedArena adoptedArena grownArena findRun runCommitted runFresh takeRun giveBackRun commitRun dirtyRun finishGrant tellRun pendRun releaseRun stampRun sweepDue disarm young toAsk nextAsked borrowChunk unpendChunk returnChunk rearm bytesOf endOf isInside soundRange clearPast clearPastAll soundArena empty meets overlaps badRange findArena apart soundQuestion soundTable soundLent chunksFor tooLarge bytesAsked askMemory reserveReply badCount noWholeChunk grows reserveOf manageOf adoptOf eligible serves asksCommit grantArena grantReply missReply searchOf claimOf releaseOf purgeReply sweptReply visit sweepFrom isFor answerOf rules
+unfolding enter inRange bit bitAt within asNumber pack writeRun all least lowestRun orOne nowMs delayMs neverPurges keeps armed isDue arenaAllowed pageSizeSound newArena reservedArena managedArena adoptedArena grownArena findRun runCommitted runFresh takeRun giveBackRun commitRun dirtyRun finishGrant tellRun pendRun releaseRun stampRun sweepDue disarm young toAsk nextAsked borrowChunk unpendChunk returnChunk rearm bytesOf endOf isInside soundRange clearPast clearPastAll soundArena empty meets overlaps badRange findArena apart soundQuestion soundTable soundLent chunksFor tooLarge bytesAsked askMemory reserveReply badCount noWholeChunk grows reserveOf manageOf adoptOf eligible serves asksCommit grantArena grantReply missReply searchOf claimOf releaseOf purgeReply sweptReply visit sweepFrom isFor answerOf rules
 facts = record {
   large-registered = refl;
   large-claimed = refl;
@@ -181,7 +181,7 @@ record Filled : Type 0 where
   elsewhere : step filled 0 plain (claimsAt 0 filled .call) .answer ≡ Claimed S true false
 
 filled-facts : Filled
-unfolding enter inRange bit bitAt within asNumber pack writeRun all least lowestRun orOne nowMs delayMs keeps armed isDue arenaAllowed pageSizeSound newArena reservedArena managedArena adoptedArena grownArena findRun runCommitted runFresh takeRun giveBackRun commitRun dirtyRun finishGrant tellRun pendRun releaseRun stampRun sweepDue disarm young toAsk nextAsked borrowChunk unpendChunk returnChunk rearm bytesOf endOf isInside soundRange clearPast clearPastAll soundArena empty meets overlaps badRange findArena apart soundQuestion soundTable soundLent chunksFor tooLarge bytesAsked askMemory reserveReply badCount noWholeChunk grows reserveOf manageOf adoptOf eligible serves asksCommit grantArena grantReply missReply searchOf claimOf releaseOf purgeReply sweptReply visit sweepFrom isFor answerOf rules
+unfolding enter inRange bit bitAt within asNumber pack writeRun all least lowestRun orOne nowMs delayMs neverPurges keeps armed isDue arenaAllowed pageSizeSound newArena reservedArena managedArena adoptedArena grownArena findRun runCommitted runFresh takeRun giveBackRun commitRun dirtyRun finishGrant tellRun pendRun releaseRun stampRun sweepDue disarm young toAsk nextAsked borrowChunk unpendChunk returnChunk rearm bytesOf endOf isInside soundRange clearPast clearPastAll soundArena empty meets overlaps badRange findArena apart soundQuestion soundTable soundLent chunksFor tooLarge bytesAsked askMemory reserveReply badCount noWholeChunk grows reserveOf manageOf adoptOf eligible serves asksCommit grantArena grantReply missReply searchOf claimOf releaseOf purgeReply sweptReply visit sweepFrom isFor answerOf rules
 filled-facts = record { looked = refl; sound-filled = refl; thirteen = refl; elsewhere = refl }
 
 then-opens : OpensAt (stand empty 9 looks) managesThen
@@ -239,7 +239,7 @@ record Asked : Type 0 where
   reserved-says : sayAll (bookOf at-reserved) (claims lowest 1 ∷ []) ≡ granted S true ∷ []
 
 asked-facts : Asked
-unfolding enter inRange bit bitAt within asNumber pack writeRun all least lowestRun orOne nowMs delayMs keeps armed isDue arenaAllowed pageSizeSound newArena reservedArena managedArena adoptedArena grownArena findRun runCommitted runFresh takeRun giveBackRun commitRun dirtyRun finishGrant tellRun pendRun releaseRun stampRun sweepDue disarm young toAsk nextAsked borrowChunk unpendChunk returnChunk rearm bytesOf endOf isInside soundRange clearPast clearPastAll soundArena empty meets overlaps badRange findArena apart soundQuestion soundTable soundLent chunksFor tooLarge bytesAsked askMemory reserveReply badCount noWholeChunk grows reserveOf manageOf adoptOf eligible serves asksCommit grantArena grantReply missReply searchOf claimOf releaseOf purgeReply sweptReply visit sweepFrom isFor answerOf rules
+unfolding enter inRange bit bitAt within asNumber pack writeRun all least lowestRun orOne nowMs delayMs neverPurges keeps armed isDue arenaAllowed pageSizeSound newArena reservedArena managedArena adoptedArena grownArena findRun runCommitted runFresh takeRun giveBackRun commitRun dirtyRun finishGrant tellRun pendRun releaseRun stampRun sweepDue disarm young toAsk nextAsked borrowChunk unpendChunk returnChunk rearm bytesOf endOf isInside soundRange clearPast clearPastAll soundArena empty meets overlaps badRange findArena apart soundQuestion soundTable soundLent chunksFor tooLarge bytesAsked askMemory reserveReply badCount noWholeChunk grows reserveOf manageOf adoptOf eligible serves asksCommit grantArena grantReply missReply searchOf claimOf releaseOf purgeReply sweptReply visit sweepFrom isFor answerOf rules
 asked-facts = record { asked = refl; sound-waiting = refl; brought = refl; reserved-claimed = refl; reserved-says = refl }
 
 reserved-opens : OpensAt (stand waiting 9 asks) brings

@@ -1,2 +1,3 @@
 pub mod Wrong
 pub mod Joins
+pub mod Never

@@ -1,5 +1,7 @@
 -- Option 15, purge_delay: where every call carries a negative delay nothing is purged, over whole histories. No deadline is ever set, so a forced sweep asks nothing either. Assumes nothing.
-use Rattle.layer.proofs.Prelude.{_≡_, refl, sym, ap, _∙_, subst, Bool, true, false, cond, not, _&&_, _||_, true≢false, List, [], _∷_, ⊎-elim, ℕ, zero, suc, _+_, _-_, _<_, _≤_, arith, ℕ-discrete, eq-eqb, ℤ, pos, negsuc, ltb, length, set, lt-or-le, by-cond, unless, Refusal, neverPurges, isDue, Arena, Commitment, newArena, reservedArena, managedArena, adoptedArena, grownArena, takeRun, dirtyRun, giveBackRun, commitRun, finishGrant, releaseRun, sweepDue, World, Outcome, worldOf, stateWith, after, blank, at, askMemory, withRecord, withStamps, sweepFrom, sweptReply, failReply, resume, answerTo, answerOf, isFor, Act, claim, reserve, manage, adopt, release, sweep, owns, area, Call, act, query, answer, staysPending, sweepOf, sweepsNone, actOn, stepOn, rules, step, byRules, History, Marked, begin, next, joining, Lent, left, join, empty, _/_, searchOf, releaseOf, nowMs, delayMs, sound, isIdle, JoinOutcome, isBroken, outcomeBy, isBrokenJoin, joinBy, Side, sideOf, ofFirst, ofSecond}
+use Rattle.layer.proofs.Prelude.{_≡_, refl, sym, ap, _∙_, subst, Bool, true, false, cond, not, _&&_, _||_, true≢false, List, ⊎-elim, ℕ, zero, suc, _+_, _-_, _<_, _≤_, arith, ℕ-discrete, eq-eqb, ℤ, pos, negsuc, ltb, length, set, lt-or-le, by-cond, unless, Refusal, neverPurges, isDue, Arena, Commitment, newArena, reservedArena, managedArena, adoptedArena, grownArena, takeRun, dirtyRun, giveBackRun, commitRun, finishGrant, releaseRun, sweepDue, World, Outcome, worldOf, stateWith, after, blank, at, askMemory, withRecord, withStamps, sweepFrom, sweptReply, failReply, resume, answerTo, answerOf, isFor, Act, claim, reserve, manage, adopt, release, sweep, owns, area, Call, act, query, answer, staysPending, sweepOf, sweepsNone, actOn, stepOn, rules, step, byRules, History, Marked, begin, next, joining, Lent, left, join, empty, _/_, searchOf, releaseOf, nowMs, delayMs, sound, isIdle, JoinOutcome, isBroken, outcomeBy, isBrokenJoin, joinBy, Side, sideOf, ofFirst, ofSecond}
+use lib.ListN.{List·getD-eq-default}
+use lib.Seq.{set-out}
 use Rattle.options.proofs.Differences.{never-is-negative}
 use Rattle.layer.specs.declared.Settings.{Settings}
 use Rattle.layer.specs.declared.Sweep.{Sweep}
@@ -21,7 +23,7 @@ use Rattle.layer.proofs.Joins.{Comes, both-stay, one-table, join-comes}
 use Rattle.layer_laws.specs.sweep_runs.Run.{asksPurge, isPurging}
 use Rattle.layer_laws.specs.joined.Join.{OneTable}
 use Rattle.layer_laws.specs.documented.Options.{EachDelay, NothingPurged, Never, Negative}
-use Rattle.layer_laws.proofs.never.Delay.{stays-at, set-past, told-deadline}
+use Rattle.layer_laws.proofs.never.Delay.{stays-at, told-deadline}
 use Rattle.layer_laws.proofs.joined.Join.{by-the-wish}
 
 -- ---- no deadline is set
@@ -33,18 +35,13 @@ Unarmed l k = (i : ℕ) → i < k → at l i .deadline ≡ 0
 changed : (l : List Arena) (k : ℕ) → Unarmed l k → (i : ℕ) (a : Arena) → a .deadline ≡ at l i .deadline → Unarmed (set l i a) k
 changed l k u i a e j h = stays-at (λ (b : Arena). b .deadline) l i a e j ∙ u j h
 
-at-past : (l : List Arena) (i : ℕ) → length l ≤ i → at l i ≡ blank
-at-past [] i h = refl
-at-past (b ∷ l) zero h = absurd (omega (arith, h))
-at-past (b ∷ l) (suc i) h = at-past l i (omega (arith, h))
-
 added : (l : List Arena) (k : ℕ) → Unarmed l k → (a : Arena) → a .deadline ≡ 0 → Unarmed (set l k a) (suc k)
 added l k u a e j h = go (ℕ-discrete j k)
   where
     here : at (set l k a) k .deadline ≡ 0
     here =
         ⊎-elim (λ x. ap (λ (b : Arena). b .deadline) (at-same l k a x) ∙ e)
-        (λ x. ap (λ (m : List Arena). at m k .deadline) (set-past l k a x) ∙ ap (λ (b : Arena). b .deadline) (at-past l k x)) (lt-or-le k (length l))
+        (λ x. ap (λ (m : List Arena). at m k .deadline) (set-out l k a x) ∙ ap (λ (b : Arena). b .deadline) (List·getD-eq-default l blank x)) (lt-or-le k (length l))
 
     go : Dec (j ≡ k) → at (set l k a) j .deadline ≡ 0
     go (yes d) = subst (λ (x : ℕ). at (set l k a) x .deadline ≡ 0) (sym d) here

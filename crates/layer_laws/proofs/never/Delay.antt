@@ -1,5 +1,6 @@
 -- Wish 2 of the rules: a negative delay means never, and from 0 on document 01's rules stand. Assumes nothing.
-use Rattle.layer.proofs.Prelude.{_≡_, refl, sym, ap, _∙_, subst, Bool, true, false, cond, not, true≢false, List, [], _∷_, ⊎-elim, ℕ, zero, suc, _≤_, arith, ℕ-discrete, ℤ, pos, negsuc, length, set, lt-or-le, Broken, neverPurges, delayMs, Arena, Commitment, Untold, Committed, Uncommitted, giveBackRun, releaseRun, tellRun, World, Outcome, outcome, stateWith, worldOf, at, sound, claimOf, missReply, sweptReply, claim, reserve, manage, adopt, release, sweep, Call, act, query, answer, rules, step}
+use Rattle.layer.proofs.Prelude.{_≡_, refl, sym, ap, _∙_, subst, Bool, true, false, cond, not, true≢false, List, ⊎-elim, ℕ, ℕ-discrete, ℤ, pos, negsuc, length, set, lt-or-le, Broken, neverPurges, delayMs, Arena, Commitment, Untold, Committed, Uncommitted, giveBackRun, releaseRun, tellRun, World, Outcome, outcome, stateWith, worldOf, at, sound, claimOf, missReply, sweptReply, claim, reserve, manage, adopt, release, sweep, Call, act, query, answer, rules, step}
+use lib.Seq.{set-out}
 use Rattle.refusals.specs.declared.Refusal.the-variants.{QuestionOpen}
 use Rattle.layer.specs.declared.Settings.{Settings}
 use Rattle.layer.specs.declared.Question.{Question}
@@ -14,16 +15,11 @@ use Rattle.layer_laws.specs.never.Delay.{withDelay, below, NothingPended
 
 -- ---- a record after a store that leaves one thing of it
 
-pub set-past : (l : List Arena) (i : ℕ) (a : Arena) → length l ≤ i → set l i a ≡ l
-set-past [] i a h = refl
-set-past (b ∷ l) zero a h = absurd (omega (arith, h))
-set-past (b ∷ l) (suc i) a h = ap (λ (m : List Arena). b ∷ m) (set-past l i a (omega (arith, h)))
-
 pub stays-at : {A : Type 0} (f : Arena → A) (l : List Arena) (i : ℕ) (a : Arena) → f a ≡ f (at l i) → (j : ℕ) → f (at (set l i a) j) ≡ f (at l j)
 stays-at {A} f l i a e j = go (ℕ-discrete j i)
   where
     here : f (at (set l i a) i) ≡ f (at l i)
-    here = ⊎-elim (λ h. ap f (at-same l i a h) ∙ e) (λ h. ap (λ (m : List Arena). f (at m i)) (set-past l i a h)) (lt-or-le i (length l))
+    here = ⊎-elim (λ h. ap f (at-same l i a h) ∙ e) (λ h. ap (λ (m : List Arena). f (at m i)) (set-out l i a h)) (lt-or-le i (length l))
 
     go : Dec (j ≡ i) → f (at (set l i a) j) ≡ f (at l j)
     go (yes d) = subst (λ (x : ℕ). f (at (set l i a) x) ≡ f (at l x)) (sym d) here

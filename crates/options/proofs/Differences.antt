@@ -19,7 +19,12 @@ pub delay-purges : (n : ℕ) → neverPurges (pos n) ≡ false
 unfolding neverPurges
 delay-purges n = refl
 
--- what is documented as never is -1, and never to the port
+-- -1 is documented as no purging at all, and so it is to the port
+pub minus-one-is-never : (documentedDelay (negsuc 0) ≡ never) × (neverPurges (negsuc 0) ≡ true)
+unfolding documentedDelay neverPurges
+minus-one-is-never = (refl, refl)
+
+-- nothing from 0 on is documented so
 abbrev isNever : Purging → Bool
 isNever never = true
 isNever (delayed n) = false
@@ -29,10 +34,6 @@ pub never-is-negative : (d : ℤ) → documentedDelay d ≡ never → (m : ℕ) 
 unfolding documentedDelay
 never-is-negative (pos n) e = absurd (true≢false (sym (ap isNever e)))
 never-is-negative (negsuc m) e = (m, refl)
-
-pub never-is-never : (d : ℤ) → documentedDelay d ≡ never → neverPurges d ≡ true
-unfolding neverPurges
-never-is-never d e = ap neverPurges (never-is-negative d e .1)
 
 -- below -1 nothing is documented, and the port purges nothing either
 pub unsaid-is-never : (n : ℕ) → (documentedDelay (negsuc (suc n)) ≡ unsaid) × (neverPurges (negsuc (suc n)) ≡ true)

@@ -1,5 +1,5 @@
 -- What mimalloc.h documents of options 15 and 27, with the numbers of version 2.4; `layer_laws` has the other options, and holds the layer's
--- rules against all but the delay. The port's own reading of the delay stands in the crate clock; proofs/Differences.antt holds it against this one.
+-- rules against all of them. The port's own reading of the delay stands in the crate clock; proofs/Differences.antt holds it against this one.
 -- Assumes nothing.
 use mathlib.Core.Bool.{Bool, true, false, _||_}
 use Prim.Native.Nat.{ℕ, zero, suc}

@@ -260,5 +260,5 @@ each-other P Q f begin e = tt
 each-other P Q f (next h m) e = (each-other P Q f h (e .0), f _ (e .1))
 each-other P Q f (joining side h g m) e = (each-other P Q f h (e .0), each-other P Q f g (e .1))
 
-pub never-is-never : NothingPurged Never byRules
-never-is-never h m lent each = nothing-purged h m lent (each-other Never Negative never-is-negative (next h m) each)
+pub documented-never : NothingPurged Never byRules
+documented-never h m lent each = nothing-purged h m lent (each-other Never Negative never-is-negative (next h m) each)

@@ -1,4 +1,4 @@
--- One call: the rules of document 01 put together. Assumes nothing.
+-- One call: the rules of document 01, with what document 02 changes, put together. Assumes nothing.
 use Rattle.layer.specs.Prelude.{Bool, cond, not, _&&_, List, [], _∷_, ℕ, ltb, ℤ, pos, negsuc, Broken, QuestionOpen, nowMs, delayMs, neverPurges, Arena, Commitment, bytesOf, Settings, Sweep, Question, Kind, Answer, Owns, Area}
 use Rattle.layer.specs.World.{World, Outcome, sizeOf, stateWith, worldOf, reply, after, refuse, firstOf}
 use Rattle.layer.specs.Table.{at, isAt, findArena, sound}

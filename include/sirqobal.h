@@ -126,7 +126,8 @@ uint64_t sirqobal_page_align_up(uint64_t page,
 SIRQOBAL_USE
 uint32_t sirqobal_now_ms(uint64_t ns);
 
-/* The purge delay (option 15) clamped to 0 .. 1,073,741,823. */
+/* The milliseconds of a purge delay (option 15), clamped to 0 .. 1,073,741,823. A negative delay gives 0, which is what
+ * a forced sweep keeps of it: whether anything is purged at all, its sign says (SIRQOBAL_NEVER). */
 SIRQOBAL_USE
 uint32_t sirqobal_delay_ms(int64_t delay);
 
@@ -213,9 +214,13 @@ struct sirqobal_state {
     size_t purged;
 };
 
+/* The purge delay that means never: -1, as mimalloc.h has it. Every negative delay means this. */
+#define SIRQOBAL_NEVER (-1)
+
 /* What each call carries beside the clock. A flag is on unless it is 0. */
 struct sirqobal_settings {
-    int64_t delay;      /* the purge delay in milliseconds (option 15) */
+    int64_t delay;      /* the purge delay in milliseconds (option 15): from 0 on, more than 1,073,741,823 counting as
+                         * that; negative: never (SIRQOBAL_NEVER). Only a release and a sweep read it. */
     uint32_t decommits; /* a purge decommits (option 5) */
     uint32_t off;       /* arenas serve only claims that name them (option 27) */
     uint64_t reserve;   /* what a claim that finds nothing reserves, in bytes (option 23); below a chunk: nothing.
@@ -395,7 +400,9 @@ struct sirqobal_reply sirqobal_chunk_alloc_n(struct sirqobal_arena *records,
 
 /* Releases n chunks from an address on, held or not: the layer does not know whose they are. `told`: negative says
  * nothing of commitment, 0 that the run is not committed, positive that it is (enum sirqobal_told). `pending`: the
- * chunks are to be purged by a later sweep.
+ * chunks are to be purged by a later sweep: they are stamped and marked, and the arena's deadline is armed. With a
+ * negative settings.delay nothing is stamped, marked or armed: it is the same release not pending. What earlier
+ * releases left to a sweep stays then, marks and stamps of these chunks and the deadline too.
  * Refusals: 1, 2, 4, 8, 7, 9; they leave everything. It never asks. */
 SIRQOBAL_USE
 struct sirqobal_reply sirqobal_chunk_release(struct sirqobal_arena *records,
@@ -412,6 +419,9 @@ struct sirqobal_reply sirqobal_chunk_release(struct sirqobal_arena *records,
 
 /* Sweeps the arenas whose deadline has come; all that are armed, if forced. Nobody holds a chunk that it asks
  * about, and none is granted it while the question is open. The end answers `count`, the yes answers.
+ * With a negative settings.delay it asks nothing and changes nothing, deadlines that have come included: `count` is 0.
+ * Forced, it goes on as with a delay of 0, and asks about what was left to a sweep while the delay was not negative.
+ * This call's clock, delay and decommits count until the sweep ends; those of its answers do not.
  * Refusals: 1, 2; they leave everything. May ask: purge, at most once for each pending chunk. */
 SIRQOBAL_USE
 struct sirqobal_reply sirqobal_purge_due(struct sirqobal_arena *records,
@@ -427,7 +437,7 @@ struct sirqobal_reply sirqobal_purge_due(struct sirqobal_arena *records,
  * call that asked goes on: it is granted, asks again or is refused.
  * Refusals: 1 and 3, which keep the question open; then by kind, in this order:
  *   commit      11 after a no
- *   purge       none: the sweep goes on, yes or no
+ *   purge       none: the sweep goes on, yes or no, with the delay that it began with
  *   memory      14 after a no (10 and the mark, if a claim waits); after a yes 6, which keeps the question open;
  *               10, if a claim waits and the new arena has no such run
  *   give back   12, 7 or 13, whatever made it necessary (10 and the mark, if a claim waits)

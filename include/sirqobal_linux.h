@@ -214,7 +214,9 @@ struct sirqobal_memory {
     struct sirqobal_linux os;
 };
 
-/* No arena; purges after 10 ms, which decommit; no default reserve. */
+/* No arena; purges after 10 ms, which decommit; no default reserve. For memory that is to stay once it was committed:
+ *
+ *     memory.table.settings.delay = SIRQOBAL_NEVER; */
 static inline void sirqobal_memory_init(struct sirqobal_memory *memory)
 {
     sirqobal_table_init(&memory->table);
@@ -243,7 +245,9 @@ static inline struct sirqobal_reply sirqobal_memory_claim(struct sirqobal_memory
                                  &memory->os);
 }
 
-/* Releases n chunks that the caller holds; a later sweep purges them. They are not touched from here on. */
+/* Releases n chunks that the caller holds; a later sweep purges them. They are not touched from here on.
+ * With a negative settings.delay (SIRQOBAL_NEVER) the release leaves nothing to a sweep: the chunks stay committed, and
+ * whoever claims them next finds the bytes. What an earlier release left to a sweep is left to it still. */
 SIRQOBAL_USE
 static inline struct sirqobal_reply sirqobal_memory_release(struct sirqobal_memory *memory,
                                                             uint64_t address,
@@ -252,7 +256,8 @@ static inline struct sirqobal_reply sirqobal_memory_release(struct sirqobal_memo
     return sirqobal_table_release(&memory->table, sirqobal_linux_now(), address, n, SIRQOBAL_TOLD_NOTHING, true);
 }
 
-/* Purges what was released long enough ago, or all of it: `count` chunks. */
+/* Purges what was released long enough ago, or all of it: `count` chunks.
+ * With a negative settings.delay (SIRQOBAL_NEVER) none; forced, what was released while the delay was not negative. */
 SIRQOBAL_USE
 static inline struct sirqobal_reply sirqobal_memory_sweep(struct sirqobal_memory *memory,
                                                           bool force)

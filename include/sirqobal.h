@@ -219,8 +219,8 @@ struct sirqobal_state {
 
 /* What each call carries beside the clock. A flag is on unless it is 0. */
 struct sirqobal_settings {
-    int64_t delay;      /* the purge delay in milliseconds (option 15): from 0 on, more than 1,073,741,823 counting as
-                         * that; negative: never (SIRQOBAL_NEVER). Only a release and a sweep read it. */
+    int64_t delay;      /* the purge delay in milliseconds (option 15); above 1,073,741,823 it counts as that.
+                         * Negative: never (SIRQOBAL_NEVER). Only a release and a sweep read it. */
     uint32_t decommits; /* a purge decommits (option 5) */
     uint32_t off;       /* arenas serve only claims that name them (option 27) */
     uint64_t reserve;   /* what a claim that finds nothing reserves, in bytes (option 23); below a chunk: nothing.

@@ -75,7 +75,7 @@ pub mod saved;
 mod slice_pool;
 
 pub use host::Host;
-pub use layer::{Layer, Managed, Moment, Rise, Run, ANY, CHUNK};
+pub use layer::{Layer, Managed, Moment, Rise, Run, ANY, CHUNK, NEVER};
 pub use numbers::{arm, delay_ms, is_aligned_to, is_due, now_ms, page_align_up};
 pub use picture::Picture;
 pub use question::{

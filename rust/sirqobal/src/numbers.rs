@@ -38,7 +38,9 @@ pub fn now_ms(ns: u64) -> u32 {
     unsafe { abi::sirqobal_now_ms(ns) }
 }
 
-/// A purge delay, clamped to 0 .. 1,073,741,823 milliseconds.
+/// The milliseconds of a purge delay, clamped to 0 .. 1,073,741,823. A negative delay gives 0, as a
+/// forced sweep keeps it: whether anything is purged at all, its sign says
+/// ([`NEVER`](crate::NEVER)).
 ///
 /// ```
 /// assert_eq!(sirqobal::delay_ms(10), 10);

@@ -25,6 +25,23 @@ pub const CHUNK: u64 = 33_554_432;
 /// The id that means every arena that is not exclusive.
 pub const ANY: i32 = -1;
 
+/// The purge delay that means never, as mimalloc.h has it. Every negative delay means this: a
+/// release leaves nothing to a sweep, and a sweep that is not forced asks nothing.
+///
+/// ```
+/// use sirqobal::{Layer, Moment, NotDone, CHUNK, NEVER};
+///
+/// let now = Moment { delay: NEVER, ..Moment::default() };
+/// let mut layer = Layer::new();
+/// layer.adopt_os_block(now, 1 << 30, 2 * CHUNK)?;
+/// layer.chunk_release(now, 1 << 30, 2, None, true)?;
+/// let arena = &layer.records()[0];
+/// assert_eq!((arena.pending[0], arena.deadline), (0, 0));
+/// assert_eq!(layer.purge_due(now, false).done(), Ok(0));
+/// # Ok::<(), NotDone>(())
+/// ```
+pub const NEVER: i64 = -1;
+
 /// An arena layer that owns its table: at most 32 arenas of 1 to 1,024 chunks of [`CHUNK`] bytes.
 /// It keeps the book alone and touches no memory at the addresses in it; `linux::Memory` is a layer
 /// over real memory.

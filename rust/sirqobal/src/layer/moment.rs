@@ -5,7 +5,8 @@ use crate::lent;
 pub struct Moment {
     /// The clock, in nanoseconds.
     pub ns: u64,
-    /// The purge delay in milliseconds.
+    /// The purge delay in milliseconds; above 1,073,741,823 it counts as that. Negative: never
+    /// ([`NEVER`](crate::NEVER)). Only a release and a sweep read it.
     pub delay: i64,
     /// A purge decommits.
     pub decommits: bool,

@@ -12,6 +12,9 @@ impl Layer {
     /// Releases n chunks from an address on, held or not. `committed` tells whether they are
     /// committed now; `pending` leaves them to a later sweep. It never asks.
     ///
+    /// With a negative delay ([`NEVER`](crate::NEVER)) it is the same release not pending: nothing
+    /// is stamped, marked or armed, and what earlier ones left to a sweep stays.
+    ///
     /// # Errors
     /// [`Refusal::Zero`], [`Refusal::NotInside`], [`Refusal::NotWhole`], [`Refusal::PastEnd`].
     ///
@@ -45,7 +48,11 @@ impl Layer {
     }
 
     /// Sweeps the arenas whose deadline has come; all that are armed, if forced. It asks about each
-    /// chunk and answers how many were purged.
+    /// chunk and answers how many were purged. Its clock, delay and `decommits` count until it
+    /// ends; those of the answers do not.
+    ///
+    /// With a negative delay ([`NEVER`](crate::NEVER)) it asks nothing and changes nothing, and
+    /// answers 0; forced, it goes on as with a delay of 0.
     ///
     /// # Errors
     /// None of its own.
@@ -62,6 +69,23 @@ impl Layer {
     /// assert_eq!((purge.address(), purge.bytes()), (1 << 30, CHUNK));
     /// assert!(purge.decommits());
     /// assert_eq!(purge.answer(now, true)?.done(), Ok(1));
+    /// # Ok::<(), NotDone>(())
+    /// ```
+    ///
+    /// What is pending when the delay becomes negative stays so, however long it is due:
+    ///
+    /// ```
+    /// use sirqobal::{Layer, Moment, NotDone, Outcome, Question, CHUNK, NEVER};
+    ///
+    /// let mut layer = Layer::new();
+    /// layer.adopt_os_block(Moment::default(), 1 << 30, CHUNK)?;
+    /// layer.chunk_release(Moment::default(), 1 << 30, 1, None, true)?;
+    /// let later = Moment { ns: 1 << 40, delay: NEVER, ..Moment::default() };
+    /// assert_eq!(layer.purge_due(later, false).done(), Ok(0));
+    /// assert_eq!(layer.records()[0].pending[0], 1);
+    /// let asks = layer.purge_due(later, true);
+    /// let Outcome::Asks(Question::Purge(purge)) = asks else { panic!() };
+    /// assert_eq!(purge.answer(later, true)?.done(), Ok(1));
     /// # Ok::<(), NotDone>(())
     /// ```
     pub fn purge_due(&mut self, moment: Moment, force: bool) -> Outcome<'_, usize> {

@@ -15,7 +15,7 @@ pub struct Arena {
     pub owned: u32,
     /// The NUMA node, only stored.
     pub node: i32,
-    /// When the next sweep is due, in milliseconds; 0 is never.
+    /// When the next sweep is due, in milliseconds; 0 is no deadline.
     pub deadline: u32,
     /// The chunks that somebody holds.
     pub used: [u32; 32],
@@ -87,7 +87,7 @@ pub struct State {
     pub force: u32,
     /// Purge: the sweep's clock, in milliseconds.
     pub now: u32,
-    /// Purge: the sweep's delay, in milliseconds.
+    /// Purge: the sweep's delay, in milliseconds; 0 for a negative one.
     pub delay: u32,
     /// Purge: 1 if it decommits.
     pub decommit: u32,

@@ -2,7 +2,8 @@
 #[repr(C)]
 #[derive(Clone, Copy, Debug, PartialEq, Eq)]
 pub struct Settings {
-    /// The purge delay in milliseconds (option 15).
+    /// The purge delay in milliseconds (option 15); above 1,073,741,823 it counts as that. Negative:
+    /// never ([`NEVER`](crate::NEVER)). Only a release and a sweep read it.
     pub delay: i64,
     /// A purge decommits (option 5).
     pub decommits: u32,
@@ -91,10 +92,10 @@ pub enum Call {
         n: usize,
         /// Negative: nothing is said of commitment; 0: not committed; positive: committed.
         told: i32,
-        /// A later sweep is to purge the chunks.
+        /// A later sweep is to purge the chunks; with a negative delay as if it were not set.
         pending: bool,
     },
-    /// Sweeps the arenas that are due.
+    /// Sweeps the arenas that are due; none, with a negative delay, unless forced.
     PurgeDue {
         /// All that are armed, due or not.
         force: bool,

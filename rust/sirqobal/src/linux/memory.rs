@@ -166,6 +166,10 @@ impl Memory {
     /// Releases chunks that were claimed here, or in a memory that was joined to this one since; a
     /// later sweep purges them.
     ///
+    /// With a negative [`Options::delay`] the release leaves nothing to a sweep: the chunks stay
+    /// committed, and whoever claims them next finds the bytes. What an earlier release left to a
+    /// sweep is left to it still.
+    ///
     /// # Errors
     /// Chunks of another memory are refused with [`Refusal::NotInside`] and come back.
     ///
@@ -196,6 +200,9 @@ impl Memory {
 
     /// Purges what was released long enough ago, or all of it, and answers how many chunks. Where
     /// the OS says no, a chunk is passed over, and [`os_error`](Memory::os_error) tells why.
+    ///
+    /// With a negative [`Options::delay`] it purges none; forced, what was released while the delay
+    /// was not negative.
     ///
     /// # Errors
     /// None that a program can bring about.

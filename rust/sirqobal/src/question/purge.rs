@@ -30,7 +30,8 @@ impl<'a, T> Purge<'a, T> {
         self.decommits
     }
 
-    /// Answers whether the range is purged; the sweep goes on, and may ask about the next.
+    /// Answers whether the range is purged; the sweep goes on with the delay that it began with,
+    /// and may ask about the next.
     ///
     /// # Errors
     /// [`Refusal::Broken`] for an unsound page size or a broken table; the question stays open.

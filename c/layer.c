@@ -92,8 +92,15 @@ static int same(const struct sirqobal_state *a, const struct sirqobal_state *b)
 static struct sirqobal_arena before[SIRQOBAL_RECORDS];
 static uint32_t stamped[SIRQOBAL_STAMPS];
 
-/* A refused call leaves the records, the stamps and the state as they were. */
-static void refused(const char *what, struct sirqobal_reply r, uint32_t number, struct sirqobal_state was)
+/* What stands in the table, to be compared. */
+static void keep_lent(void)
+{
+    memcpy(before, records, sizeof before);
+    memcpy(stamped, stamps, sizeof stamped);
+}
+
+/* A call that leaves the records, the stamps and the state as they were. */
+static void left(const char *what, struct sirqobal_reply r, uint32_t number, struct sirqobal_state was)
 {
     step(what, r, number, 0, 0, 0);
     check("  the records are left", memcmp(records, before, sizeof records) == 0);
@@ -209,6 +216,103 @@ static void sweeping(void)
                               records[0].deadline == 0);
 }
 
+/* ---- a negative delay means never */
+
+/* All of arena 0 is held; its first two chunks go while the delay is 10 ms, and their deadline comes. */
+static void left_to_a_sweep(void)
+{
+    settings.delay = 10;
+    step("a run of 4 in arena 0", sirqobal_chunk_alloc_n(LENT, 0, 4), 255, SIRQOBAL_COMMIT, 4 * S, 4 * S);
+    step("the commit is done", sirqobal_answer(LENT, SIRQOBAL_COMMIT, true, 0), 0, 0, 4 * S, 0);
+    step("release 2 chunks, pending", sirqobal_chunk_release(LENT, 4 * S, 2, -1, true), 0, 0, 0, 0);
+    check("  the record", records[0].used[0] == 12 && records[0].pending[0] == 3 && records[0].committed[0] == 15 &&
+                              records[0].deadline == sirqobal_now_ms(ns) + 10);
+    ns += 20000000;
+}
+
+/* A sweep that is not forced asks nothing and leaves all, what is due too. 1 comes first. */
+static void never_sweeps(void)
+{
+    struct sirqobal_state idle = state;
+    keep_lent();
+    struct sirqobal_reply r = sirqobal_purge_due(LENT, false);
+    left("never: a sweep of what is due", r, SIRQOBAL_GRANTED, idle);
+    check("  nothing is purged", r.count == 0);
+    settings.page = 5000;
+    left("never: a sweep, no page size", sirqobal_purge_due(LENT, false), SIRQOBAL_BROKEN, idle);
+    left("never: a release, no page size", sirqobal_chunk_release(LENT, 6 * S, 1, 0, true), SIRQOBAL_BROKEN, idle);
+    settings.page = 4096;
+    left("never: a release past the end", sirqobal_chunk_release(LENT, 7 * S, 2, 0, true), SIRQOBAL_PAST_END, idle);
+}
+
+/* A pending release clears used bits and obeys what it is told. It stamps, marks and arms nothing, and what is marked
+ * stays so. */
+static void never_releases(void)
+{
+    struct sirqobal_state idle = state;
+    keep_lent();
+    left("never: release what is pending", sirqobal_chunk_release(LENT, 4 * S, 2, -1, true), SIRQOBAL_GRANTED, idle);
+    before[0].used[0] = 8;
+    before[0].committed[0] = 11;
+    left("never: release, told that it is not committed", sirqobal_chunk_release(LENT, 6 * S, 1, 0, true),
+         SIRQOBAL_GRANTED, idle);
+    before[0].used[0] = 0;
+    before[0].committed[0] = 15;
+    left("never: release, told that it is committed", sirqobal_chunk_release(LENT, 6 * S, 2, 1, true),
+         SIRQOBAL_GRANTED, idle);
+}
+
+/* Forced, it asks about what was left to a sweep, with a delay of 0. 2 comes first, and an answer's delay counts for
+ * nothing. */
+static void never_forced(int64_t delay)
+{
+    struct sirqobal_reply r;
+    r = step("never: a forced sweep", sirqobal_purge_due(LENT, true), 255, SIRQOBAL_PURGE, 4 * S, S);
+    check("  its numbers", r.decommit && state.force == 1 && state.delay == 0 && state.now == sirqobal_now_ms(ns));
+    struct sirqobal_state asking = state;
+    keep_lent();
+    left("never: a sweep meanwhile", sirqobal_purge_due(LENT, false), SIRQOBAL_QUESTION_OPEN, asking);
+    left("never: a release meanwhile", sirqobal_chunk_release(LENT, 6 * S, 1, 0, true), SIRQOBAL_QUESTION_OPEN, asking);
+    step("purged; the next chunk", sirqobal_answer(LENT, SIRQOBAL_PURGE, true, 0), 255, SIRQOBAL_PURGE, 5 * S, S);
+    settings.delay = INT64_MAX;
+    r = step("purged; the sweep ends", sirqobal_answer(LENT, SIRQOBAL_PURGE, true, 0), 0, 0, 0, 0);
+    check("  two were purged", r.count == 2 && state.question == 0);
+    check("  the record", records[0].used[0] == 0 && records[0].pending[0] == 0 && records[0].committed[0] == 12 &&
+                              records[0].deadline == 0);
+    settings.delay = delay;
+    asking = state;
+    keep_lent();
+    left("never: forced again, nothing is left to it", sirqobal_purge_due(LENT, true), SIRQOBAL_GRANTED, asking);
+}
+
+static void never(void)
+{
+    static const int64_t negative[] = {SIRQOBAL_NEVER, -2, INT64_MIN};
+    for (size_t i = 0; i < sizeof negative / sizeof negative[0]; i++) {
+        left_to_a_sweep();
+        settings.delay = negative[i];
+        printf("delay %lld\n", (long long)negative[i]);
+        check("  it counts as 0 ms", sirqobal_delay_ms(negative[i]) == 0);
+        never_sweeps();
+        never_releases();
+        never_forced(negative[i]);
+    }
+}
+
+/* The call that begins a sweep decides, not its answers. A delay of 0 is no never. */
+static void never_too_late(void)
+{
+    settings.delay = 0;
+    step("delay 0: release 2 chunks, pending", sirqobal_chunk_release(LENT, 4 * S, 2, -1, true), 0, 0, 0, 0);
+    step("a sweep at the same clock", sirqobal_purge_due(LENT, false), 255, SIRQOBAL_PURGE, 4 * S, S);
+    settings.delay = SIRQOBAL_NEVER;
+    step("answered with never; the next chunk", sirqobal_answer(LENT, SIRQOBAL_PURGE, true, 0), 255, SIRQOBAL_PURGE,
+         5 * S, S);
+    struct sirqobal_reply r = step("again; the sweep ends", sirqobal_answer(LENT, SIRQOBAL_PURGE, true, 0), 0, 0, 0, 0);
+    check("  two were purged", r.count == 2 && records[0].pending[0] == 0 && records[0].deadline == 0);
+    settings.delay = 10;
+}
+
 static void queries(void)
 {
     struct sirqobal_reply r;
@@ -225,32 +329,31 @@ static void queries(void)
 static void broken(void)
 {
     struct sirqobal_state sound = state;
-    memcpy(before, records, sizeof before);
-    memcpy(stamped, stamps, sizeof stamped);
+    keep_lent();
 
     state.question = 5;
-    refused("a question of no kind", sirqobal_chunk_alloc_n(LENT, -1, 1), SIRQOBAL_BROKEN, state);
-    refused("  the same, and an answer", sirqobal_answer(LENT, SIRQOBAL_COMMIT, true, 0), SIRQOBAL_BROKEN, state);
-    refused("  the same, and a sweep", sirqobal_purge_due(LENT, true), SIRQOBAL_BROKEN, state);
-    refused("  the same, and a query", sirqobal_owns(LENT, 4 * S), SIRQOBAL_BROKEN, state);
+    left("a question of no kind", sirqobal_chunk_alloc_n(LENT, -1, 1), SIRQOBAL_BROKEN, state);
+    left("  the same, and an answer", sirqobal_answer(LENT, SIRQOBAL_COMMIT, true, 0), SIRQOBAL_BROKEN, state);
+    left("  the same, and a sweep", sirqobal_purge_due(LENT, true), SIRQOBAL_BROKEN, state);
+    left("  the same, and a query", sirqobal_owns(LENT, 4 * S), SIRQOBAL_BROKEN, state);
     state = sound;
     state.mark = 2;
-    refused("a flag that is neither 0 nor 1", sirqobal_chunk_claim(LENT, -1), SIRQOBAL_BROKEN, state);
+    left("a flag that is neither 0 nor 1", sirqobal_chunk_claim(LENT, -1), SIRQOBAL_BROKEN, state);
     state = sound;
     state.question = SIRQOBAL_GIVE_BACK;
     state.cause = 11;
-    refused("a cause that is none", sirqobal_answer(LENT, SIRQOBAL_GIVE_BACK, true, 0), SIRQOBAL_BROKEN, state);
+    left("a cause that is none", sirqobal_answer(LENT, SIRQOBAL_GIVE_BACK, true, 0), SIRQOBAL_BROKEN, state);
     state = sound;
     state.cause = 12;
-    refused("a field that the state does not use", sirqobal_adopt_os_block(LENT, 8 * S, S), SIRQOBAL_BROKEN, state);
+    left("a field that the state does not use", sirqobal_adopt_os_block(LENT, 8 * S, S), SIRQOBAL_BROKEN, state);
     state = sound;
     state.count = 33;
-    refused("33 arenas", sirqobal_chunk_release(LENT, 4 * S, 1, -1, false), SIRQOBAL_BROKEN, state);
+    left("33 arenas", sirqobal_chunk_release(LENT, 4 * S, 1, -1, false), SIRQOBAL_BROKEN, state);
     state = sound;
-    refused("31 records", sirqobal_chunk_claim(records, 31, stamps, SIRQOBAL_STAMPS, state, ns, settings, -1),
+    left("31 records", sirqobal_chunk_claim(records, 31, stamps, SIRQOBAL_STAMPS, state, ns, settings, -1),
             SIRQOBAL_BROKEN, sound);
     settings.page = 5000;
-    refused("a page size that is none", sirqobal_chunk_claim(LENT, -1), SIRQOBAL_BROKEN, sound);
+    left("a page size that is none", sirqobal_chunk_claim(LENT, -1), SIRQOBAL_BROKEN, sound);
     settings.page = 4096;
     step("and all goes on", sirqobal_chunk_claim(LENT, -1), 0, 0, 4 * S, 0);
 }
@@ -301,8 +404,7 @@ static void join_step(const char *what, struct sirqobal_join_reply r, uint32_t n
 /* What stands in both tables, to be compared. */
 static void remember(void)
 {
-    memcpy(before, records, sizeof before);
-    memcpy(stamped, stamps, sizeof stamped);
+    keep_lent();
     memcpy(other_before, other_records, sizeof other_before);
     memcpy(other_stamped, other_stamps, sizeof other_stamped);
 }
@@ -422,6 +524,8 @@ int main(void)
     claiming();
     releasing();
     sweeping();
+    never();
+    never_too_late();
     queries();
     broken();
     flags();

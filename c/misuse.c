@@ -1,6 +1,6 @@
-/* The headers used wrongly, and at their edges: each refusal with document 01's example and what it leaves, NULL, joins
- * of what cannot be joined, hosts that answer nonsense, broken tables drawn, products of many chunks. It prints what is
- * not as it should be, and exits with 0 only if nothing is. It is C and C++ at once:
+/* The headers used wrongly, and at their edges: each refusal with document 01's example and what it leaves, NULL,
+ * delays that mean never, joins of what cannot be joined, hosts that answer nonsense, broken tables drawn, products of
+ * many chunks. It prints what is not as it should be, and exits with 0 only if nothing is. It is C and C++ at once:
  *
  *     gcc -std=c11 -Wall -Wextra -Wpedantic -Werror -Iinclude c/misuse.c build/lib/libsirqobal.a -o misuse
  *     g++ -x c++ -std=c++17 -Iinclude c/misuse.c -x none build/lib/libsirqobal.a -o misuse */
@@ -361,6 +361,69 @@ static void settle_to_the_end(void)
     r = sirqobal_table_settle(&table, sirqobal_table_sweep(&table, 1, true), scripted, &host);
     grants("a sweep of 3", r);
     check("counts 3", r.count == 3 && host.asked[SIRQOBAL_PURGE] == 3);
+}
+
+/* ---- delays that mean never */
+
+static const int64_t negative[] = {SIRQOBAL_NEVER, -2, INT64_MIN};
+#define NEGATIVE (sizeof negative / sizeof negative[0])
+
+/* The example, its first chunk pending since 1 ms and due after 11; then this delay. */
+static void one_pending(int64_t delay)
+{
+    example();
+    grants("a chunk goes, to be purged",
+           sirqobal_table_release(&table, 1000000, BASE, 1, SIRQOBAL_TOLD_COMMITTED, true));
+    check("it is marked, stamped and armed", table.records[0].pending[0] == 1 && table.stamps[0] == 1 &&
+                                                 table.records[0].deadline == 11);
+    table.settings.delay = delay;
+    before = table;
+}
+
+static void never_on_a_table(int64_t delay)
+{
+    struct script host = host_of(true, 0);
+    one_pending(delay);
+    left("never: a sweep of what is due",
+         sirqobal_table_settle(&table, sirqobal_table_sweep(&table, 100000000, false), scripted, &host),
+         SIRQOBAL_GRANTED);
+    left("never: the same chunk again",
+         sirqobal_table_release(&table, 100000000, BASE, 1, SIRQOBAL_TOLD_NOTHING, true), SIRQOBAL_GRANTED);
+    before.records[0].committed[0] = 7;
+    left("never: two more, told committed",
+         sirqobal_table_release(&table, 100000000, BASE + S, 2, SIRQOBAL_TOLD_COMMITTED, true), SIRQOBAL_GRANTED);
+    before.records[0].dirty[0] = 7; /* by the claim */
+    struct sirqobal_reply run = sirqobal_table_claim(&table, 0, 3);
+    grants("a run of all three", run);
+    check("at the base, unasked", run.address == BASE && run.committed && table.records[0].used[0] == 7);
+    grants("is released", sirqobal_table_release(&table, 100000000, BASE, 3, SIRQOBAL_TOLD_NOTHING, true));
+    check("the older mark, stamp and deadline stay", same_lent(&table, &before));
+    check("nobody is asked", host.last.kind == SIRQOBAL_NONE);
+    run = sirqobal_table_settle(&table, sirqobal_table_sweep(&table, 100000000, true), scripted, &host);
+    grants("a forced sweep", run);
+    check("purges the older one", run.count == 1 && host.asked[SIRQOBAL_PURGE] == 1 && host.last.address == BASE);
+    check("and leaves the others", table.records[0].committed[0] == 6 && table.records[0].deadline == 0);
+}
+
+/* 1 and 2 come first, forced or not. */
+static void refusals_of_never(int64_t delay)
+{
+    one_pending(delay);
+    asks("a forced sweep asks", sirqobal_table_sweep(&table, 100000000, true), SIRQOBAL_PURGE);
+    check("its delay is 0", table.state.delay == 0 && table.state.force == 1);
+    before = table;
+    left("2: a sweep", sirqobal_table_sweep(&table, 100000000, false), SIRQOBAL_QUESTION_OPEN);
+    left("2: a forced one", sirqobal_table_sweep(&table, 100000000, true), SIRQOBAL_QUESTION_OPEN);
+    left("2: a release", sirqobal_table_release(&table, 1, BASE + S, 1, 0, true), SIRQOBAL_QUESTION_OPEN);
+    table.state.mark = 2;
+    before = table;
+    left("1 before 2: a sweep", sirqobal_table_sweep(&table, 100000000, false), SIRQOBAL_BROKEN);
+    left("1 before 2: a release", sirqobal_table_release(&table, 1, BASE + S, 1, 0, true), SIRQOBAL_BROKEN);
+    one_pending(delay);
+    table.settings.page = 5000;
+    left("1: a sweep", sirqobal_table_sweep(&table, 100000000, false), SIRQOBAL_BROKEN);
+    left("1: a forced one", sirqobal_table_sweep(&table, 100000000, true), SIRQOBAL_BROKEN);
+    left("1: a release", sirqobal_table_release(&table, 1, BASE + S, 1, 0, true), SIRQOBAL_BROKEN);
 }
 
 /* ---- joins */
@@ -734,6 +797,28 @@ static bool is_full_of(const unsigned char *bytes, unsigned char byte)
     return bytes != NULL && bytes[0] == byte && memcmp(bytes, bytes + 1, S - 1) == 0;
 }
 
+/* What is released stays open, with its bytes; what was pending before goes by a forced sweep alone. */
+static void never_in_memory(int64_t delay)
+{
+    unsigned char *bytes = one_held(&memory, 7);
+    uint64_t at = (uintptr_t)bytes;
+    memory.table.settings.delay = delay;
+    check("released", sirqobal_memory_release(&memory, at, 1).number == SIRQOBAL_GRANTED);
+    check("nothing is purged", sirqobal_memory_sweep(&memory, false).count == 0);
+    check("by force, neither", sirqobal_memory_sweep(&memory, true).count == 0);
+    check("it stays open", is_open(at) && memory.table.records[0].committed[0] == 1);
+    struct sirqobal_reply run = sirqobal_memory_claim(&memory, 0, 1);
+    check("it is claimed again", run.address == at && run.committed && !run.fresh);
+    check("with every byte", is_full_of(bytes, 7));
+
+    memory.table.settings.delay = 0;
+    check("released, due at once", sirqobal_memory_release(&memory, at, 1).number == SIRQOBAL_GRANTED);
+    memory.table.settings.delay = delay;
+    check("it is left", sirqobal_memory_sweep(&memory, false).count == 0 && is_open(at) && is_full_of(bytes, 7));
+    check("until a forced sweep", sirqobal_memory_sweep(&memory, true).count == 1 && !is_open(at));
+    check("the end", sirqobal_memory_end(&memory));
+}
+
 /* The mappings go along; each end unmaps what is its own then, in either order. */
 static void joined_memory(bool first_ends_first)
 {
@@ -888,6 +973,10 @@ int main(void)
     settle_at_1();
     settle_at_3();
     settle_to_the_end();
+    for (size_t i = 0; i < NEGATIVE; i++) {
+        never_on_a_table(negative[i]);
+        refusals_of_never(negative[i]);
+    }
     joins();
     join_lengths();
     broken_joins();
@@ -898,6 +987,8 @@ int main(void)
     not_its_own();
     linux_host();
     real_memory();
+    for (size_t i = 0; i < NEGATIVE; i++)
+        never_in_memory(negative[i]);
     joined_memory(true);
     joined_memory(false);
     unjoined_memory();

@@ -129,9 +129,41 @@ static void claims(int32_t guidance)
     show();
 }
 
+/* Closed while the delay means never, ring 1 comes back as it was. */
+static void never_purged(int32_t guidance)
+{
+    int64_t delay = memory.table.settings.delay;
+    say("The purge delay is set to -1: never. Ring 1 is closed and swept, by force too: it stays.");
+    memory.table.settings.delay = SIRQOBAL_NEVER;
+    memset(sirqobal_at(ring1.address), ring1.mark, ring1.n * SIRQOBAL_CHUNK);
+    uint64_t before = resident();
+    granted(sirqobal_memory_release(&memory, ring1.address, ring1.n));
+    ring1.program = 0;
+    size_t purged = granted(sirqobal_memory_sweep(&memory, false)).count;
+    purged += granted(sirqobal_memory_sweep(&memory, true)).count;
+    printf("  %zu chunks purged\n", purged);
+    compare("0 chunks are purged", purged == 0);
+    compare("they stay resident", resident() + 1 >= before);
+    show();
+
+    say("Claimed again, its chunks still hold every byte. The delay is set back.");
+    struct sirqobal_reply again = granted(sirqobal_memory_claim(&memory, guidance, ring1.n));
+    const char *bytes = sirqobal_at(again.address);
+    uint64_t all = ring1.n * SIRQOBAL_CHUNK, kept = 0;
+    for (uint64_t i = 0; i < all; i++)
+        kept += bytes[i] == ring1.mark;
+    printf("  %llu of %llu bytes\n", (unsigned long long)kept, (unsigned long long)all);
+    compare("they are where ring 1 was", again.address == ring1.address);
+    compare("they are not fresh", !again.fresh);
+    compare("they hold every byte", kept == all);
+    ring1.program = GUIDANCE;
+    memory.table.settings.delay = delay;
+    show();
+}
+
 static void release_and_sweep(void)
 {
-    say("Ring 1 is closed: its chunks are released, and stay resident until a sweep.");
+    say("Ring 1 is closed again: its chunks are released, and stay resident until a sweep.");
     uint64_t before = resident();
     granted(sirqobal_memory_release(&memory, ring1.address, ring1.n));
     ring1.program = 0;
@@ -210,6 +242,7 @@ int main(int argc, char **argv)
     int32_t guidance = (int32_t)granted(sirqobal_memory_reserve(&memory, 6 * SIRQOBAL_CHUNK, true)).id;
     show();
     claims(guidance);
+    never_purged(guidance);
     release_and_sweep();
     refusal_and_grant(guidance);
     if (argc > 1)

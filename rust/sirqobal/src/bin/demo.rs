@@ -5,7 +5,7 @@
 #![forbid(unsafe_code)]
 
 use sirqobal::linux::{page_size, Chunks, Memory};
-use sirqobal::{saved, Layer, Refusal, ANY, CHUNK};
+use sirqobal::{saved, Layer, Refusal, ANY, CHUNK, NEVER};
 use std::env;
 use std::error::Error;
 use std::fs;
@@ -62,6 +62,7 @@ impl Drive {
         let guidance = self.memory.reserve(6 * CHUNK, true)?;
         self.show();
         self.rings(guidance)?;
+        self.never_purged(guidance)?;
         let closed = self.close_ring()?;
         self.sweep()?;
         self.next_ring(guidance, closed)?;
@@ -83,9 +84,38 @@ impl Drive {
         Ok(())
     }
 
+    /// Closed while the delay means never, ring 1 comes back as it was.
+    fn never_purged(&mut self, guidance: i32) -> Ended {
+        say("The purge delay is set to -1: never. Ring 1 is closed and swept, by force too: it stays.");
+        let delay = self.memory.options().delay;
+        self.memory.options_mut().delay = NEVER;
+        let mut ring1 = self.held.remove(0);
+        ring1.chunks.fill(ring1.mark);
+        let (closed, before) = (ring1.chunks.address(), resident());
+        self.memory.release(ring1.chunks)?;
+        let purged = self.memory.sweep(false)? + self.memory.sweep(true)?;
+        println!("  {purged} chunks purged");
+        self.compare("0 chunks are purged", purged == 0);
+        self.compare("they stay resident", resident() + 1 >= before);
+        self.show();
+
+        say("Claimed again, its chunks still hold every byte. The delay is set back.");
+        ring1.chunks = self.memory.claim(guidance, 2)?;
+        let chunks = &ring1.chunks;
+        let kept = chunks.iter().filter(|byte| **byte == ring1.mark).count();
+        println!("  {kept} of {} bytes", chunks.len());
+        self.compare("they are where ring 1 was", chunks.address() == closed);
+        self.compare("they are not fresh", !chunks.is_fresh());
+        self.compare("they hold every byte", kept == chunks.len());
+        self.held.insert(0, ring1);
+        self.memory.options_mut().delay = delay;
+        self.show();
+        Ok(())
+    }
+
     /// Where ring 1 was.
     fn close_ring(&mut self) -> Result<u64, Box<dyn Error>> {
-        say("Ring 1 is closed: its chunks are released, and stay resident until a sweep.");
+        say("Ring 1 is closed again: its chunks are released, and stay resident until a sweep.");
         let ring1 = self.held.remove(0).chunks;
         let closed = ring1.address();
         let before = resident();

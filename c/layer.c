@@ -219,7 +219,7 @@ static void sweeping(void)
 /* ---- a negative delay means never */
 
 /* All of arena 0 is held; its first two chunks go while the delay is 10 ms, and their deadline comes. */
-static void left_to_a_sweep(void)
+static void pending_and_due(void)
 {
     settings.delay = 10;
     step("a run of 4 in arena 0", sirqobal_chunk_alloc_n(LENT, 0, 4), 255, SIRQOBAL_COMMIT, 4 * S, 4 * S);
@@ -289,7 +289,7 @@ static void never(void)
 {
     static const int64_t negative[] = {SIRQOBAL_NEVER, -2, INT64_MIN};
     for (size_t i = 0; i < sizeof negative / sizeof negative[0]; i++) {
-        left_to_a_sweep();
+        pending_and_due();
         settings.delay = negative[i];
         printf("delay %lld\n", (long long)negative[i]);
         check("  it counts as 0 ms", sirqobal_delay_ms(negative[i]) == 0);

@@ -365,8 +365,12 @@ static void settle_to_the_end(void)
 
 /* ---- delays that mean never */
 
-static const int64_t negative[] = {SIRQOBAL_NEVER, -2, INT64_MIN};
-#define NEGATIVE (sizeof negative / sizeof negative[0])
+static void each_negative(void (*scene)(int64_t delay))
+{
+    static const int64_t delays[] = {SIRQOBAL_NEVER, -2, INT64_MIN};
+    for (size_t i = 0; i < sizeof delays / sizeof delays[0]; i++)
+        scene(delays[i]);
+}
 
 /* The example, its first chunk pending since 1 ms and due after 11; then this delay. */
 static void one_pending(int64_t delay)
@@ -973,10 +977,8 @@ int main(void)
     settle_at_1();
     settle_at_3();
     settle_to_the_end();
-    for (size_t i = 0; i < NEGATIVE; i++) {
-        never_on_a_table(negative[i]);
-        refusals_of_never(negative[i]);
-    }
+    each_negative(never_on_a_table);
+    each_negative(refusals_of_never);
     joins();
     join_lengths();
     broken_joins();
@@ -987,8 +989,7 @@ int main(void)
     not_its_own();
     linux_host();
     real_memory();
-    for (size_t i = 0; i < NEGATIVE; i++)
-        never_in_memory(negative[i]);
+    each_negative(never_in_memory);
     joined_memory(true);
     joined_memory(false);
     unjoined_memory();

@@ -130,7 +130,7 @@ static void claims(int32_t guidance)
 }
 
 /* Closed while the delay means never, ring 1 comes back as it was. */
-static void never_purged(int32_t guidance)
+static void keep_ring(int32_t guidance)
 {
     int64_t delay = memory.table.settings.delay;
     say("The purge delay is set to -1: never. Ring 1 is closed and swept, by force too: it stays.");
@@ -242,7 +242,7 @@ int main(int argc, char **argv)
     int32_t guidance = (int32_t)granted(sirqobal_memory_reserve(&memory, 6 * SIRQOBAL_CHUNK, true)).id;
     show();
     claims(guidance);
-    never_purged(guidance);
+    keep_ring(guidance);
     release_and_sweep();
     refusal_and_grant(guidance);
     if (argc > 1)

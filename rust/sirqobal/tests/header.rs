@@ -1,7 +1,7 @@
 //! The crate and include/sirqobal.h say the same: the texts of the refusals, and the constants.
 
 use sirqobal::lent::{QUESTION, RECORDS, STAMPS};
-use sirqobal::{Refusal, CHUNK};
+use sirqobal::{Refusal, ANY, CHUNK, NEVER};
 
 const HEADER: &str = include_str!("../../../include/sirqobal.h");
 
@@ -47,6 +47,8 @@ fn the_constants_are_the_same() {
     assert_eq!(constant("SIRQOBAL_RECORDS"), RECORDS as u64);
     assert_eq!(constant("SIRQOBAL_STAMPS"), STAMPS as u64);
     assert!(HEADER.contains(&format!("#define SIRQOBAL_QUESTION {QUESTION}\n")));
+    assert!(HEADER.contains(&format!("#define SIRQOBAL_ANY ({ANY})\n")));
+    assert!(HEADER.contains(&format!("#define SIRQOBAL_NEVER ({NEVER})\n")));
     let version = env!("CARGO_PKG_VERSION");
     assert!(HEADER.contains(&format!("#define SIRQOBAL_VERSION \"{version}\"\n")));
 }

@@ -62,7 +62,7 @@ impl Drive {
         let guidance = self.memory.reserve(6 * CHUNK, true)?;
         self.show();
         self.rings(guidance)?;
-        self.never_purged(guidance)?;
+        self.keep_ring(guidance)?;
         let closed = self.close_ring()?;
         self.sweep()?;
         self.next_ring(guidance, closed)?;
@@ -85,7 +85,7 @@ impl Drive {
     }
 
     /// Closed while the delay means never, ring 1 comes back as it was.
-    fn never_purged(&mut self, guidance: i32) -> Ended {
+    fn keep_ring(&mut self, guidance: i32) -> Ended {
         say("The purge delay is set to -1: never. Ring 1 is closed and swept, by force too: it stays.");
         let delay = self.memory.options().delay;
         self.memory.options_mut().delay = NEVER;

@@ -55,6 +55,8 @@
 //! Two layers are made one while chunks of both are held: [`linux::Memory::join`],
 //! [`Layer::join_tables`].
 //!
+//! With a purge delay of [`NEVER`] what is released keeps its memory, and its bytes.
+//!
 //! [`Picture`] shows who holds what, [`saved`] is a table in a file, and [`lent`] has the calls over
 //! tables that the program keeps itself, as C has them.
 #![warn(missing_docs)]

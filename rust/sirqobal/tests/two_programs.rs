@@ -4,7 +4,7 @@
 #![cfg(all(feature = "linux", target_os = "linux"))]
 
 use sirqobal::linux::{page_size, Chunks, Memory};
-use sirqobal::{Refusal, ANY, CHUNK};
+use sirqobal::{Refusal, ANY, CHUNK, NEVER};
 
 struct Program {
     name: u64,
@@ -101,10 +101,10 @@ impl Random {
     }
 }
 
-#[test]
-fn nobody_overwrites_the_other() {
+/// Claims, releases and sweeps with the delays in turn: how many runs were granted, and how many
+/// chunks purged.
+fn shared(delays: &[i64]) -> (usize, usize) {
     let mut memory = Memory::new();
-    memory.options_mut().delay = 1;
     memory.options_mut().reserve = 3 * CHUNK;
     let arena = memory.reserve(4 * CHUNK, true).unwrap();
     let mut guidance = Program::new(1, arena);
@@ -113,6 +113,7 @@ fn nobody_overwrites_the_other() {
     let (mut purged, mut granted) = (0, 0);
     for round in 0..120 {
         let [choice, n, which] = random.next(round);
+        memory.options_mut().delay = delays[round as usize % delays.len()];
         memory.options_mut().decommits = round % 3 != 0;
         match choice {
             0..=4 => granted += usize::from(guidance.claim(&mut memory, 1 + n % 3)),
@@ -127,10 +128,29 @@ fn nobody_overwrites_the_other() {
         guidance.check();
         recorder.check();
     }
+    (granted, purged)
+}
+
+#[test]
+fn nobody_overwrites_the_other() {
+    let (granted, purged) = shared(&[1]);
     assert!(
         granted > 30 && purged > 10,
         "{granted} granted, {purged} purged"
     );
+}
+
+/// What is pending may be claimed, released with a negative delay and swept by force.
+#[test]
+fn nobody_overwrites_the_other_with_delays_that_mean_never() {
+    let (granted, purged) = shared(&[1, NEVER, 0, NEVER, i64::MIN]);
+    assert!(
+        granted > 30 && purged > 0,
+        "{granted} granted, {purged} purged"
+    );
+    let (granted, purged) = shared(&[NEVER]);
+    assert!(granted > 30, "{granted} granted");
+    assert_eq!(purged, 0);
 }
 
 /// Each has a layer of its own with an exclusive arena; the recorder's is joined to guidance's, and

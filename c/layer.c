@@ -99,7 +99,7 @@ static void keep_lent(void)
     memcpy(stamped, stamps, sizeof stamped);
 }
 
-/* A call that leaves the records, the stamps and the state as they were. */
+/* The reply has this number alone; records, stamps and state are as they were kept. */
 static void left(const char *what, struct sirqobal_reply r, uint32_t number, struct sirqobal_state was)
 {
     step(what, r, number, 0, 0, 0);
@@ -280,9 +280,9 @@ static void never_forced(int64_t delay)
     check("  the record", records[0].used[0] == 0 && records[0].pending[0] == 0 && records[0].committed[0] == 12 &&
                               records[0].deadline == 0);
     settings.delay = delay;
-    asking = state;
+    struct sirqobal_state idle = state;
     keep_lent();
-    left("never: forced again, nothing is left to it", sirqobal_purge_due(LENT, true), SIRQOBAL_GRANTED, asking);
+    left("never: forced again, nothing is left to it", sirqobal_purge_due(LENT, true), SIRQOBAL_GRANTED, idle);
 }
 
 static void never(void)
@@ -351,7 +351,7 @@ static void broken(void)
     left("33 arenas", sirqobal_chunk_release(LENT, 4 * S, 1, -1, false), SIRQOBAL_BROKEN, state);
     state = sound;
     left("31 records", sirqobal_chunk_claim(records, 31, stamps, SIRQOBAL_STAMPS, state, ns, settings, -1),
-            SIRQOBAL_BROKEN, sound);
+         SIRQOBAL_BROKEN, sound);
     settings.page = 5000;
     left("a page size that is none", sirqobal_chunk_claim(LENT, -1), SIRQOBAL_BROKEN, sound);
     settings.page = 4096;

@@ -372,7 +372,7 @@ static void each_negative(void (*scene)(int64_t delay))
         scene(delays[i]);
 }
 
-/* The example, its first chunk pending since 1 ms and due after 11; then this delay. */
+/* The example, its first chunk pending since 1 ms and due at 11; then this delay. */
 static void one_pending(int64_t delay)
 {
     example();

@@ -8,9 +8,9 @@ use Rattle.layer.specs.declared.Answer.the-variants.{Swept}
 use Rattle.layer.specs.History.{Lent, outcomeBy}
 use Rattle.layer_laws.specs.sweep_runs.Run.{asksPurge, isRefused}
 use Rattle.options.specs.Options.{documentedDelay}
-use Rattle.layer_laws.specs.documented.Options.{Never, NothingPurged}
+use Rattle.layer_laws.specs.documented.Options.{SaidNever, NothingPurged}
 use Rattle.layer_laws.proofs.never.Delay.{means-never}
-use Rattle.layer_laws.specs.never.Delay.{Does, withDelay, below, oneAndTwo, MeansNever}
+use Rattle.layer_laws.specs.never.Delay.{Handler, withDelay, below, firstRows, MeansNever}
 use Rattle.document_cases.specs.Example.{S, plain}
 use Rattle.document_cases.specs.Refused.{short}
 use Rattle.document_cases.specs.Joined.{stampIn0}
@@ -35,7 +35,7 @@ first o = at (o .world .records) 0
 
 -- ---- the calls, at 50 ms: with −1, with −2, and with 0
 
-abbrev at50 : Does → ℕ → World → Call → Outcome
+abbrev at50 : Handler → ℕ → World → Call → Outcome
 at50 D m w c = D w 50000000 (below plain m) c
 
 abbrev unforced : Call
@@ -49,7 +49,7 @@ abbrev asked : World
 asked = tableOf 7 7 10 0 stampIn0 (purgeAt false 1 0)
 
 abbrev swept : World → Outcome
-swept w = firstOf (oneAndTwo w plain) (outcome (Swept 0) w)
+swept w = firstOf (firstRows w plain) (outcome (Swept 0) w)
 
 -- ---- a history with −1 in every call: a chunk is managed, released and swept
 
@@ -149,10 +149,10 @@ facts = record {
 -- ---- each fails
 
 clamp-only : MeansNever clampOnly → ⊥
-clamp-only d = let e : _≡_ {A = ℕ} 1 0 = sym (facts .clamp-asks) ∙ ap asks (d .sweeps-none older 50000000 plain 0) ∙ facts .none-asked in omega (arith, e)
+clamp-only d = let e : _≡_ {A = ℕ} 1 0 = sym (facts .clamp-asks) ∙ ap asks (d .unforced-leaves-all older 50000000 plain 0) ∙ facts .none-asked in omega (arith, e)
 
 minus-one-only : MeansNever minusOneOnly → ⊥
-minus-one-only d = let e : _≡_ {A = ℕ} 1 0 = sym (facts .two-asks) ∙ ap asks (d .sweeps-none older 50000000 plain 1) ∙ facts .none-asked in omega (arith, e)
+minus-one-only d = let e : _≡_ {A = ℕ} 1 0 = sym (facts .two-asks) ∙ ap asks (d .unforced-leaves-all older 50000000 plain 1) ∙ facts .none-asked in omega (arith, e)
 
 longest-delay : MeansNever longestDelay → ⊥
 longest-delay d = let e : _≡_ {A = ℕ} 3 2 = sym (facts .longest-marks) ∙ ap front (d .pends-nothing older 50000000 plain 0 base 1 Untold true .marks 0) in omega (arith, e)
@@ -185,10 +185,10 @@ tells-nothing d =
     omega (arith, e)
 
 disarms-due : MeansNever disarms → ⊥
-disarms-due d = let e : _≡_ {A = ℕ} 0 20 = sym (facts .disarmed) ∙ ap (λ (o : Outcome). first o .deadline) (d .sweeps-none older 50000000 plain 0) ∙ facts .armed-stays in omega (arith, e)
+disarms-due d = let e : _≡_ {A = ℕ} 0 20 = sym (facts .disarmed) ∙ ap (λ (o : Outcome). first o .deadline) (d .unforced-leaves-all older 50000000 plain 0) ∙ facts .armed-stays in omega (arith, e)
 
 before-rows : MeansNever beforeRows → ⊥
-before-rows d = let e : _≡_ {A = ℕ} 0 1 = sym (facts .not-refused) ∙ ap refuses (d .sweeps-none short 50000000 plain 0) ∙ facts .refused-first in omega (arith, e)
+before-rows d = let e : _≡_ {A = ℕ} 0 1 = sym (facts .not-refused) ∙ ap refuses (d .unforced-leaves-all short 50000000 plain 0) ∙ facts .refused-first in omega (arith, e)
 
 forced-finds-none : MeansNever forcedFindsNone → ⊥
 forced-finds-none d = let e : _≡_ {A = ℕ} 0 1 = sym (facts .none-forced) ∙ ap asks (d .forced-as-before older 50000000 plain 0) ∙ facts .forced-asks in omega (arith, e)
@@ -198,7 +198,7 @@ answers-end d =
     let e : _≡_ {A = ℕ} 0 1 = sym (facts .ended) ∙ ap asks (d .others-read-none asked 50000000 plain (negsuc 0) (answer ForPurge true 0) refl) ∙ facts .goes-on in
     omega (arith, e)
 
-clamp-purges : NothingPurged Never (butCalls clampOnly) → ⊥
+clamp-purges : NothingPurged SaidNever (butCalls clampOnly) → ⊥
 unfolding documentedDelay
 clamp-purges d = let e : _≡_ {A = ℕ} 1 0 = sym (facts .purges) ∙ d calls sweeps (facts .lent) (((tt, refl), refl), refl) in omega (arith, e)
 

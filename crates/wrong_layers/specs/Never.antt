@@ -17,17 +17,17 @@ use Rattle.layer.specs.World.{World, Outcome, outcome, worldOf, calm}
 use Rattle.layer.specs.Table.{at}
 use Rattle.layer.specs.Step.{reserve, manage, adopt, claim, release, sweep, Call, act, query, answer, step}
 use Rattle.layer.specs.History.{isAnswer}
-use Rattle.layer_laws.specs.never.Delay.{Does, withDelay, MeansNever}
-use Rattle.layer_laws.specs.documented.Options.{Never, NothingPurged}
+use Rattle.layer_laws.specs.never.Delay.{Handler, withDelay, MeansNever}
+use Rattle.layer_laws.specs.documented.Options.{SaidNever, NothingPurged}
 use Rattle.wrong_layers.specs.Wrong.{butCalls}
 
 -- ---- with another delay
 
-abbrev pub delayedBy : (ℤ → ℤ) → Does
+abbrev pub delayedBy : (ℤ → ℤ) → Handler
 delayedBy other w ns settings c = step w ns (withDelay settings (other (settings .delay))) c
 
 -- the rules before the wish: the clamp alone, so that a negative delay is 0
-abbrev pub clampOnly : Does
+abbrev pub clampOnly : Handler
 clampOnly = delayedBy (λ d. pos (delayMs d))
 
 -- −1 alone means never
@@ -36,7 +36,7 @@ minusOne (pos n) = pos n
 minusOne (negsuc zero) = negsuc zero
 minusOne (negsuc (suc m)) = pos 0
 
-abbrev pub minusOneOnly : Does
+abbrev pub minusOneOnly : Handler
 minusOneOnly = delayedBy minusOne
 
 -- never is the longest delay
@@ -44,11 +44,11 @@ abbrev pub longest : ℤ → ℤ
 longest (pos n) = pos n
 longest (negsuc m) = pos 1073741823
 
-abbrev pub longestDelay : Does
+abbrev pub longestDelay : Handler
 longestDelay = delayedBy longest
 
 -- the test is of the clamped delay: 0 means never too
-abbrev pub clampedZero : Does
+abbrev pub clampedZero : Handler
 clampedZero = delayedBy (λ d. cond (eqb (delayMs d) 0) (negsuc 0) d)
 
 -- ---- pending releases with a negative delay
@@ -64,7 +64,7 @@ isPending (query c) = false
 isPending (answer kind granted base) = false
 
 -- what comes of one, by what the rules make of it and by what the clamp alone makes of it
-abbrev pub butPending : (World → Outcome → Outcome → Outcome) → Does
+abbrev pub butPending : (World → Outcome → Outcome → Outcome) → Handler
 butPending wrong w ns settings c =
     cond (neverPurges (settings .delay) && isPending c) (wrong w (step w ns settings c) (clampOnly w ns settings c)) (step w ns settings c)
 
@@ -73,21 +73,21 @@ abbrev pub changedFirst : (Arena → Arena) → Outcome → Outcome
 changedFirst change o = outcome (o .answer) (worldOf (set (o .world .records) 0 (change (at (o .world .records) 0))) (o .world .stamps) (o .world .state))
 
 -- nothing at all is done: the used bits stay
-abbrev pub keepsUsed : Does
+abbrev pub keepsUsed : Handler
 keepsUsed = butPending (λ w right clamp. outcome (right .answer) w)
 
 -- the marks are taken away
-abbrev pub unmarks : Does
+abbrev pub unmarks : Handler
 unmarks = butPending (λ w right clamp. changedFirst (λ a. withPending a noBits) right)
 
 -- it stamps, marks or arms still
-abbrev pub stampsStill : Does
+abbrev pub stampsStill : Handler
 stampsStill = butPending (λ w right clamp. outcome (right .answer) (worldOf (right .world .records) (clamp .world .stamps) (right .world .state)))
 
-abbrev pub marksStill : Does
+abbrev pub marksStill : Handler
 marksStill = butPending (λ w right clamp. changedFirst (λ a. withPending a (at (clamp .world .records) 0 .pending)) right)
 
-abbrev pub armsStill : Does
+abbrev pub armsStill : Handler
 armsStill = butPending (λ w right clamp. changedFirst (λ a. withDeadline a (at (clamp .world .records) 0 .deadline)) right)
 
 -- what is told is not obeyed
@@ -101,7 +101,7 @@ untold (act (sweep force)) = act (sweep force)
 untold (query c) = query c
 untold (answer kind granted base) = answer kind granted base
 
-abbrev pub tellsNothing : Does
+abbrev pub tellsNothing : Handler
 tellsNothing w ns settings c = cond (neverPurges (settings .delay) && isPending c) (step w ns settings (untold c)) (step w ns settings c)
 
 -- ---- sweeps with a negative delay
@@ -116,22 +116,22 @@ isSweep forced (act (claim id n commits)) = false
 isSweep forced (query c) = false
 isSweep forced (answer kind granted base) = false
 
-abbrev pub butSweeps : Bool → (World → Outcome → Outcome) → Does
+abbrev pub butSweeps : Bool → (World → Outcome → Outcome) → Handler
 butSweeps forced wrong w ns settings c = cond (neverPurges (settings .delay) && isSweep forced c) (wrong w (step w ns settings c)) (step w ns settings c)
 
 -- an unforced one disarms, or comes before rows 1 and 2
-abbrev pub disarms : Does
+abbrev pub disarms : Handler
 disarms = butSweeps false (λ w right. changedFirst (λ a. withDeadline a 0) right)
 
-abbrev pub beforeRows : Does
+abbrev pub beforeRows : Handler
 beforeRows = butSweeps false (λ w right. outcome (Swept 0) w)
 
 -- a forced one finds nothing
-abbrev pub forcedFindsNone : Does
+abbrev pub forcedFindsNone : Handler
 forcedFindsNone = butSweeps true (λ w right. outcome (Swept 0) w)
 
 -- an answer ends the sweep that another delay began
-abbrev pub answersEnd : Does
+abbrev pub answersEnd : Handler
 answersEnd w ns settings c =
     cond (neverPurges (settings .delay) && isAnswer c) (outcome (Swept 0) (worldOf (w .records) (w .stamps) (calm (w .state .count) (w .state .mark)))) (step w ns settings c)
 
@@ -153,4 +153,4 @@ pub record NeverFails : Type 0 where
   pub forced-finds-none : MeansNever forcedFindsNone → ⊥
   pub answers-end : MeansNever answersEnd → ⊥
   -- and the rules before the wish purge where mimalloc.h documents never
-  pub clamp-purges : NothingPurged Never (butCalls clampOnly) → ⊥
+  pub clamp-purges : NothingPurged SaidNever (butCalls clampOnly) → ⊥

@@ -22,7 +22,7 @@ use Rattle.layer.proofs.Sweeps.{all-or-none}
 use Rattle.layer.proofs.Joins.{Comes, both-stay, one-table, join-comes}
 use Rattle.layer_laws.specs.sweep_runs.Run.{asksPurge, isPurging}
 use Rattle.layer_laws.specs.joined.Join.{OneTable}
-use Rattle.layer_laws.specs.documented.Options.{EachDelay, NothingPurged, Never, Negative}
+use Rattle.layer_laws.specs.documented.Options.{EachDelay, NothingPurged, SaidNever, Negative}
 use Rattle.layer_laws.proofs.never.Delay.{stays-at, told-deadline}
 use Rattle.layer_laws.proofs.joined.Join.{by-the-wish}
 
@@ -260,5 +260,5 @@ each-other P Q f begin e = tt
 each-other P Q f (next h m) e = (each-other P Q f h (e .0), f _ (e .1))
 each-other P Q f (joining side h g m) e = (each-other P Q f h (e .0), each-other P Q f g (e .1))
 
-pub documented-never : NothingPurged Never byRules
-documented-never h m lent each = nothing-purged h m lent (each-other Never Negative never-is-negative (next h m) each)
+pub documented-never : NothingPurged SaidNever byRules
+documented-never h m lent each = nothing-purged h m lent (each-other SaidNever Negative never-is-negative (next h m) each)

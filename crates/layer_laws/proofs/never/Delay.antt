@@ -11,7 +11,7 @@ use Rattle.layer.specs.Answering.{isIdle}
 use Rattle.layer.proofs.Tools.{at-same, at-other}
 use Rattle.layer.proofs.Cases.{release-in-cases, release-cases}
 use Rattle.layer.proofs.Calls.{act-cases}
-use Rattle.layer_laws.specs.never.Delay.{withDelay, below, NothingPended, PendsNothing, ReleasesUnpended, SweepsNone, ForcedAsBefore, ReleasesFromZero, SweepsFromZero, OthersReadNone, readsDelay, MeansNever}
+use Rattle.layer_laws.specs.never.Delay.{withDelay, below, NothingPended, PendsNothing, ReleasesUnpended, UnforcedLeavesAll, ForcedAsBefore, ReleasesFromZero, SweepsFromZero, OthersReadNone, readsDelay, MeansNever}
 
 -- ---- a record after a store that leaves one thing of it
 
@@ -86,9 +86,9 @@ past-two (Purging i j w) x f = refl
 past-two (Reserving chunks bytes commit exclusive waiting) x f = refl
 past-two (GivingBack cause waiting) x f = refl
 
-sweeps-none : SweepsNone step
+unforced-leaves-all : UnforcedLeavesAll step
 unfolding rules neverPurges sweptReply
-sweeps-none w ns settings m =
+unforced-leaves-all w ns settings m =
     ap (λ (o : Outcome). cond (not (sound (sizeOf (w .state)) w (settings .page))) (outcome (Refused Broken) w) o)
     (past-two (w .state .question) (outcome (Refused QuestionOpen) w) (λ q. outcome (Swept 0) (worldOf (w .records) (w .stamps) (stateWith (w .state .count) (w .state .mark) q))))
 
@@ -118,7 +118,7 @@ pub means-never : MeansNever step
 means-never = record {
   pends-nothing = pends-nothing;
   releases-unpended = releases-unpended;
-  sweeps-none = sweeps-none;
+  unforced-leaves-all = unforced-leaves-all;
   forced-as-before = forced-as-before;
   releases-from-zero = releases-from-zero;
   sweeps-from-zero = sweeps-from-zero;

@@ -48,8 +48,8 @@ abbrev pub NothingPurged : (ℤ → Type 0) → Layer → Type 0
 NothingPurged P L = (h : History) (m : Marked) → Lent L (next h m) → EachDelay P (next h m) → asksPurge (outcomeBy L m .answer) ≡ 0
 
 -- what is documented as never, and every negative delay, of which only −1 is documented
-abbrev pub Never : ℤ → Type 0
-Never d = documentedDelay d ≡ never
+abbrev pub SaidNever : ℤ → Type 0
+SaidNever d = documentedDelay d ≡ never
 
 abbrev pub Negative : ℤ → Type 0
 Negative d = (m : ℕ) × (d ≡ negsuc m)

@@ -19,8 +19,8 @@ use Rattle.layer.specs.Sweeping.{sweepFrom}
 use Rattle.layer.specs.Step.{reserve, manage, adopt, claim, release, sweep, Call, act, query, answer, step}
 
 -- what is done with a call
-abbrev pub Does : Type 0
-Does = World → ℕ → Settings → Call → Outcome
+abbrev pub Handler : Type 0
+Handler = World → ℕ → Settings → Call → Outcome
 
 -- the settings with another purge delay; "A negative delay" is −1 − m, for any m
 abbrev pub withDelay : Settings → ℤ → Settings
@@ -30,8 +30,8 @@ abbrev pub below : Settings → ℕ → Settings
 below settings m = withDelay settings (negsuc m)
 
 -- "Order: 1; then 2"
-abbrev pub oneAndTwo : World → Settings → List (Row Outcome)
-oneAndTwo w settings = refuse w Broken (not (sound (sizeOf (w .state)) w (settings .page))) ∷ refuse w QuestionOpen (not (isIdle (w .state .question))) ∷ []
+abbrev pub firstRows : World → Settings → List (Row Outcome)
+firstRows w settings = refuse w Broken (not (sound (sizeOf (w .state)) w (settings .page))) ∷ refuse w QuestionOpen (not (isIdle (w .state .question))) ∷ []
 
 -- ---- releases
 
@@ -42,13 +42,13 @@ pub record NothingPended (w v : World) : Type 0 where
   pub deadlines : (i : ℕ) → at (v .records) i .deadline ≡ at (w .records) i .deadline
 
 -- "a pending release stamps nothing, marks nothing and arms nothing", and takes no older mark away
-abbrev pub PendsNothing : Does → Type 0
+abbrev pub PendsNothing : Handler → Type 0
 PendsNothing D =
     (w : World) (ns : ℕ) (settings : Settings) (m address n : ℕ) (told : Commitment) (pending : Bool)
     → NothingPended w (D w ns (below settings m) (act (release address n told pending)) .world)
 
 -- what it does besides is document 01's: a release that is not pending, which no delay moves
-abbrev pub ReleasesUnpended : Does → Type 0
+abbrev pub ReleasesUnpended : Handler → Type 0
 ReleasesUnpended D =
     (w : World) (ns : ℕ) (settings : Settings) (m address n : ℕ) (told : Commitment) (pending : Bool)
     → D w ns (below settings m) (act (release address n told pending)) ≡ step w ns (withDelay settings (pos 0)) (act (release address n told false))
@@ -56,32 +56,32 @@ ReleasesUnpended D =
 -- ---- sweeps
 
 -- "an unforced sweep puts no question and leaves deadlines": it has swept none, and nothing moves
-abbrev pub SweepsNone : Does → Type 0
-SweepsNone D =
-    (w : World) (ns : ℕ) (settings : Settings) (m : ℕ) → D w ns (below settings m) (act (sweep false)) ≡ firstOf (oneAndTwo w settings) (outcome (Swept 0) w)
+abbrev pub UnforcedLeavesAll : Handler → Type 0
+UnforcedLeavesAll D =
+    (w : World) (ns : ℕ) (settings : Settings) (m : ℕ) → D w ns (below settings m) (act (sweep false)) ≡ firstOf (firstRows w settings) (outcome (Swept 0) w)
 
 -- "a forced sweep works as before": as with a delay of 0
-abbrev pub ForcedAsBefore : Does → Type 0
+abbrev pub ForcedAsBefore : Handler → Type 0
 ForcedAsBefore D =
     (w : World) (ns : ℕ) (settings : Settings) (m : ℕ) → D w ns (below settings m) (act (sweep true)) ≡ step w ns (withDelay settings (pos 0)) (act (sweep true))
 
 -- ---- "Document 01's clamp then holds for delays from 0"
 
-abbrev pub ReleasesFromZero : Does → Type 0
+abbrev pub ReleasesFromZero : Handler → Type 0
 ReleasesFromZero D =
     (w : World) (ns : ℕ) (settings : Settings) (d address n : ℕ) (told : Commitment) (pending : Bool)
     → D w ns (withDelay settings (pos d)) (act (release address n told pending))
-    ≡ firstOf (oneAndTwo w settings)
+    ≡ firstOf (firstRows w settings)
     (releaseOf (sizeOf (w .state)) (w .records) (w .stamps) (w .state .count) (w .state .mark) address n told pending (nowMs ns) (min d 1073741823))
 
 abbrev pub clamped : Bool → ℕ → Settings → ℕ → Sweep
 clamped force ns settings d = record { force = force; now = nowMs ns; delay = min d 1073741823; decommit = settings .decommits; purged = 0 }
 
-abbrev pub SweepsFromZero : Does → Type 0
+abbrev pub SweepsFromZero : Handler → Type 0
 SweepsFromZero D =
     (w : World) (ns : ℕ) (settings : Settings) (d : ℕ) (force : Bool)
     → D w ns (withDelay settings (pos d)) (act (sweep force))
-    ≡ firstOf (oneAndTwo w settings)
+    ≡ firstOf (firstRows w settings)
     (sweepFrom (sizeOf (w .state)) (w .stamps) (w .state .count) (w .state .mark) (clamped force ns settings d) (w .state .count) 0 (w .records))
 
 -- ---- the other calls
@@ -97,15 +97,15 @@ readsDelay (query c) = false
 readsDelay (answer kind granted base) = false
 
 -- no other call is moved by the delay: an answer to a sweep's question goes on by the settings of the call that began it
-abbrev pub OthersReadNone : Does → Type 0
+abbrev pub OthersReadNone : Handler → Type 0
 OthersReadNone D =
     (w : World) (ns : ℕ) (settings : Settings) (d : ℤ) (c : Call) → readsDelay c ≡ false → D w ns (withDelay settings d) c ≡ step w ns settings c
 
 -- WISH 2, of what answers calls
-pub record MeansNever (D : Does) : Type 0 where
+pub record MeansNever (D : Handler) : Type 0 where
   pub pends-nothing : PendsNothing D
   pub releases-unpended : ReleasesUnpended D
-  pub sweeps-none : SweepsNone D
+  pub unforced-leaves-all : UnforcedLeavesAll D
   pub forced-as-before : ForcedAsBefore D
   pub releases-from-zero : ReleasesFromZero D
   pub sweeps-from-zero : SweepsFromZero D

@@ -194,6 +194,12 @@ static uint32_t delay_ms(int64_t delay)
     return delay < 0 ? 0 : delay > 1073741823 ? 1073741823 : (uint32_t)delay;
 }
 
+/* A negative delay means that nothing is purged, unless a sweep is forced. */
+static bool never_purges(int64_t delay)
+{
+    return delay < 0;
+}
+
 /* Milliseconds wrap at 2^32, so the earlier of two is told by their difference. */
 static void arm(struct sirqobal_arena *arena, uint32_t due)
 {
@@ -341,7 +347,7 @@ struct sirqobal_reply reference_chunk_release(LENT, uint64_t address, size_t n, 
     write_run(arena->used, start, n, false);
     if (told >= 0)
         write_run(arena->committed, start, n, told > 0);
-    if (pending) {
+    if (pending && !never_purges(settings.delay)) {
         uint32_t now = now_ms(ns);
         for (size_t j = 0; j < n; j++)
             stamps[MAX_CHUNKS * id + start + j] = now;
@@ -425,6 +431,8 @@ struct sirqobal_reply reference_purge_due(LENT, bool force)
     uint32_t number = turned_down(records, record_count, stamp_count, &state, settings.page);
     if (number != 0)
         return refuse(number, state);
+    if (!force && never_purges(settings.delay))
+        return (struct sirqobal_reply){.state = state};
     state.question = SIRQOBAL_PURGE;
     state.force = force;
     state.now = now_ms(ns);

@@ -3,6 +3,10 @@
 //! while each question is open. Refusals 1, 2, 3 and 6, which the original does not have, are
 //! compared with document 01 by a table of cases first.
 //!
+//! Delays are of both kinds. The original takes a negative one for 0; document 02 says otherwise of pending releases
+//! and unforced sweeps: these are compared, all of the table, with a model written from that paper, and the
+//! original goes on beside them by the same release not pending, or no sweep.
+//!
 //! Up to three layers stand side by side and are joined now and then. The original has no join: each is
 //! compared with a model written from document 02, all of both tables, and the joined layer goes on
 //! beside an original with the same arenas.

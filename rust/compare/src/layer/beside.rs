@@ -8,9 +8,10 @@ use super::joined::{self, Joined, Said};
 use super::pair::Pair;
 use super::plain::Table;
 use super::smallest::{smallest, smallest_join};
-use super::{edges, join_states, Moment, Step};
+use super::{edges, join_states, never, Moment, Step};
 use crate::rng::Rng;
 use oracle::layer as rust;
+use sirqobal::lent::Call;
 use sirqobal::Layer;
 
 /// Some layers, of which one has its original in the statics.
@@ -33,6 +34,8 @@ struct One {
     came: Vec<bool>,
     /// Joins have emptied it.
     emptied: bool,
+    /// A pending release with a negative delay was granted in it, or in one that it was joined from.
+    never: bool,
 }
 
 impl One {
@@ -48,6 +51,7 @@ impl One {
             steps: Vec::new(),
             came: vec![false; start.state().count],
             emptied: false,
+            never: false,
         }
     }
 
@@ -115,6 +119,11 @@ impl Beside {
         })?;
         counts.note(self.ns, &moment, &call, &agreed, &one.pair.ours);
         counts.note_moved(&call, &agreed, &one.pair.ours, &one.came);
+        if one.never {
+            counts.note_never(&moment, &call, &agreed);
+        }
+        let releases = matches!(call, Call::ChunkRelease { .. }) && agreed.reply.number == 0;
+        one.never |= releases && never::speaks_of(moment.delay, &call);
         one.came.resize(one.pair.ours.state().count, false);
         self.ns = moment.ns;
         Ok(())
@@ -186,6 +195,8 @@ impl Beside {
         self.layers[first].came.resize(count, true);
         self.layers[second].came.clear();
         self.layers[second].emptied = true;
+        let never = std::mem::take(&mut self.layers[second].never);
+        self.layers[first].never |= never;
         for (at, left) in [(first, joined.first), (second, joined.second)] {
             self.stand(at);
             let layer = &mut self.layers[at];

@@ -2,7 +2,7 @@
 
 use super::document::{arenas, has_run};
 use super::pair::{claims, ones, Agreed};
-use super::{join_states, Moment, CHUNK, PAGES};
+use super::{join_states, never_states, Moment, CHUNK, PAGES};
 use crate::NUMBERS;
 use sirqobal::lent::Call;
 use sirqobal::{Ask, Layer};
@@ -22,7 +22,9 @@ pub struct Counts {
 /// All that is to be reached, and how often at least.
 fn wanted() -> impl Iterator<Item = (&'static str, u64)> {
     let calls = WANTED.iter().map(|what| (*what, 1));
-    calls.chain(join_states::WANTED.iter().copied())
+    let joins = join_states::WANTED.iter();
+    let others = joins.chain(never_states::WANTED);
+    calls.chain(others.copied())
 }
 
 /// What the calls are to reach, beside every refusal.
@@ -92,6 +94,16 @@ impl Counts {
             self.claim(id, n, agreed, layer);
         }
         self.sweep(agreed, layer);
+        for state in &agreed.never {
+            self.reach(state, true);
+        }
+    }
+
+    /// Notes what a call reached on a layer on which a negative delay left nothing pending before.
+    pub fn note_never(&mut self, moment: &Moment, call: &Call, agreed: &Agreed) {
+        if let Some(state) = never_states::afterwards(moment, call, agreed) {
+            self.reach(state, true);
+        }
     }
 
     fn meanwhile(&mut self, agreed: &Agreed) {

@@ -216,12 +216,7 @@ impl Player {
     pub fn any_moment(&self, rng: &mut Rng) -> Moment {
         Moment {
             ns: rng.bits(),
-            delay: match rng.below(12) {
-                0 => rng.bits() as i64,
-                1 => rng.pick(&[-1, i64::MIN, 1_073_741_823, 1_073_741_824]),
-                2..=3 => 0,
-                _ => rng.pick(&[1, 5, 10, 10, 100]),
-            },
+            delay: any_delay(rng),
             decommits: rng.percent(50),
             off: rng.percent(4),
             reserve: rng.pick(self.theme.reserves),
@@ -537,6 +532,23 @@ impl Source for Drawn<'_> {
         given.before.extend(self.join(ask));
         self.given.push(given.clone());
         given
+    }
+}
+
+/// A purge delay. One of six is negative, and of these a half -1.
+pub fn any_delay(rng: &mut Rng) -> i64 {
+    match rng.below(12) {
+        0 => -1,
+        1 => match rng.below(4) {
+            0 => -2,
+            1 => i64::MIN,
+            2 => -3 - rng.below(2_000) as i64,
+            _ => !(rng.bits() >> 1) as i64,
+        },
+        2 => rng.pick(&[1_073_741_823, 1_073_741_824, i64::MAX]),
+        3 => (rng.bits() >> rng.between(1, 63)) as i64,
+        4..=5 => 0,
+        _ => rng.pick(&[1, 5, 10, 10, 100]),
     }
 }
 

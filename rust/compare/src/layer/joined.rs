@@ -127,7 +127,7 @@ pub fn make(first: &Table, second: &Table, moment: Moment) -> Result<Said, Strin
 }
 
 /// The first place at which two lists of one length differ.
-fn differing<T: PartialEq>(these: &[T], those: &[T]) -> Option<usize> {
+pub fn differing<T: PartialEq>(these: &[T], those: &[T]) -> Option<usize> {
     match these == those {
         true => None,
         false => these

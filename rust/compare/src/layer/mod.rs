@@ -8,6 +8,8 @@ pub mod edges;
 pub mod join_cases;
 pub mod join_states;
 pub mod joined;
+pub mod never;
+pub mod never_states;
 pub mod pair;
 pub mod plain;
 pub mod reference;

@@ -3,7 +3,7 @@
 //! original gets the same answer.
 
 use super::plain::Table;
-use super::{document, join_states, joined};
+use super::{document, join_states, joined, never, never_states};
 use super::{Given, Meanwhile, Other, Step};
 use oracle::layer as rust;
 use sirqobal::lent::{Call, Reply, State};
@@ -37,6 +37,8 @@ pub struct Agreed {
     pub made: Vec<(Moment, Call)>,
     /// Arenas whose deadline was 1 before.
     pub ones: usize,
+    /// What was reached of negative delays.
+    pub never: Vec<&'static str>,
 }
 
 /// Arenas whose deadline is 1: as 0 becomes when it is armed.
@@ -45,9 +47,13 @@ pub fn ones(layer: &Layer) -> usize {
     arenas.filter(|arena| arena.deadline == 1).count()
 }
 
+/// Makes a call on our layer.
+pub type Make = fn(&mut Layer, Moment, Call) -> Reply;
+
 /// Our layer and the original's, which is static, in the same state.
 pub struct Pair {
     pub ours: Layer,
+    make: Make,
     /// As it was lent first, or left by the last join: what lies past the arenas that stand is not
     /// written by any other call.
     start: Table,
@@ -56,10 +62,16 @@ pub struct Pair {
 impl Pair {
     /// Both in this state, whose table is sound and in which no question is open.
     pub fn holding(layer: &Layer) -> Pair {
+        Pair::made_by(layer, Layer::call)
+    }
+
+    /// The same, with calls on ours made by another: a wrong one is to be found out.
+    pub fn made_by(layer: &Layer, make: Make) -> Pair {
         let records: Vec<rust::Record> = document::arenas(layer).iter().map(record).collect();
         rust::load(layer.state().mark == 1, &records, layer.stamps());
         Pair {
             ours: layer.clone(),
+            make,
             start: Table::of(layer),
         }
     }
@@ -90,8 +102,13 @@ impl Pair {
         let refused = document::at_once(&self.ours, &moment, &call);
         let before = self.ours.state();
         let ones = ones(&self.ours);
+        let never = never::said(&self.ours, &moment, &call);
+        let mut reached = never_states::before(&self.ours, &moment, &call, refused);
         let (rust, agreed) = self.both(moment, call, source, refused)?;
         let reply = agreed.reply;
+        if let Some(said) = never {
+            said.is(&reply, self.ours.records(), self.ours.stamps())?;
+        }
         let said = numbered(refused, rust)?;
         let expected = Reply {
             state: idle(said.number, before, reply.state),
@@ -109,9 +126,11 @@ impl Pair {
                 return Err("both refused with 10, and there is such a run".into());
             }
         }
+        reached.extend(never_states::swept(&agreed));
         Ok(Agreed {
             before,
             ones,
+            never: reached,
             ..agreed
         })
     }
@@ -124,10 +143,11 @@ impl Pair {
         source: &mut dyn Source,
         refused: Option<u32>,
     ) -> Result<(Reply, Agreed), String> {
-        let reply = self.ours.call(moment, call);
+        let reply = (self.make)(&mut self.ours, moment, call);
         carry(&moment, &call);
         let mut bridge = Bridge {
             ours: &mut self.ours,
+            make: self.make,
             source,
             agreed: Agreed {
                 reply,
@@ -137,9 +157,10 @@ impl Pair {
             difference: None,
         };
         // With 1, 3 and 6 the original is not called: it knows no such refusal.
-        let rust = match refused {
-            Some(1 | 3 | 6) => REFUSED,
-            _ => bridge.rust(call),
+        let rust = match (refused, never::for_original(moment.delay, call)) {
+            (Some(1 | 3 | 6), _) => REFUSED,
+            (_, Some(call)) => bridge.rust(call),
+            (_, None) => Reply::default(),
         };
         match bridge.difference {
             Some(difference) => Err(difference),
@@ -231,6 +252,7 @@ fn carry(moment: &Moment, call: &Call) {
 /// Stands as the original's OS while ours waits for the same answer.
 struct Bridge<'a> {
     ours: &'a mut Layer,
+    make: Make,
     source: &'a mut dyn Source,
     /// What happened; its reply is our last.
     agreed: Agreed,
@@ -323,7 +345,8 @@ impl Bridge<'_> {
         }
         only_asks(&self.agreed.reply)?;
         let state = self.ours.state();
-        waits(self.ours, &ask)?;
+        let (begun, first) = self.agreed.made[0];
+        waits(self.ours, &ask, &begun, &first)?;
         same_state(self.ours)?;
         let given = self.source.give(self.ours, ask);
         self.meanwhile(&given.before, state)?;
@@ -338,7 +361,7 @@ impl Bridge<'_> {
             document::at_once(self.ours, &given.moment, &call).is_none()
         };
         let given_answer = given.answer.filter(closes);
-        self.agreed.reply = self.ours.call(given.moment, answer(given_answer));
+        self.agreed.reply = (self.make)(self.ours, given.moment, answer(given_answer));
         self.agreed.made.push((given.moment, answer(given_answer)));
         self.agreed.asked.push((ask, given_answer));
         Ok(given_answer)
@@ -368,7 +391,7 @@ impl Bridge<'_> {
         if let (None, Call::Answer { .. }) = (number, call) {
             return Ok(()); // it would close the question: in a list with calls left out
         }
-        let reply = self.ours.call(*moment, call);
+        let reply = (self.make)(self.ours, *moment, call);
         let looked = match number {
             None => looked(call),
             Some(number) => refused(number),
@@ -502,15 +525,17 @@ fn only_asks(reply: &Reply) -> Result<(), String> {
     }
 }
 
-/// The open question in our state is the one that was put.
-fn waits(layer: &Layer, ask: &Ask) -> Result<(), String> {
+/// The open question in our state is the one that was put, by the call that began with this moment.
+fn waits(layer: &Layer, ask: &Ask, begun: &Moment, call: &Call) -> Result<(), String> {
     let state = layer.state();
     let at = |start: usize| layer.records()[state.id].base + start as u64 * super::CHUNK;
     let fits = match *ask {
         Ask::Commit { address, bytes } => {
             address == at(state.start) && bytes == state.n as u64 * super::CHUNK
         }
-        Ask::Purge { address, .. } => address == at(state.start),
+        Ask::Purge { address, .. } => {
+            address == at(state.start) && keeps_sweep(&state, begun, call)
+        }
         Ask::Memory { bytes, .. } => bytes == state.bytes,
         Ask::GiveBack { .. } => [7, 12, 13].contains(&state.cause),
     };
@@ -518,6 +543,16 @@ fn waits(layer: &Layer, ask: &Ask) -> Result<(), String> {
         true => Ok(()),
         false => Err(format!("ours asks {ask:?} and keeps {state:?}")),
     }
+}
+
+/// The state keeps the clock and the settings with which its sweep began. A delay is kept as it counts: a
+/// negative one, with which only a forced sweep asks, as 0.
+fn keeps_sweep(state: &State, begun: &Moment, call: &Call) -> bool {
+    let ms = (begun.ns / 1_000_000) as u32;
+    let delay = begun.delay.clamp(0, 1_073_741_823) as u32;
+    let force = matches!(call, Call::PurgeDue { force: true });
+    let kept = (state.now, state.delay, state.force, state.decommit);
+    kept == (ms.max(1), delay, force.into(), begun.decommits.into())
 }
 
 fn record(arena: &sirqobal::lent::Arena) -> rust::Record {

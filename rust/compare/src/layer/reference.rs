@@ -137,6 +137,7 @@ pub fn call(
 mod tests {
     use super::*;
     use crate::layer::draw::Player;
+    use crate::layer::never::speaks_of;
     use crate::layer::{edges, inside, CHUNK};
     use crate::rng::Rng;
     use crate::SEED;
@@ -235,7 +236,7 @@ mod tests {
     fn answers_as_ours_do() {
         let mut rng = Rng::new(SEED);
         let mut numbers = BTreeSet::new();
-        let mut made = 0;
+        let (mut made, mut never) = (0, 0);
         for _ in 0..200 {
             let mut player = Player::new(&mut rng);
             let mut layer = start(&mut rng, &player);
@@ -250,11 +251,13 @@ mod tests {
                         numbers.insert(same(&damaged, moment, call));
                     }
                     made += 1;
+                    never += usize::from(speaks_of(moment.delay, &call));
                 }
                 layer.call(moment, call);
             }
         }
         assert!(made > 5_000, "{made} calls");
+        assert!(never > 100, "{never} of negative delays");
         let all = [0, 1, 2, 3, 4, 5, 7, 8, 9, 10, 11, lent::QUESTION];
         assert_eq!(numbers, BTreeSet::from(all));
     }

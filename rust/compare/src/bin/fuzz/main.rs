@@ -1,14 +1,15 @@
 //! Lends random and damaged tables, states and numbers to every exported function. Nothing may
 //! crash; what lies around the lent slices stays; refusal 1 comes exactly where document 01 says and
 //! leaves every byte; other refusals leave what they should; sound tables stay sound; a record's flag,
-//! which may be any number, is on unless it is 0. A join does what document 02 says, whatever either
-//! table is.
+//! which may be any number, is on unless it is 0. A join, and a call with a negative delay, does what document
+//! 02 says, whatever the tables are.
 //!
 //! Run it under valgrind by
 //! `cargo build --release --bin fuzz && valgrind --error-exitcode=1 target/release/fuzz --calls 3000`.
 
 mod fenced;
 mod join;
+mod never;
 mod wild;
 
 use compare_common::functions::FUNCTIONS;
@@ -42,6 +43,7 @@ fn main() -> ExitCode {
     println!("layer calls by number: {}", by_number(&fuzz.numbers));
     println!("layer calls that asked: {}", fuzz.asked);
     println!("layer calls with a flag above 1: {}", fuzz.above_one);
+    fuzz.never.print();
     println!("joins by number: {}", by_number(&fuzz.joins));
     println!(
         "fuzzed: {} layer calls, {} joins, {} pool calls, {} calls on numbers, {} faults",
@@ -61,6 +63,7 @@ struct Fuzz {
     asked: u64,
     /// Calls that row 1 let pass, on tables in which an arena that stands has such a flag.
     above_one: u64,
+    never: never::Counts,
     /// Two sound tables without a question, for the next join.
     both: Option<[plain::Table; 2]>,
     joins: [u64; NUMBERS],
@@ -104,6 +107,7 @@ impl Fuzz {
         if let Err(what) = judge(&before, &table, settings.page, call, &reply) {
             self.fault(format!("{what}: {call:?} on {:?}: {reply:?}", before.state));
         }
+        self.never([&before, &table], &settings, call, &reply);
         let above = |arena: &Arena| arena.exclusive > 1 || arena.owned > 1;
         let sound = reply.number != 1;
         self.above_one += u64::from(sound && before.arenas().iter().any(above));

@@ -56,6 +56,8 @@ pub fn wild_settings(rng: &mut Rng, player: &Player) -> (u64, Settings) {
         0 => settings.page = rng.number(),
         1 => (settings.decommits, settings.off) = (rng.bits() as u32, rng.bits() as u32),
         2 => settings.reserve = rng.number(),
+        3 => settings.delay = rng.number() as i64,
+        4 => settings.delay = !(rng.number() >> 1) as i64,
         _ => {}
     }
     (moment.ns, settings)

@@ -3,7 +3,7 @@
 use crate::{Case, Side};
 use compare_common::layer::document::arenas;
 use compare_common::layer::pair::Pair;
-use compare_common::layer::{inside, reference, CHUNK, QUIET};
+use compare_common::layer::{inside, reference, Moment, CHUNK, QUIET};
 use compare_common::rng::Rng;
 use oracle::layer as rust;
 use sirqobal::lent::{self, Arena, Call, Reply, Settings, State, QUESTION, RECORDS, STAMPS};
@@ -19,13 +19,15 @@ enum Work {
     One,
     /// `chunk_alloc_n`, and the release of the run.
     Run,
+    /// `chunk_alloc_n`, and a pending release of the run.
+    Pending,
     /// The release of a run alone: it need not be held.
     Release,
     /// A pending release of a run and a forced sweep that purges it.
     Sweep,
     /// The same, counted by its questions: one for each chunk.
     Questions,
-    /// A sweep that is not due anywhere.
+    /// A sweep that is not due anywhere, or whose delay is negative.
     NotDue,
     /// `owns`.
     Find,
@@ -42,6 +44,8 @@ struct Row {
     id: i32,
     /// Where a release, a sweep or a search by address is.
     address: u64,
+    /// The purge delay that its calls carry.
+    delay: i64,
     table: Layer,
 }
 
@@ -53,7 +57,7 @@ impl Case for Row {
     fn detail(&self) -> [String; 2] {
         let reply = self.first_call(&mut self.table.clone());
         let answer = match (self.work, reply.number) {
-            (Work::One | Work::Run, 0) => {
+            (Work::One | Work::Run | Work::Pending, 0) => {
                 let chunk = |arena: &Arena| reply.address.wrapping_sub(arena.base) / CHUNK;
                 let mut arenas = arenas(&self.table).iter().enumerate();
                 let inside = arenas.find(|(_, arena)| chunk(arena) < arena.chunks as u64);
@@ -73,19 +77,20 @@ impl Case for Row {
     fn check(&self) {
         let mut pair = Pair::holding(&self.table);
         let mut yes = vec![YES; self.n].into_iter();
-        let first = pair.call(QUIET, self.call(), &mut yes).expect(&self.name);
-        if let Work::One | Work::Run = self.work {
-            if first.reply.number == 0 {
-                let release = self.release(first.reply.address, false);
-                pair.call(QUIET, release, &mut yes).expect(&self.name);
+        let mut call = |call: Call| pair.call(self.moment(), call, &mut yes).expect(&self.name);
+        let first = call(self.call());
+        match self.work {
+            Work::One | Work::Run | Work::Pending if first.reply.number == 0 => {
+                let pending = matches!(self.work, Work::Pending);
+                call(self.release(first.reply.address, pending));
             }
+            Work::Sweep | Work::Questions => {
+                let swept = call(Call::PurgeDue { force: true });
+                assert_eq!(swept.reply.count, self.n);
+            }
+            _ => {}
         }
-        if let Work::Sweep | Work::Questions = self.work {
-            let sweep = Call::PurgeDue { force: true };
-            let swept = pair.call(QUIET, sweep, &mut yes).expect(&self.name);
-            assert_eq!(swept.reply.count, self.n);
-        }
-        let [mut ours, mut c] = [OURS, C].map(|make| Lent::holding(&self.table, make));
+        let [mut ours, mut c] = [OURS, C].map(|make| Lent::holding(self, make));
         self.operate(|call| {
             let reply = ours.call(call);
             assert_eq!(reply, c.call(call), "{}: {call:?}", self.name);
@@ -104,7 +109,14 @@ impl Case for Row {
             Side::Ours => self.time_lent(OURS, times),
             Side::Rust => {
                 drop(Pair::holding(&self.table));
-                rust::carry(rust::Script::NONE, 4_096);
+                let delay = self.delay;
+                rust::carry(
+                    rust::Script {
+                        delay,
+                        ..rust::Script::NONE
+                    },
+                    4_096,
+                );
                 self.time(times, || self.rust())
             }
             Side::C => self.time_lent(C, times),
@@ -129,7 +141,7 @@ impl Row {
     }
 
     fn time_lent(&self, make: Make, times: usize) -> Duration {
-        let mut lent = Lent::holding(&self.table, make);
+        let mut lent = Lent::holding(self, make);
         self.time(times, || self.operate(|call| lent.call(call)))
     }
 
@@ -137,7 +149,7 @@ impl Row {
     fn call(&self) -> Call {
         match self.work {
             Work::One => Call::ChunkAlloc { id: self.id },
-            Work::Run => Call::ChunkAllocN {
+            Work::Run | Work::Pending => Call::ChunkAllocN {
                 id: self.id,
                 n: self.n,
             },
@@ -152,7 +164,14 @@ impl Row {
     }
 
     fn first_call(&self, layer: &mut Layer) -> Reply {
-        layer.call(QUIET, self.call())
+        layer.call(self.moment(), self.call())
+    }
+
+    fn moment(&self) -> Moment {
+        Moment {
+            delay: self.delay,
+            ..QUIET
+        }
     }
 
     fn release(&self, address: u64, pending: bool) -> Call {
@@ -177,6 +196,13 @@ impl Row {
             Work::Run => {
                 if let Some((run, _)) = arena::chunk_alloc_n(id, n) {
                     black_box(arena::chunk_free_n(black_box(run), n));
+                }
+            }
+            Work::Pending => {
+                // It knows no negative delay: the same release is made not pending.
+                let pending = black_box(self.delay) >= 0;
+                if let Some((run, _)) = arena::chunk_alloc_n(id, n) {
+                    black_box(arena::chunk_release(black_box(run), n, None, pending));
                 }
             }
             Work::Release => {
@@ -204,6 +230,9 @@ impl Row {
         match self.work {
             Work::One | Work::Run if reply.number == 0 => {
                 make(self.release(black_box(reply.address), false));
+            }
+            Work::Pending if reply.number == 0 => {
+                make(self.release(black_box(reply.address), true));
             }
             Work::Sweep | Work::Questions => {
                 let mut reply = make(Call::PurgeDue { force: true });
@@ -239,21 +268,24 @@ struct Lent {
     records: Vec<Arena>,
     stamps: Vec<u32>,
     state: State,
+    settings: Settings,
     make: Make,
 }
 
 impl Lent {
-    fn holding(layer: &Layer, make: Make) -> Lent {
+    /// The table of a row, with the settings of its calls.
+    fn holding(row: &Row, make: Make) -> Lent {
         Lent {
-            records: layer.records().to_vec(),
-            stamps: layer.stamps().to_vec(),
-            state: layer.state(),
+            records: row.table.records().to_vec(),
+            stamps: row.table.stamps().to_vec(),
+            state: row.table.state(),
+            settings: row.moment().settings(),
             make,
         }
     }
 
     fn call(&mut self, call: Call) -> Reply {
-        let settings = QUIET.settings();
+        let settings = self.settings;
         let (records, stamps) = (&mut self.records, &mut self.stamps);
         let reply = (self.make)(records, stamps, self.state, QUIET.ns, settings, call);
         self.state = reply.state;
@@ -322,6 +354,7 @@ pub fn cases(rng: &mut Rng) -> Vec<Box<dyn Case>> {
             n,
             id,
             address,
+            delay: 0,
             table: table.clone(),
         }) as Box<dyn Case>);
     };
@@ -475,5 +508,80 @@ pub fn cases(rng: &mut Rng) -> Vec<Box<dyn Case>> {
         0,
         &mixed,
     );
+    rows.extend(pending_cases());
+    rows.extend(sweeps(&[0]));
     rows
+}
+
+/// Pending releases: with a negative delay they stamp, mark and arm nothing.
+fn pending_cases() -> Vec<Box<dyn Case>> {
+    let mut rows: Vec<Box<dyn Case>> = Vec::new();
+    for n in [1, 64, 1_024] {
+        for delay in [10, -1] {
+            rows.push(Box::new(Row {
+                name: format!("run, released pending, delay {delay}"),
+                work: Work::Pending,
+                n,
+                id: -1,
+                address: 0,
+                delay,
+                table: released(n),
+            }));
+        }
+    }
+    rows
+}
+
+/// An empty arena whose first run of n was claimed and released pending with delay 10: the same again leaves
+/// it as it is, and so does one with a negative delay.
+fn released(n: usize) -> Layer {
+    let mut layer = table(1, 1_024, |_, _| false);
+    let release = Call::ChunkRelease {
+        address: BASE,
+        n,
+        told: -1,
+        pending: true,
+    };
+    layer.call(Moment { delay: 10, ..QUIET }, release);
+    layer
+}
+
+/// Unforced sweeps with a negative delay where all is due, and with 0 where nothing is: neither asks. The
+/// original has no such sweep with a negative delay.
+pub fn never_cases(_: &mut Rng) -> Vec<Box<dyn Case>> {
+    sweeps(&[-1, 0])
+}
+
+/// Sweeps with these delays over arenas with pending chunks: with -1 they are due, with 0 not.
+fn sweeps(delays: &[i64]) -> Vec<Box<dyn Case>> {
+    let mut rows: Vec<Box<dyn Case>> = Vec::new();
+    for (count, pending) in [(1, 1), (1, 1_024), (32, 1_024)] {
+        for delay in delays {
+            let (due, deadline) = match delay {
+                ..0 => ("all", 1),
+                _ => ("nothing", 11),
+            };
+            rows.push(Box::new(Row {
+                name: format!("sweep, delay {delay}, {count} arenas, {due} due"),
+                work: Work::NotDue,
+                n: count * pending,
+                id: 0,
+                address: 0,
+                delay: *delay,
+                table: armed(count, pending, deadline),
+            }));
+        }
+    }
+    rows
+}
+
+/// Arenas of which so many chunks are pending, all with this deadline.
+fn armed(count: usize, pending: usize, deadline: u32) -> Layer {
+    let plain = table(count, 1_024, |_, _| false);
+    let mut records = *plain.records();
+    for arena in &mut records[..count] {
+        arena.pending = std::array::from_fn(|word| inside(pending, word));
+        arena.deadline = deadline;
+    }
+    Layer::from_table(&records, plain.stamps(), plain.state())
 }

@@ -2,8 +2,8 @@
 //! call it, the original called directly, and for the layer the reference in plain C, called as ours
 //! is. A number is the smallest of the means of several rounds; the rounds of the sides take turns.
 //!
-//! `--table T` prints only the slice pool's table (1), the layer's (2) or the joins' (3), which the
-//! original does not have. With `--row R --side S --times N` it makes only the operations of one row, N
+//! `--table T` prints only the slice pool's table (1), the layer's (2), the joins' (3), or that of sweeps with a
+//! negative delay (4); the original has neither of the last two. With `--row R --side S --times N` it makes only the operations of one row, N
 //! times, on the side of that column, and times nothing: for counting instructions (rust/callgrind.sh).
 
 mod joins;
@@ -58,7 +58,7 @@ struct Table {
     cases: fn(&mut Rng) -> Vec<Box<dyn Case>>,
 }
 
-const TABLES: [Table; 3] = [
+const TABLES: [Table; 4] = [
     Table {
         title: "Slice pool",
         sides: &[Side::Ours, Side::Rust],
@@ -73,6 +73,11 @@ const TABLES: [Table; 3] = [
         title: "Joins",
         sides: &[Side::Ours, Side::C],
         cases: joins::cases,
+    },
+    Table {
+        title: "Sweeps with a negative delay",
+        sides: &[Side::Ours, Side::C],
+        cases: layer::never_cases,
     },
 ];
 

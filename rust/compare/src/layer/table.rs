@@ -43,6 +43,7 @@ pub fn run() -> Cases {
     cases.ranges();
     cases.bases();
     cases.flags();
+    cases.never();
     cases
 }
 
@@ -333,6 +334,32 @@ impl Cases {
             };
             if grown.records[0] != left {
                 self.wrong.push(format!("{what}: {:?}", grown.records[0]));
+            }
+        }
+    }
+
+    /// Rows 1 and 2 come before what a negative delay means.
+    fn never(&mut self) {
+        let release = Call::ChunkRelease {
+            address: BASE,
+            n: 1,
+            told: 0,
+            pending: true,
+        };
+        for call in [release, Call::PurgeDue { force: false }] {
+            for delay in [-1, -2, i64::MIN] {
+                let moment = Moment { delay, ..QUIET };
+                for (what, damage) in DAMAGES {
+                    let mut table = example();
+                    damage(&mut table);
+                    self.case(what, &table, moment, call, 1);
+                }
+                for (_, table) in questions() {
+                    let page = Moment { page: 0, ..moment };
+                    self.case("negative delay", &table, page, call, 1);
+                    self.case("negative delay", &table, moment, call, 2);
+                }
+                self.case("negative delay", &example(), moment, call, 0);
             }
         }
     }

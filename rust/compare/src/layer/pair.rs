@@ -117,15 +117,7 @@ impl Pair {
         if reply != expected {
             return Err(format!("expected {expected:?}, ours {reply:?}"));
         }
-        same_state(&self.ours)?;
-        if !self.flags_are_kept() {
-            return Err("a flag of a record was written, or is not 0 or 1".into());
-        }
-        if let (10, Some((id, n))) = (reply.number, claims(&call)) {
-            if document::has_run(&self.ours, id, n) {
-                return Err("both refused with 10, and there is such a run".into());
-            }
-        }
+        self.is_right_after(&call, reply.number)?;
         reached.extend(never_states::swept(&agreed));
         Ok(Agreed {
             before,
@@ -133,6 +125,20 @@ impl Pair {
             never: reached,
             ..agreed
         })
+    }
+
+    /// What every call leaves: the same on both sides, flags as they were, and after 10 no such run.
+    fn is_right_after(&self, call: &Call, number: u32) -> Result<(), String> {
+        same_state(&self.ours)?;
+        if !self.flags_are_kept() {
+            return Err("a flag of a record was written, or is not 0 or 1".into());
+        }
+        if let (10, Some((id, n))) = (number, claims(call)) {
+            if document::has_run(&self.ours, id, n) {
+                return Err("both refused with 10, and there is such a run".into());
+            }
+        }
+        Ok(())
     }
 
     /// Makes the call on both sides. What the original answers, and what happened on ours.
@@ -156,7 +162,8 @@ impl Pair {
             },
             difference: None,
         };
-        // With 1, 3 and 6 the original is not called: it knows no such refusal.
+        // With 1, 3 and 6 the original is not called: it knows no such refusal. Nor is it for a sweep whose
+        // delay means never.
         let rust = match (refused, never::for_original(moment.delay, call)) {
             (Some(1 | 3 | 6), _) => REFUSED,
             (_, Some(call)) => bridge.rust(call),

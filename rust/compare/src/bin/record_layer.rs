@@ -2,6 +2,11 @@
 //! that has no Rust at hand to replay. Every call was made on both sides and compared (as by
 //! `sequences`); the numbers of refusals are document 01's. The same seed gives the same sample.
 //!
+//! A negative delay (kind 1, its first bit set) is document 02's, which the original does not have: what a pending
+//! release (kind a) and an unforced sweep (kind b) answer and leave then was compared with the runner's model of
+//! that paper, and the original was given the release as not pending, and no sweep. All other lines are the
+//! original's answers, whatever the delay.
+//!
 //! A line has 53 bytes, as in the sample of `record`: the kind as one hex digit, then two numbers
 //! and the answer as 16 hex digits each, with a space between and a newline behind. A signed number
 //! is its two's complement in 64 bits; flags are added up.
@@ -43,6 +48,7 @@ fn main() -> io::Result<()> {
     let [seed, sequences, calls] = args::read(["--seed", "--sequences", "--calls"], [SEED, 40, 30]);
     let mut sample = Sample::default();
     sample.sequence(&full_table());
+    sample.sequence(&never_purged());
     for n in 0..sequences {
         let made = agreed(&mut Rng::new(seed.wrapping_add(n)), calls);
         sample.sequence(&made);
@@ -81,15 +87,69 @@ fn full_table() -> Vec<(Moment, Call)> {
         reserve: CHUNK,
         ..QUIET
     };
+    let calls: Vec<(Moment, Call)> = calls.into_iter().map(|call| (moment, call)).collect();
+    compared(&calls, |_| QUIET)
+}
+
+/// Negative delays: a chunk that is pending already, others that do not become so, and sweeps at a deadline that
+/// has come.
+fn never_purged() -> Vec<(Moment, Call)> {
+    let at = |ms: u64, delay: i64| Moment {
+        ns: ms * 1_000_000,
+        delay,
+        ..QUIET
+    };
+    let release = |chunk: u64, n: usize, told: i32| Call::ChunkRelease {
+        address: chunk * CHUNK,
+        n,
+        told,
+        pending: true,
+    };
+    let sweep = |force: bool| Call::PurgeDue { force };
+    let block = Call::AdoptOsBlock {
+        address: 10 * CHUNK,
+        size: 5 * CHUNK,
+    };
+    let calls = [
+        (at(1, 5), block),
+        (at(1, 5), Call::ChunkAllocN { id: 0, n: 5 }),
+        (at(10, 5), release(10, 1, -1)),
+        (at(11, -1), release(11, 1, -1)),
+        (at(11, -2), release(12, 1, 0)),
+        (at(11, i64::MIN), release(10, 3, 1)),
+        (at(12, -1), release(13, 0, -1)),
+        (at(12, -1), release(9, 1, -1)),
+        (at(12, -1), release(13, 3, -1)),
+        (at(30, -1), sweep(false)),
+        (at(30, -2), sweep(false)),
+        (at(30, i64::MIN), sweep(false)),
+        (at(30, -1), sweep(true)),
+        (at(31, 5), release(13, 1, -1)),
+        (at(40, -1), sweep(false)),
+        (at(40, 0), sweep(false)),
+        (at(41, 0), release(14, 1, -1)),
+        (at(41, 0), sweep(false)),
+    ];
+    // Answers carry a delay of the other kind, which decides nothing.
+    compared(&calls, |moment| match moment.delay {
+        ..0 => at(50, 5),
+        _ => at(50, -1),
+    })
+}
+
+/// These calls from the empty layer, on which both sides agree. Questions are answered yes, with what `answers`
+/// says for the call.
+fn compared(calls: &[(Moment, Call)], answers: impl Fn(&Moment) -> Moment) -> Vec<(Moment, Call)> {
     let mut pair = Pair::holding(&Layer::new());
     let mut made = Vec::new();
-    for call in calls {
+    for (moment, call) in calls {
         let yes = Given {
+            before: Vec::new(),
+            moment: answers(moment),
             answer: Some(2_000 * CHUNK),
-            ..Given::NO
         };
         let mut source = vec![yes; 2].into_iter();
-        let agreed = pair.call(moment, call, &mut source);
+        let agreed = pair.call(*moment, *call, &mut source);
         made.extend(agreed.expect("no difference").made);
     }
     made

@@ -47,35 +47,35 @@ const WRONG: [(&str, Make); 20] = [
         },
     ),
     ("the release keeps used bits", |layer, moment, call| {
-        changed(layer, moment, call, is_release, |table, before, _| {
+        with_table(layer, moment, call, is_release, |table, before, _| {
             for (arena, was) in table.records.iter_mut().zip(&before.records) {
                 arena.used = was.used;
             }
         })
     }),
     ("the release unmarks", |layer, moment, call| {
-        changed(layer, moment, call, is_release, |table, _, (id, chunk)| {
+        with_table(layer, moment, call, is_release, |table, _, (id, chunk)| {
             table.records[id].pending[chunk / 32] &= !(1 << (chunk % 32));
         })
     }),
     ("the release marks", |layer, moment, call| {
-        changed(layer, moment, call, is_release, |table, _, (id, chunk)| {
+        with_table(layer, moment, call, is_release, |table, _, (id, chunk)| {
             table.records[id].pending[chunk / 32] |= 1 << (chunk % 32);
         })
     }),
     ("the release stamps", |layer, moment, call| {
-        changed(layer, moment, call, is_release, |table, _, (id, chunk)| {
+        with_table(layer, moment, call, is_release, |table, _, (id, chunk)| {
             table.stamps[1_024 * id + chunk] ^= 1;
         })
     }),
     ("the release arms", |layer, moment, call| {
-        changed(layer, moment, call, is_release, |table, _, (id, _)| {
+        with_table(layer, moment, call, is_release, |table, _, (id, _)| {
             let deadline = &mut table.records[id].deadline;
             *deadline = (*deadline).max(1);
         })
     }),
     ("the release disarms", |layer, moment, call| {
-        changed(layer, moment, call, is_release, |table, _, (id, _)| {
+        with_table(layer, moment, call, is_release, |table, _, (id, _)| {
             table.records[id].deadline = 0;
         })
     }),
@@ -95,7 +95,7 @@ const WRONG: [(&str, Make); 20] = [
         },
     ),
     ("the sweep disarms", |layer, moment, call| {
-        changed(layer, moment, call, is_sweep, |table, _, _| {
+        with_table(layer, moment, call, is_sweep, |table, _, _| {
             let count = table.state.count;
             for arena in &mut table.records[..count] {
                 arena.deadline = 0;
@@ -201,7 +201,7 @@ fn with_delay(
 type Change = fn(&mut Table, &Table, (usize, usize));
 
 /// A granted call of the wish, such a one, leaves the table changed: at the first chunk of a release's run.
-fn changed(
+fn with_table(
     layer: &mut Layer,
     moment: Moment,
     call: Call,

@@ -83,7 +83,7 @@ pub fn before(
     }
     let kind = delay_kind(moment.delay);
     match (*call, refused) {
-        (_, Some(number)) => refusal(call, number).into_iter().collect(),
+        (_, Some(number)) => turned_down(call, number).into_iter().collect(),
         (
             Call::ChunkRelease {
                 address, n, told, ..
@@ -119,7 +119,7 @@ fn delay_kind(delay: i64) -> usize {
     }
 }
 
-fn refusal(call: &Call, number: u32) -> Option<&'static str> {
+fn turned_down(call: &Call, number: u32) -> Option<&'static str> {
     let release = matches!(call, Call::ChunkRelease { .. });
     Some(match (release, number) {
         (true, 1) => "never, release: refused 1",
@@ -209,7 +209,7 @@ pub fn swept(agreed: &Agreed) -> Vec<&'static str> {
 fn meanwhile(made: &[(Moment, Call)]) -> impl Iterator<Item = (&'static str, bool)> + '_ {
     made.iter().filter_map(|(moment, call)| {
         let named = speaks_of(moment.delay, call) && PAGES.contains(&moment.page);
-        let state = refusal(call, 2).filter(|_| named);
+        let state = turned_down(call, 2).filter(|_| named);
         state.map(|state| (state, true))
     })
 }

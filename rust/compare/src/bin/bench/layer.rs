@@ -38,7 +38,7 @@ enum Work {
 struct Row {
     name: String,
     work: Work,
-    /// Chunks of the run.
+    /// Chunks of the run, or that are pending.
     n: usize,
     /// An arena's id, or -1.
     id: i32,
@@ -509,7 +509,7 @@ pub fn cases(rng: &mut Rng) -> Vec<Box<dyn Case>> {
         &mixed,
     );
     rows.extend(pending_cases());
-    rows.extend(sweeps(&[0]));
+    rows.extend(armed_cases(&[0]));
     rows
 }
 
@@ -525,16 +525,16 @@ fn pending_cases() -> Vec<Box<dyn Case>> {
                 id: -1,
                 address: 0,
                 delay,
-                table: released(n),
+                table: waiting_table(n),
             }));
         }
     }
     rows
 }
 
-/// An empty arena whose first run of n was claimed and released pending with delay 10: the same again leaves
-/// it as it is, and so does one with a negative delay.
-fn released(n: usize) -> Layer {
+/// An empty arena whose first run of n was released pending with delay 10: the same again leaves it as it is,
+/// and so does a release with a negative delay.
+fn waiting_table(n: usize) -> Layer {
     let mut layer = table(1, 1_024, |_, _| false);
     let release = Call::ChunkRelease {
         address: BASE,
@@ -549,11 +549,11 @@ fn released(n: usize) -> Layer {
 /// Unforced sweeps with a negative delay where all is due, and with 0 where nothing is: neither asks. The
 /// original has no such sweep with a negative delay.
 pub fn never_cases(_: &mut Rng) -> Vec<Box<dyn Case>> {
-    sweeps(&[-1, 0])
+    armed_cases(&[-1, 0])
 }
 
 /// Sweeps with these delays over arenas with pending chunks: with -1 they are due, with 0 not.
-fn sweeps(delays: &[i64]) -> Vec<Box<dyn Case>> {
+fn armed_cases(delays: &[i64]) -> Vec<Box<dyn Case>> {
     let mut rows: Vec<Box<dyn Case>> = Vec::new();
     for (count, pending) in [(1, 1), (1, 1_024), (32, 1_024)] {
         for delay in delays {

@@ -285,9 +285,8 @@ impl Lent {
     }
 
     fn call(&mut self, call: Call) -> Reply {
-        let settings = self.settings;
         let (records, stamps) = (&mut self.records, &mut self.stamps);
-        let reply = (self.make)(records, stamps, self.state, QUIET.ns, settings, call);
+        let reply = (self.make)(records, stamps, self.state, QUIET.ns, self.settings, call);
         self.state = reply.state;
         black_box(reply)
     }

@@ -1,7 +1,7 @@
 #!/usr/bin/env bash
 # Instructions per operation of each row of `bench`, on each side, as callgrind counts them: the difference of
 # two runs with another number of operations, so that what is done once cancels out.
-# Usage: rust/callgrind.sh [TABLE [SEED]]    (table 1: slice pool, 2: arena layer, the default, 3: joins)
+# Usage: rust/callgrind.sh [TABLE [SEED]]    (table 1: slice pool, 2: arena layer, the default, 3: joins, 4: never)
 set -euo pipefail
 cd "$(dirname "$0")"
 cargo build --offline --release --quiet --bin bench
@@ -9,6 +9,7 @@ table=${1:-2}
 seed=${2:-20261115}
 names=(ours Rust C)
 [ "$table" != 1 ] || names=(ours Rust) # the reference in C has no slice pool
+[ "$table" != 4 ] || names=(ours C)    # the original has no such sweep
 only=()
 # The original has no join. Setting the tables back before each is not counted; every step of a repeated string
 # instruction, as memset uses it, is.

@@ -21,7 +21,7 @@ unfolding adopted
 none-adopted w side = refl
 
 -- the world that a call leaves, by what stands in the slices and the reply
-world-left : (o : Outcome) (r : Reply) (l : List Arena) (t : List ℕ) → Leaves o r l t → worldOf l t (r .state) ≡ o .world
+pub world-left : (o : Outcome) (r : Reply) (l : List Arena) (t : List ℕ) → Leaves o r l t → worldOf l t (r .state) ≡ o .world
 world-left o r l t says = ap₂ (λ (x : List Arena) (y : List ℕ). worldOf x y (r .state)) (says .1) (says .2) ∙ ap (λ (x : Reply). worldOf (o .world .records) (o .world .stamps) (x .state)) (says .0)
 
 pub block-more : (w : World) (side : Side) (i : ℕ) (l : List Arena) (t : List ℕ) (state : State) → worldOf l t state ≡ adopted w side i

@@ -1,3 +1,4 @@
 pub mod JoinsLaws
+pub mod NeverLaws
 pub mod TallyLaws
 pub mod Callable

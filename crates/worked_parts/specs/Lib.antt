@@ -1,4 +1,5 @@
 pub mod Joins
+pub mod Never
 pub mod Numbers
 pub mod Picture
 pub mod Tally

@@ -37,7 +37,7 @@ fn state_of(side: Side) -> State
     side.state
 }
 
-fn state_after(r: Reply) -> State
+pub fn state_after(r: Reply) -> State
     ensures { λ s. ⌜ s ≡ r .state ⌝ }
 {
     r.state

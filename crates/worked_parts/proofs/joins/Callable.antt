@@ -1,4 +1,4 @@
--- Functions of `worked_parts` that a walk calls, each in one step: adopt-blocks-step, block-at-step, blocks-of-step, found-with-step, join-sides-step, look-step, no-options-step, seen-with-step, state-after-step, state-of-step, state-of-first-step, state-of-second-step. Written by tools/walks.
+-- Functions of `worked_parts` that a walk calls, each in one step: adopt-blocks-step, block-at-step, blocks-of-step, found-with-step, join-sides-step, look-step, no-options-step, seen-with-step, state-of-step, state-of-first-step, state-of-second-step. Written by tools/walks.
 -- Assumes `Given`, the callee's theorem, and that the table of calls is monotone under a frame.
 use Rattle.walks.proofs.Walking.{_≡_, refl, sym, _∙_, ap, subst, ℕ, _<_, _≤_, _^_, List, [], _∷_, length, w32, w64, Operand, Val, vint, Fits, toZ, URA, SProp, emp, id⊢, Memory, Routine, Heap, Env, Calls, Atoms, Given, Item, Goal, Seq, ‵, _⊛_, Opds, Fun, factI, u32, u64, usize, i32, yes, Is, Ises, owns-make, uint-makes, plain, sint-makes, only, tripleOf, Contract, Triple, Loan, lent, sliceOf, signed, Site, plain-call, mut2-call}
 use Rattle.worked_parts.proofs.joins.Side as T-Side
@@ -43,8 +43,6 @@ use Rattle.worked_parts.proofs.joins.no_options as no-options′
 use Rattle.worked_parts.proofs.joins.no_options.Symbol.{name as #worked-parts·joins·no-options}
 use Rattle.worked_parts.proofs.joins.seen_with as seen-with′
 use Rattle.worked_parts.proofs.joins.seen_with.Symbol.{name as #worked-parts·joins·seen-with}
-use Rattle.worked_parts.proofs.joins.state_after as state-after′
-use Rattle.worked_parts.proofs.joins.state_after.Symbol.{name as #worked-parts·joins·state-after}
 use Rattle.worked_parts.proofs.joins.state_of as state-of′
 use Rattle.worked_parts.proofs.joins.state_of.Symbol.{name as #worked-parts·joins·state-of}
 use Rattle.worked_parts.proofs.joins.state_of_first as state-of-first′
@@ -78,9 +76,6 @@ module _ {M : Type 1} (𝓤 : URA M) (H : Heap 𝓤) (A : Atoms 𝓤) (mem : Mem
 
   abbrev pub SeenWithSpec : Contract 𝓤
   SeenWithSpec = tripleOf 𝓤 H A seen-with′.signature (seen-with′.spec 𝓤 H A mem run)
-
-  abbrev pub StateAfterSpec : Contract 𝓤
-  StateAfterSpec = tripleOf 𝓤 H A state-after′.signature (state-after′.spec 𝓤 H A mem run)
 
   abbrev pub StateOfSpec : Contract 𝓤
   StateOfSpec = tripleOf 𝓤 H A state-of′.signature (state-of′.spec 𝓤 H A mem run)
@@ -170,16 +165,6 @@ module _ {M : Type 1} {𝓤 : URA M} {H : Heap 𝓤} {A : Atoms 𝓤} {K : Type 
       plain-call bang site T-Seen.the-row (plain (λ _. T-JoinReply.the-row) ∷ plain (λ _. T-Found.the-row) ∷ plain (λ _. T-Reply.the-row) ∷ []) (yes, (yes, (yes, tt))) (seen-with′.clauses 𝓤 H A mem run) known (joined, (first, (owned, tt))) (v-joined ∷ [], (v-first ∷ [], (v-owned ∷ [], tt)))
       (owns-make 𝓤 H A (T-JoinReply.the-row ∷ T-Found.the-row ∷ T-Reply.the-row ∷ []) (Ises (T-JoinReply.the-row ∷ T-Found.the-row ∷ T-Reply.the-row ∷ [])) (LL.makes T-JoinReply.the-type L-JoinReply.the-plain 𝓤 H A, (LL.makes T-Found.the-type L-Found.the-plain 𝓤 H A, (LL.makes T-Reply.the-type L-Reply.the-plain 𝓤 H A, tt))) (joined, (first, (owned, tt))) (v-joined ∷ [], (v-first ∷ [], (v-owned ∷ [], tt))) (g-joined, (g-first, (g-owned, tt)))) tt (id⊢ 𝓤 _)
       (λ out. out ≡ seenOf joined first owned) (λ out ws. id⊢ 𝓤 _) ops (λ val′ out rel′ eq′. then′ val′ (subst (λ (obj′ : Seen). Is T-Seen.the-row obj′ (val′ ∷ [])) eq′ rel′))
-
-  pub state-after-step : K → Site K W Γ C E #worked-parts·joins·state-after xs G after → (mem : Memory → SProp 𝓤) (run : Routine → Fun 𝓤) → Triple 𝓤 (C #worked-parts·joins·state-after) (StateAfterSpec 𝓤 H A mem run)
-      → (r : Reply) (v-r : Val) → Is T-Reply.the-row r (v-r ∷ [])
-      → ((hd′ : Item 𝓤) → Opds K W (hd′ ∷ Γ) E xs (v-r ∷ []))
-      → ((val′ : Val) → Is T-State.the-row (r .state) (val′ ∷ []) → Seq K W (more ∷ Γ) (after val′))
-      → Seq K W (more ∷ Γ) G
-  state-after-step bang site mem run known r v-r g-r ops then′ =
-      plain-call bang site T-State.the-row (plain (λ _. T-Reply.the-row) ∷ []) (yes, tt) (state-after′.clauses 𝓤 H A mem run) known (r, tt) (v-r ∷ [], tt)
-      (owns-make 𝓤 H A (T-Reply.the-row ∷ []) (Ises (T-Reply.the-row ∷ [])) (LL.makes T-Reply.the-type L-Reply.the-plain 𝓤 H A, tt) (r, tt) (v-r ∷ [], tt) (g-r, tt)) tt (id⊢ 𝓤 _)
-      (λ out. out ≡ r .state) (λ out ws. id⊢ 𝓤 _) ops (λ val′ out rel′ eq′. then′ val′ (subst (λ (obj′ : State). Is T-State.the-row obj′ (val′ ∷ [])) eq′ rel′))
 
   pub state-of-step : K → Site K W Γ C E #worked-parts·joins·state-of xs G after → (mem : Memory → SProp 𝓤) (run : Routine → Fun 𝓤) → Triple 𝓤 (C #worked-parts·joins·state-of) (StateOfSpec 𝓤 H A mem run)
       → (side : Side) (v-side : Val) → Is T-Side.the-row side (v-side ∷ [])

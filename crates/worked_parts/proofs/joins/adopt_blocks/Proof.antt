@@ -37,8 +37,9 @@ use Rattle.registering.proofs.adopt_os_block.Met as adopt-os-block-thm
 use Rattle.worked_parts.proofs.joins.state_after.Symbol as state-after-def
 use Rattle.worked_parts.proofs.joins.state_after.Symbol.{name as #worked-parts·joins·state-after}
 use Rattle.worked_parts.proofs.joins.state_after.Met as state-after-thm
-use Rattle.worked_parts.proofs.joins.Callable.{StateOfSpec, NoOptionsSpec, BlocksOfSpec, BlockAtSpec, StateAfterSpec, state-of-step, no-options-step, blocks-of-step, block-at-step, state-after-step}
+use Rattle.worked_parts.proofs.joins.Callable.{StateOfSpec, NoOptionsSpec, BlocksOfSpec, BlockAtSpec, state-of-step, no-options-step, blocks-of-step, block-at-step}
 use Rattle.registering.proofs.Callable.{AdoptOsBlockSpec, adopt-os-block-step}
+use Rattle.worked_parts.proofs.Callable.{StateAfterSpec, state-after-step}
 use Rattle.worked_parts.proofs.joins.adopt_blocks.Key.{name as #worked-parts·joins·adopt-blocks}
 use Rattle.worked_parts.proofs.joins.adopt_blocks as adopt-blocks′
 use Rattle.worked_parts.proofs.joins.adopt_blocks.Statement as stated

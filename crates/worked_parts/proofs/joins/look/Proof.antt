@@ -38,8 +38,9 @@ use Rattle.worked_parts.proofs.joins.found_with.Symbol.{name as #worked
 use Rattle.worked_parts.proofs.joins.found_with.Met as found-with-thm
 use Rattle.queries.proofs.Callable.{ArenaAreaSpec, arena-area-step}
 use Rattle.sweeping.proofs.Callable.{PurgeDueSpec, purge-due-step}
-use Rattle.worked_parts.proofs.joins.Callable.{StateAfterSpec, FoundWithSpec, state-after-step, found-with-step}
+use Rattle.worked_parts.proofs.Callable.{StateAfterSpec, state-after-step}
 use Rattle.claiming.proofs.Callable.{ChunkClaimSpec, chunk-claim-step}
+use Rattle.worked_parts.proofs.joins.Callable.{FoundWithSpec, found-with-step}
 use Rattle.worked_parts.proofs.joins.look.Key.{name as #worked-parts·joins·look}
 use Rattle.worked_parts.proofs.joins.look as look′
 use Rattle.worked_parts.proofs.joins.look.Statement as stated

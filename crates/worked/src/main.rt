@@ -1,6 +1,6 @@
 // Runs the worked cases of document 01 on the compiled code and prints a table: what is computed, our
-// answer, what document 01 says; then a table of the cases of document 02's wish 1, two tables joined. Then a
-// picture of a slice pool, from which the lowest run is taken.
+// answer, what document 01 says; then a table of the cases of document 02's wishes 1, two tables joined, and 2, a
+// negative purge delay. Then a picture of a slice pool, from which the lowest run is taken.
 // No contract can say what is printed, so all that prints stands here, and nothing here is public. What
 // is printed comes from functions that are: the libraries', and those of `worked_parts`. The answer of
 // each is fixed by an `ensures`.
@@ -27,6 +27,8 @@ use libc::STDOUT_FILENO;
 use worked_parts::joins;
 use worked_parts::joins::Seen;
 use worked_parts::joins::Side;
+use worked_parts::never;
+use worked_parts::never::Left;
 use worked_parts::numbers;
 use worked_parts::picture;
 use worked_parts::tally;
@@ -546,7 +548,7 @@ fn table() {
 
 // ---- document 02, wish 1: two tables joined
 
-// A table before the join: 32 records alike, of which the state counts one or none, and 32,768 stamps alike.
+// A table as it is lent: 32 records alike, of which the state counts one or none, and 32,768 stamps alike.
 struct Lent {
     arena: Arena,
     stamp: u32,
@@ -677,9 +679,9 @@ fn marked_table(base: u64, mark: bool) -> Lent {
 }
 
 // A purge or a memory question is open.
-fn purging_table(base: u64) -> Lent {
+fn purging_table(base: u64, force: bool) -> Lent {
     let sweep = Sweep {
-        force: true,
+        force,
         now: 1,
         delay: 0,
         decommit: false,
@@ -893,7 +895,7 @@ fn ranges_and_counts(t: Tally) -> Tally {
 fn rows_one_and_two(t: Tally) -> Tally {
     let one = free_table(1073741824);
     let asks = asking_table(1073741824);
-    let purges = purging_table(2147483648);
+    let purges = purging_table(2147483648, true);
     let a = joined_now(asks, held_table(2147483648), 0);
     let t1 = turned_down(t, b"join: a question open in the first: refusal", a, 2);
     let b = joined_now(one, purges, 0);
@@ -936,7 +938,270 @@ fn marks(t: Tally) -> Tally {
     yes_or_no(t3, b"join: the mark in both: is it set", d, true)
 }
 
-fn joins_table() {
+// ---- document 02, wish 2: a negative purge delay
+
+// What is left where a chunk is released as pending, the table swept and the sweep answered.
+fn freed(
+    a: Arena,
+    s: u32,
+    state: State,
+    ns: u64,
+    e: Settings,
+    address: u64,
+    chunk: usize,
+    told: Commitment,
+    force: bool,
+) -> Left {
+    let mut records = [a; 32];
+    let mut stamps = [s; 32768];
+    never::release_and_sweep(
+        &mut records,
+        &mut stamps,
+        state,
+        ns,
+        e,
+        address,
+        chunk,
+        told,
+        force,
+    )
+}
+
+// At 50 ms, with a purge delay in milliseconds.
+fn freed_at(
+    lent: Lent,
+    delay: i64,
+    address: u64,
+    chunk: u32,
+    told: Commitment,
+    force: bool,
+) -> Left {
+    let e = Settings {
+        delay,
+        decommits: false,
+        off: false,
+        reserve: 0,
+        page: 4096,
+    };
+    let side = lent.side;
+    let state = side.state;
+    freed(
+        lent.arena,
+        lent.stamp,
+        state,
+        50000000,
+        e,
+        address,
+        chunk as usize,
+        told,
+        force,
+    )
+}
+
+// A chunk of the arena at 1073741824, nothing told of its commitment.
+fn freed_chunk(lent: Lent, delay: i64, chunk: u32, force: bool) -> Left {
+    let address = 1073741824 + chunk as u64 * 33554432;
+    freed_at(lent, delay, address, chunk, Commitment::Untold, force)
+}
+
+// Four chunks: 0 and 2 are held. The bits say which are pending, released at 10 ms.
+fn pending_table(bits: u32, deadline: u32) -> Lent {
+    let a = held_arena(1073741824);
+    let mut pending = [0u32; 32];
+    pending[0] = bits;
+    let arena = Arena {
+        deadline,
+        pending,
+        ..a
+    };
+    table_of(arena, 10, idle_side(1, false))
+}
+
+// Chunk 1 was released at 10 ms, and the deadline is at 20 ms.
+fn older_table() -> Lent {
+    held_table(1073741824)
+}
+
+// The first 32 chunks of a map.
+fn used_bits(a: Arena) -> u64 {
+    let words = a.used;
+    words[0] as u64
+}
+
+fn committed_bits(a: Arena) -> u64 {
+    let words = a.committed;
+    words[0] as u64
+}
+
+fn pending_bits(a: Arena) -> u64 {
+    let words = a.pending;
+    words[0] as u64
+}
+
+fn pending_then(t: Tally, f: Left, want: u64) -> Tally {
+    let a = f.arena;
+    number(t, b"   pending chunks then (bits)", pending_bits(a), want)
+}
+
+fn deadline_then(t: Tally, f: Left, want: u64) -> Tally {
+    let a = f.arena;
+    number(t, b"   deadline", a.deadline as u64, want)
+}
+
+fn swept_unforced(t: Tally, f: Left, want: u64) -> Tally {
+    let got = refusal(f.swept);
+    number(t, b"   an unforced sweep: refusal (255: asks)", got, want)
+}
+
+fn swept_forced(t: Tally, f: Left, want: u64) -> Tally {
+    let got = refusal(f.swept);
+    number(t, b"   a forced sweep: refusal (255: asks)", got, want)
+}
+
+fn asked_chunk(t: Tally, f: Left, want: u64) -> Tally {
+    let got = area_base(f.swept);
+    number(t, b"   it asks about the chunk at", got, want)
+}
+
+// A release that is granted, by the chunks that are pending then.
+fn let_go(t: Tally, name: &[u8], f: Left, pending: u64) -> Tally {
+    let t1 = number(t, name, refusal(f.released), 0);
+    pending_then(t1, f, pending)
+}
+
+// The used bit of chunk 0 is cleared with any delay; its stamp and the sweep go by the delay.
+fn let_go_of_0(
+    t: Tally,
+    name: &[u8],
+    f: Left,
+    pending: u64,
+    stamp: u64,
+    sweeps: u64,
+    deadline: u64,
+) -> Tally {
+    let t1 = let_go(t, name, f, pending);
+    let a = f.arena;
+    let t2 = number(t1, b"   used chunks then (bits)", used_bits(a), 4);
+    let t3 = number(t2, b"   stamp of the chunk", f.stamp as u64, stamp);
+    let t4 = deadline_then(t3, f, 20);
+    let t5 = swept_unforced(t4, f, sweeps);
+    let b = f.kept;
+    number(t5, b"   deadline after it", b.deadline as u64, deadline)
+}
+
+// An older chunk is pending, and the deadline is past: all stays as it is but the used bit. 0 is not negative: it
+// marks, stamps and asks.
+fn marks_nothing(t: Tally) -> Tally {
+    let f = freed_chunk(older_table(), -1, 0, false);
+    let name = b"never: chunk 0 released with -1: refusal (0: none)";
+    let t1 = let_go_of_0(t, name, f, 2, 10, 0, 20);
+    let t2 = number(t1, b"   a yes then: refusal", refusal(f.answered), 3);
+    let g = freed_chunk(older_table(), 0, 0, false);
+    let same = b"never: the same with 0: refusal (0: none)";
+    let t3 = let_go_of_0(t2, same, g, 3, 50, 255, 0);
+    asked_chunk(t3, g, 1073741824)
+}
+
+// Not -1 alone.
+fn below_minus_one(t: Tally) -> Tally {
+    let f = freed_chunk(older_table(), -2, 0, false);
+    let name = b"never: the same with -2: refusal (0: none)";
+    let t1 = let_go(t, name, f, 2);
+    let t2 = swept_unforced(t1, f, 0);
+    let g = freed_chunk(older_table(), i64::MIN, 0, false);
+    let least = b"never: the same with -2^63: refusal (0: none)";
+    let t3 = let_go(t2, least, g, 2);
+    swept_unforced(t3, g, 0)
+}
+
+// No chunk is pending, and no deadline is set.
+fn arms_nothing(t: Tally) -> Tally {
+    let f = freed_chunk(pending_table(0, 0), -1, 0, true);
+    let name = b"never: -1, none pending before: refusal (0: none)";
+    let t1 = let_go(t, name, f, 0);
+    let t2 = deadline_then(t1, f, 0);
+    let t3 = swept_forced(t2, f, 0);
+    let g = freed_chunk(pending_table(0, 0), 0, 0, false);
+    let zero = b"never: 0, none pending before: refusal (0: none)";
+    let t4 = let_go(t3, zero, g, 1);
+    let t5 = deadline_then(t4, g, 50);
+    swept_unforced(t5, g, 255)
+}
+
+// Chunk 1 is pending still when it is released.
+fn unmarks_nothing(t: Tally) -> Tally {
+    let f = freed_chunk(older_table(), -1, 1, false);
+    let name = b"never: -1, pending chunk 1 released: refusal (0: none)";
+    let t1 = let_go(t, name, f, 2);
+    let t2 = number(t1, b"   stamp of the chunk", f.stamp as u64, 10);
+    swept_unforced(t2, f, 0)
+}
+
+// "a forced sweep works as before": it asks about the older chunks alone. A yes reads no delay.
+fn forced_sweeps(t: Tally) -> Tally {
+    let f = freed_chunk(pending_table(10, 20), -1, 0, true);
+    let name = b"never: -1, 1 and 3 pending: refusal (0: none)";
+    let t1 = let_go(t, name, f, 10);
+    let t2 = swept_forced(t1, f, 255);
+    let t3 = asked_chunk(t2, f, 1107296256);
+    let next = area_base(f.answered);
+    let t4 = number(t3, b"   a yes: then about the chunk at", next, 1174405120);
+    let g = freed_chunk(older_table(), i64::MIN, 0, true);
+    let t5 = number(
+        t4,
+        b"never: -2^63, 1 pending: a forced sweep (255: asks)",
+        refusal(g.swept),
+        255,
+    );
+    let ended = surface::reply::reply_of(g.answered).count;
+    number(t5, b"   a yes ends it: chunks purged", ended as u64, 1)
+}
+
+// What is told of commitment is obeyed.
+fn told_is_obeyed(t: Tally) -> Tally {
+    let yes = Commitment::Committed;
+    let f = freed_at(older_table(), -1, 1174405120, 3, yes, false);
+    let a = f.arena;
+    let t1 = number(
+        t,
+        b"never: -1, chunk 3 told committed: committed (bits)",
+        committed_bits(a),
+        15,
+    );
+    let no = Commitment::Uncommitted;
+    let g = freed_at(older_table(), -1, 1073741824, 0, no, false);
+    let b = g.arena;
+    let t2 = number(
+        t1,
+        b"never: -1, chunk 0 told uncommitted: committed (bits)",
+        committed_bits(b),
+        6,
+    );
+    pending_then(t2, g, 2)
+}
+
+// A release that is refused, and the sweep after it.
+fn not_let_go(t: Tally, name: &[u8], f: Left, want: u64, sweeps: u64) -> Tally {
+    let t1 = number(t, name, refusal(f.released), want);
+    swept_unforced(t1, f, sweeps)
+}
+
+// Rows 1 and 2 come first, then the release's own. A sweep that is under way goes on with a yes.
+fn rows_with_minus_one(t: Tally) -> Tally {
+    let many = freed_chunk(counted_table(1073741824, 33), -1, 0, false);
+    let t1 = not_let_go(t, b"never: -1, 33 arenas: refusal", many, 1, 1);
+    let asks = freed_chunk(purging_table(1073741824, false), -1, 0, false);
+    let t2 = not_let_go(t1, b"never: -1, a purge question: refusal", asks, 2, 2);
+    let next = area_base(asks.answered);
+    let t3 = number(t2, b"   a yes: then about the chunk at", next, 1107296256);
+    let told = Commitment::Untold;
+    let out = freed_at(older_table(), -1, 1207959552, 4, told, false);
+    let t4 = not_let_go(t3, b"never: -1, past the arena: refusal", out, 8, 0);
+    let part = freed_at(older_table(), -1, 1073741825, 0, told, false);
+    not_let_go(t4, b"never: -1, part of a chunk: refusal", part, 7, 0)
+}
+
+fn wishes_table() {
     heading(b"document 02");
     let mut t = tally::none_yet();
     t = one_and_one(t);
@@ -945,6 +1210,13 @@ fn joins_table() {
     t = ranges_and_counts(t);
     t = rows_one_and_two(t);
     t = marks(t);
+    t = marks_nothing(t);
+    t = below_minus_one(t);
+    t = arms_nothing(t);
+    t = unmarks_nothing(t);
+    t = forced_sweeps(t);
+    t = told_is_obeyed(t);
+    t = rows_with_minus_one(t);
     total(t);
 }
 
@@ -987,6 +1259,6 @@ fn show() {
 
 fn main() {
     table();
-    joins_table();
+    wishes_table();
     show();
 }

@@ -1,6 +1,6 @@
 -- The documented purge delay (option 15) against the port's: from 0 on they agree up to the longest delay of the clock; -1 means never to both, and so does to the port
 -- what lies below it, of which nothing is documented. Assumes nothing.
-use Rattle.walks.proofs.Prelude.{_≡_, refl, sym, ap, Bool, true, false, true≢false, ℕ, zero, suc, _≤_, _<_, arith, ℤ, pos, negsuc}
+use Rattle.walks.proofs.Prelude.{_≡_, refl, sym, ap, Bool, true, false, true≢false, ℕ, suc, _≤_, _<_, arith, ℤ, pos, negsuc}
 use Rattle.clock.specs.Clock.{delayMs, neverPurges}
 use Rattle.options.specs.Options.{Purging, never, delayed, unsaid, documentedDelay}
 

@@ -5,8 +5,7 @@ use Rattle.layer.specs.declared.Kind.the-variants.{ForPurge}
 use Rattle.layer.specs.World.{Outcome, replyIn, Leaves}
 use Rattle.layer.specs.Table.{at}
 use Rattle.layer.specs.Step.{sweep, act, answer, step}
-use Rattle.worked_parts.specs.declared.never.Left.{Left}
-use Rattle.worked_parts.specs.Never.{sweptAfter, leftWith, leftBy, leftAfter}
+use Rattle.worked_parts.specs.Never.{leftWith, leftBy, leftAfter}
 use Rattle.worked_parts.proofs.JoinsLaws.{world-left}
 
 -- what a sweep p leaves, by what stands in the slices and the replies

@@ -1,7 +1,7 @@
 -- Wrong readings of wish 2, each on a table on which it does not do what the wish says. Assumes nothing.
 use Rattle.layer.proofs.Prelude.{_≡_, refl, sym, ap, _∙_, true, false, List, [], _∷_, ℕ, arith, negsuc, replicate, Arena, World, Outcome, blank, stateWith, worldOf, outcome, at, firstOf, release, manage, sweep, Call, act, answer, step, Marked, History, begin, next, _+_, _*_, cond, bit, bitAt, within, asNumber, pack, writeRun, all, least, orOne, nowMs, delayMs, neverPurges, keeps, armed, isDue, pageSizeSound, newArena, managedArena, takeRun, giveBackRun, commitRun, tellRun, pendRun, releaseRun, stampRun, sweepDue, disarm, young, toAsk, nextAsked, borrowChunk, unpendChunk, returnChunk, rearm, bytesOf, endOf, isInside, soundRange, clearPast, clearPastAll, soundArena, empty, meets, overlaps, badRange, findArena, apart, soundQuestion, soundTable, soundLent, chunksFor, badCount, noWholeChunk, manageOf, releaseOf, purgeReply, sweptReply, visit, sweepFrom, isFor, answerOf, rules, stampsOf}
 use Rattle.arena.specs.declared.Commitment.the-variants.{Untold, Committed}
-use Rattle.layer.specs.declared.Settings.{Settings}
+use Rattle.arena.specs.Record.{withPending, withDeadline}
 use Rattle.layer.specs.declared.Question.the-variants.{Idle}
 use Rattle.layer.specs.declared.Kind.the-variants.{ForPurge}
 use Rattle.layer.specs.declared.Answer.the-variants.{Swept}
@@ -10,11 +10,12 @@ use Rattle.layer_laws.specs.sweep_runs.Run.{asksPurge, isRefused}
 use Rattle.options.specs.Options.{documentedDelay}
 use Rattle.layer_laws.specs.documented.Options.{SaidNever, NothingPurged}
 use Rattle.layer_laws.proofs.never.Delay.{means-never}
-use Rattle.layer_laws.specs.never.Delay.{Handler, withDelay, below, firstRows, MeansNever}
-use Rattle.document_cases.specs.Example.{S, plain}
+use Rattle.layer_laws.specs.never.Delay.{Handler, below, firstRows, MeansNever}
+use Rattle.document_cases.specs.Example.{S, plain, row}
 use Rattle.document_cases.specs.Refused.{short}
 use Rattle.document_cases.specs.Joined.{stampIn0}
 use Rattle.document_cases.specs.Never.{base, tableOf, older, calmer, purgeAt, freed, atDelay}
+use Rattle.wrong_layers.proofs.Ground.{own, clear}
 use Rattle.wrong_layers.specs.Wrong.{butCalls}
 use Rattle.wrong_layers.specs.Never.{clampOnly, minusOneOnly, longestDelay, clampedZero, keepsUsed, unmarks, stampsStill, marksStill, armsStill, tellsNothing, disarms, beforeRows, forcedFindsNone, answersEnd, NeverFails}
 
@@ -56,32 +57,15 @@ swept w = firstOf (firstRows w plain) (outcome (Swept 0) w)
 abbrev byClamp : World → Call → Marked
 byClamp w c = record { who = 7; lent = w; ns = 0; settings = atDelay (negsuc 0); call = c }
 
-abbrev chunk : ℕ → ℕ → Arena
-chunk pending deadline =
-    record {
-      base = S;
-      chunks = 1;
-      exclusive = 1;
-      owned = 0;
-      node = negsuc 0;
-      deadline = deadline;
-      used = replicate 32 0;
-      dirty = 1 ∷ replicate 31 0;
-      committed = 1 ∷ replicate 31 0;
-      pending = pending ∷ replicate 31 0;
-    }
-
-abbrev managed : World
-managed = worldOf (chunk 0 0 ∷ replicate 31 blank) (replicate 32768 0) (stateWith 1 false Idle)
-
+-- as the clamp alone leaves it
 abbrev pended : World
-pended = worldOf (chunk 1 1 ∷ replicate 31 blank) (1 ∷ replicate 32767 0) (stateWith 1 false Idle)
+pended = worldOf (withDeadline (withPending (own 0) (row 1)) 1 ∷ replicate 31 blank) (1 ∷ replicate 32767 0) (stateWith 1 false Idle)
 
 abbrev manages : Marked
 manages = byClamp empty (act (manage S S true (negsuc 0) false true))
 
 abbrev releases : Marked
-releases = byClamp managed (act (release S 1 Untold true))
+releases = byClamp clear (act (release S 1 Untold true))
 
 abbrev sweeps : Marked
 sweeps = byClamp pended unforced

@@ -1,8 +1,6 @@
 -- Wrong readings of wish 2, each as what it does with a call, and that each fails the wish's sentences. All but the first do as the rules do but for one thing. Assumes nothing.
-use mathlib.Core.Path.{_≡_}
 use mathlib.Core.Bool.{Bool, true, false, cond, not, _&&_}
-use mathlib.Core.List.{List}
-use Prim.Native.Nat.{ℕ, zero, suc}
+use Prim.Native.Nat.{zero, suc}
 use lib.Dec.{eqb}
 use lib.IntN.{ℤ, pos, negsuc}
 use lib.ListN.{set}
@@ -11,7 +9,6 @@ use Rattle.arena.specs.declared.Arena.{Arena}
 use Rattle.arena.specs.declared.Commitment.the-variants.{Untold}
 use Rattle.arena.specs.Registering.{noBits}
 use Rattle.arena.specs.Record.{withPending, withDeadline}
-use Rattle.layer.specs.declared.Settings.{Settings}
 use Rattle.layer.specs.declared.Answer.the-variants.{Swept}
 use Rattle.layer.specs.World.{World, Outcome, outcome, worldOf, calm}
 use Rattle.layer.specs.Table.{at}

@@ -1,5 +1,5 @@
 -- Option 15, purge_delay: where every call carries a negative delay nothing is purged, over whole histories. No deadline is ever set, so a forced sweep asks nothing either. Assumes nothing.
-use Rattle.layer.proofs.Prelude.{_≡_, refl, sym, ap, _∙_, subst, Bool, true, false, cond, not, _&&_, _||_, true≢false, List, ⊎-elim, ℕ, zero, suc, _+_, _-_, _<_, _≤_, arith, ℕ-discrete, eq-eqb, ℤ, pos, negsuc, ltb, length, set, lt-or-le, by-cond, unless, Refusal, neverPurges, isDue, Arena, Commitment, newArena, reservedArena, managedArena, adoptedArena, grownArena, takeRun, dirtyRun, giveBackRun, commitRun, finishGrant, releaseRun, sweepDue, World, Outcome, worldOf, stateWith, after, blank, at, askMemory, withRecord, withStamps, sweepFrom, sweptReply, failReply, resume, answerTo, answerOf, isFor, Act, claim, reserve, manage, adopt, release, sweep, owns, area, Call, act, query, answer, staysPending, sweepOf, sweepsNone, actOn, stepOn, rules, step, byRules, History, Marked, begin, next, joining, Lent, left, join, empty, _/_, searchOf, releaseOf, nowMs, delayMs, sound, isIdle, JoinOutcome, isBroken, outcomeBy, isBrokenJoin, joinBy, Side, sideOf, ofFirst, ofSecond}
+use Rattle.layer.proofs.Prelude.{_≡_, refl, sym, ap, _∙_, subst, Bool, true, false, not, _&&_, _||_, true≢false, List, ⊎-elim, ℕ, zero, suc, _+_, _-_, _<_, _≤_, arith, ℕ-discrete, eq-eqb, ℤ, pos, negsuc, ltb, length, set, lt-or-le, by-cond, unless, Refusal, neverPurges, isDue, Arena, Commitment, newArena, reservedArena, managedArena, adoptedArena, grownArena, takeRun, dirtyRun, giveBackRun, commitRun, finishGrant, releaseRun, sweepDue, World, Outcome, worldOf, stateWith, after, blank, at, askMemory, withRecord, withStamps, sweepFrom, sweptReply, failReply, resume, answerTo, answerOf, isFor, Act, claim, reserve, manage, adopt, release, sweep, owns, area, Call, act, query, answer, sweepOf, sweepsNone, actOn, stepOn, rules, byRules, History, begin, next, joining, Lent, left, join, empty, _/_, searchOf, releaseOf, nowMs, delayMs, sound, isIdle, JoinOutcome, isBroken, outcomeBy, isBrokenJoin, joinBy, Side, sideOf, ofFirst, ofSecond}
 use lib.ListN.{List·getD-eq-default}
 use lib.Seq.{set-out}
 use Rattle.options.proofs.Differences.{never-is-negative}

@@ -1,5 +1,5 @@
 -- Wish 2 of the rules: a negative delay means never, and from 0 on document 01's rules stand. Assumes nothing.
-use Rattle.layer.proofs.Prelude.{_≡_, refl, sym, ap, _∙_, subst, Bool, true, false, cond, not, true≢false, List, ⊎-elim, ℕ, ℕ-discrete, ℤ, pos, negsuc, length, set, lt-or-le, Broken, neverPurges, delayMs, Arena, Commitment, Untold, Committed, Uncommitted, giveBackRun, releaseRun, tellRun, World, Outcome, outcome, stateWith, worldOf, at, sound, claimOf, missReply, sweptReply, claim, reserve, manage, adopt, release, sweep, Call, act, query, answer, rules, step}
+use Rattle.layer.proofs.Prelude.{_≡_, refl, sym, ap, _∙_, subst, true, false, cond, not, true≢false, List, ⊎-elim, ℕ, ℕ-discrete, pos, length, set, lt-or-le, Broken, neverPurges, delayMs, Arena, Commitment, Untold, Committed, Uncommitted, giveBackRun, releaseRun, tellRun, World, Outcome, outcome, stateWith, worldOf, at, sound, claimOf, missReply, sweptReply, claim, reserve, manage, adopt, release, sweep, act, query, answer, rules, step}
 use lib.Seq.{set-out}
 use Rattle.refusals.specs.declared.Refusal.the-variants.{QuestionOpen}
 use Rattle.layer.specs.declared.Settings.{Settings}
@@ -11,7 +11,7 @@ use Rattle.layer.specs.Answering.{isIdle}
 use Rattle.layer.proofs.Tools.{at-same, at-other}
 use Rattle.layer.proofs.Cases.{release-in-cases, release-cases}
 use Rattle.layer.proofs.Calls.{act-cases}
-use Rattle.layer_laws.specs.never.Delay.{withDelay, below, NothingPended, PendsNothing, ReleasesUnpended, UnforcedLeavesAll, ForcedAsBefore, ReleasesFromZero, SweepsFromZero, OthersReadNone, readsDelay, MeansNever}
+use Rattle.layer_laws.specs.never.Delay.{withDelay, NothingPended, PendsNothing, ReleasesUnpended, UnforcedLeavesAll, ForcedAsBefore, ReleasesFromZero, SweepsFromZero, OthersReadNone, MeansNever}
 
 -- ---- a record after a store that leaves one thing of it
 

@@ -1,5 +1,5 @@
 -- `sweeping::sweeps_none` meets its contract. The machine holds the delay's bits, and reads back the delay that came in. Assumes nothing.
-use Rattle.state.proofs.Prelude.{sym, ap, _∙_, Bool, not, _&&_, needs, neverPurges}
+use Rattle.state.proofs.Prelude.{sym, ap, _∙_, Bool, _&&_, needs, neverPurges}
 use mir.Facts.{toZ-ofZ}
 use Rattle.sweeping.proofs.sweeps_none.Statement.{statement}
 use Rattle.sweeping.proofs.sweeps_none.Tie as tie

@@ -26,9 +26,9 @@
 #endif
 
 #define SIRQOBAL_VERSION_MAJOR 0
-#define SIRQOBAL_VERSION_MINOR 2
+#define SIRQOBAL_VERSION_MINOR 3
 #define SIRQOBAL_VERSION_PATCH 0
-#define SIRQOBAL_VERSION "0.2.0"
+#define SIRQOBAL_VERSION "0.3.0"
 
 /* Whoever throws the answer away is warned. */
 #if defined(__GNUC__)

@@ -2,9 +2,10 @@
 //! call it, the original called directly, and for the layer the reference in plain C, called as ours
 //! is. A number is the smallest of the means of several rounds; the rounds of the sides take turns.
 //!
-//! `--table T` prints only the slice pool's table (1), the layer's (2), the joins' (3), or that of sweeps with a
-//! negative delay (4); the original has neither of the last two. With `--row R --side S --times N` it makes only the operations of one row, N
-//! times, on the side of that column, and times nothing: for counting instructions (rust/callgrind.sh).
+//! `--table T` prints only the slice pool's table (1), the layer's (2), the joins' (3), or that of sweeps
+//! with a negative delay (4); the original has neither of the last two. With `--row R --side S --times N`
+//! it makes only the operations of one row, N times, on the side of that column, and times nothing: for
+//! counting instructions (rust/callgrind.sh).
 
 mod joins;
 mod layer;

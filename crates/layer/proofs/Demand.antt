@@ -1,12 +1,15 @@
 -- Demand 3, over every history from the empty layer, of every layer that answers and leaves what the rules say: what is told is what the book says. Assumes nothing.
-use Rattle.layer.proofs.Prelude.{_+_, _<_, arith, and-both, World, JoinOutcome, joinedWorld, MarkedJoin, ofFirst, ofSecond, joining, bothSound, byRules, isJoined, joinOf, leaving, followJoin, unites, risen, _≡_, refl, sym, ap, ap₂, _∙_, subst, Bool, true, false, cond, _&&_, true≢false, List, [], _∷_, _++_, append-assoc, append-nil, inl, inr, ℕ, ne-eqb, eqb, ℤ, pos, negsuc, length, by-cond, when, unless, Arena, isOn, Question, Idle, Committing, Purging, Reserving, GivingBack, Reserve, Claim, Kind, ForCommit, ForPurge, ForMemory, ForGiveBack, ForNone, Answer, Refused, Asks, Registered, Claimed, Released, Swept, Owns, Area, Outcome, at, isFor, Act, reserve, manage, adopt, claim, release, sweep, Call, act, query, answer, stepOn, Book, lowest, Fed, claims, Say, enter, enterAll, sayAll, Marked, History, begin, next, isSound, Layer, outcomeBy, Lent, Trail, openAt, isIdle, follow, ruled, entriesOf, entries, said, goesOn, tells, Place, isNone, feeds, hears, fedBy, toldBy, standing, Where, place, fed, told, Premises, Keeps, bookOf, ByTheBook}
+use Rattle.layer.proofs.Prelude.{_+_, _<_, arith, and-both, World, JoinOutcome, joinedWorld, MarkedJoin, ofFirst, ofSecond, joining, bothSound, byRules, isJoined, joinOf, leaving, followJoin, unites, risen, _≡_, refl, sym, ap, ap₂, _∙_, subst, Bool, true, false, cond, _&&_, true≢false, List, [], _∷_, _++_, append-assoc, append-nil, inl, inr, ℕ, ne-eqb, eqb, ℤ, pos, negsuc, length, by-cond, when, unless, Arena, isOn, Question, Idle, Committing, Purging, Reserving, GivingBack, Reserve, Claim, Kind, ForCommit, ForPurge, ForMemory, ForGiveBack, ForNone, Answer, Refused, Asks, Registered, Claimed, Released, Swept, Owns, Area, Outcome, at, isFor, Act, reserve, manage, adopt, claim, release, sweep, Call, act, query, answer, stepOn, Book, lowest, Fed, claims, Say, enter, enterAll, sayAll, Marked, History, begin, next, isSound, Layer, outcomeBy, Lent, Trail, openAt, isIdle, follow, ruled, entriesOf, entries, said, goesOn, tells, Place, isNone, feeds, hears, fedBy, toldBy, standing, Where, place, fed, told, Premises, Keeps, bookOf, ByTheBook, Settings, pageSizeSound, Untold, releaseEach, releaseItem, itemNumber, numberSays, ListOutcome, listFits, MarkedList, ListPremises, listing, isSoundList, isTaken, listBy, listOf, followList, fedByList, toldByList, entriesIn, entriesOfList, saidOfList}
+use mathlib.Core.List.{map}
 use Rattle.layer.specs.History.{Entry, claimsAt, releasesAt, fedAt, bytesIn}
 use Rattle.layer.proofs.Facts.{SoundTable}
 use Rattle.layer.proofs.Shown.{View, calm, committing, purging, viewOf, waitsIn, owedIn, Mine, Role, closing, aside, ends, role, fedOf, heard, toldAs, Stays, bookIn as bookShown, bookAt, owedAt, Inv, Fits}
 use Rattle.layer.proofs.Keeps.{keeps}
 use Rattle.layer.proofs.Asked.{ServedIn, Asked}
+use Rattle.layer.proofs.Stepped.{sound-test}
+use Rattle.layer.proofs.Lists.{page-of, settled, item-idle, each-granted, ListComes, turned-down, one-by-one, list-comes}
 use Rattle.layer.proofs.Joins.{Comes, both-stay, one-table, first-kept, second-moved}
-use Rattle.layer.proofs.Trails.{Good, onTrail, gone, follow-sound, follow-not, size-follows, same-size, join-of-comes, good-ruled, answers-ruled}
+use Rattle.layer.proofs.Trails.{Good, onTrail, gone, on-rules, follow-sound, follow-not, good-follow, size-follows, list-sound, same-size, join-of-comes, good-ruled, answers-ruled, lists-ruled}
 use Rattle.layer.proofs.Opened.{opening}
 
 -- ---- the book over two lists
@@ -223,7 +226,7 @@ module _ (p : ℕ) (a : Place) where
         ∙ sym (append-assoc ss rs (owed u));
   }
 
--- ---- joins: what is told, fed and shown stays, with the id that the arena has then
+-- ---- another table: what is told, fed and shown stays, with the id that the arena has then
 
 -- the record of a stands at i in another table, and no question is open in either
 moved : (p : ℕ) (a : Place) (i : ℕ) (fs : List Fed) (ss : List Say) (t u : Trail) → Along p a fs ss t → openAt t ≡ Idle → openAt u ≡ Idle → i < standing u
@@ -242,6 +245,155 @@ moved p a i fs ss t u r before now low there = record {
       (ap (λ (q : Question). owedIn (a .size) (viewOf (a .id) q) (at (t .world .records) (a .id))) before
       ∙ sym (ap (λ (q : Question). owedIn (a .size) (viewOf i q) (at (u .world .records) i)) now));
 }
+
+-- ---- lists: item after item, each a release of the list's program
+
+none-before : (x y : List Fed) → isNone y ≡ false → isNone (x ++ y) ≡ false
+none-before [] y e = e
+none-before (f ∷ x) y e = refl
+
+none-behind : (x y : List Fed) → isNone (x ++ []) ≡ false → isNone (x ++ y) ≡ false
+none-behind [] y e = absurd (true≢false e)
+none-behind (f ∷ x) y e = refl
+
+module _ (p : ℕ) (a : Place) (who ns : ℕ) (settings : Settings) (pending : Bool) (page : pageSizeSound (settings .page) ≡ true) where
+  -- where the items lead
+  record Led (w : World) (fs : List Fed) (ss : List Say) (xs counts : List ℕ) : Type 0 where
+    to : Trail
+    world : to .world ≡ releaseEach ns settings pending w xs counts .whole .world
+    idle : openAt to ≡ Idle
+    along : Along p a (fs ++ feeds a (entriesIn xs counts)) (ss ++ hears a (entriesIn xs counts) (map numberSays (releaseEach ns settings pending w xs counts .numbers))) to
+
+  nothing-led : (t : Trail) (fs : List Fed) (ss : List Say) → Along p a fs ss t → Along p a (fs ++ []) (ss ++ []) t
+  nothing-led t fs ss r = subst (λ (x : List Fed). Along p a x (ss ++ []) t) (sym (append-nil fs)) (subst (λ (x : List Say). Along p a fs x t) (sym (append-nil ss)) r)
+
+  -- the first item as a call, lent what the rules left, and then the others
+  module _ (t : Trail) (fs : List Fed) (ss : List Say) (sized : a .size ≡ bytesIn t) (g : Good t) (idle : openAt t ≡ Idle) (r : Along p a fs ss t) (x n : ℕ) where
+    abbrev itemCall : Marked
+    itemCall = record { who = who; lent = t .world; ns = ns; settings = settings; call = act (release x n Untold pending) }
+
+    abbrev item : Outcome
+    item = releaseItem ns settings pending (t .world) x n
+
+    item-passes : isSound itemCall ≡ true
+    item-passes = sound-test (bytesIn t) (t .world) (settings .page) (g .world) page
+
+    item-fed : fedBy a itemCall ≡ fedAt a (releasesAt x n) ++ []
+    item-fed = when (isSound itemCall) _ _ item-passes
+
+    item-told : toldBy byRules a t itemCall ≡ cond (isNone (fedAt a (releasesAt x n))) [] (numberSays (itemNumber (item .answer)) ∷ [])
+    item-told =
+        ap (λ (b : Bool). cond (b && true) (hears a (releasesAt x n ∷ []) (said (item .answer))) []) item-passes
+        ∙ ap (hears a (releasesAt x n ∷ [])) (settled ns settings pending page (t .world) (g .world) idle x n .says)
+
+    item-world : follow t itemCall .world ≡ item .world
+    item-world = ap (λ (u : Trail). u .world) (when (isSound itemCall) _ _ item-passes)
+
+    item-along : (isNone (fedAt a (releasesAt x n) ++ []) ≡ false → who ≡ p) → Along p a (fs ++ fedBy a itemCall) (ss ++ toldBy byRules a t itemCall) (follow t itemCall)
+    item-along alone =
+        go-on p a fs (fedBy a itemCall) ss (toldBy byRules a t itemCall) t (follow t itemCall) r
+        (one p a t sized itemCall byRules g (r .inv)
+        (record { alone = λ e. alone (sym (ap isNone item-fed) ∙ e); sound-lent = λ _. item-passes; none-open = λ _ _. idle; agreed = λ _ _. refl })
+        (λ e. on-rules t itemCall g e))
+
+    others-led : (xs counts : List ℕ) → Led (follow t itemCall .world) (fs ++ fedBy a itemCall) (ss ++ toldBy byRules a t itemCall) xs counts → Led (t .world) fs ss (x ∷ xs) (n ∷ counts)
+    others-led xs counts l = go (subst (λ (w : World). Led w (fs ++ fedBy a itemCall) (ss ++ toldBy byRules a t itemCall) xs counts) item-world l)
+      where
+        rest : List Say
+        rest = hears a (entriesIn xs counts) (map numberSays (releaseEach ns settings pending (item .world) xs counts .numbers))
+
+        feeds-both : (fs ++ fedBy a itemCall) ++ feeds a (entriesIn xs counts) ≡ fs ++ (fedAt a (releasesAt x n) ++ feeds a (entriesIn xs counts))
+        feeds-both =
+            ap (λ (y : List Fed). (fs ++ y) ++ feeds a (entriesIn xs counts)) (item-fed ∙ append-nil (fedAt a (releasesAt x n)))
+            ∙ append-assoc fs (fedAt a (releasesAt x n)) (feeds a (entriesIn xs counts))
+
+        both : (s : Say) (b : Bool) → cond b [] (s ∷ []) ++ rest ≡ cond b rest (s ∷ rest)
+        both s true = refl
+        both s false = refl
+
+        says-both : (ss ++ toldBy byRules a t itemCall) ++ rest ≡ ss ++ cond (isNone (fedAt a (releasesAt x n))) rest (numberSays (itemNumber (item .answer)) ∷ rest)
+        says-both =
+            ap (λ (y : List Say). (ss ++ y) ++ rest) item-told
+            ∙ append-assoc ss _ rest
+            ∙ ap (λ (y : List Say). ss ++ y) (both (numberSays (itemNumber (item .answer))) (isNone (fedAt a (releasesAt x n))))
+
+        go : Led (item .world) (fs ++ fedBy a itemCall) (ss ++ toldBy byRules a t itemCall) xs counts → Led (t .world) fs ss (x ∷ xs) (n ∷ counts)
+        go l = record {
+          to = l .to;
+          world = l .world;
+          idle = l .idle;
+          along = subst (λ (y : List Fed). Along p a y (ss ++ cond (isNone (fedAt a (releasesAt x n))) rest (numberSays (itemNumber (item .answer)) ∷ rest)) (l .to)) feeds-both
+              (subst (λ (y : List Say). Along p a ((fs ++ fedBy a itemCall) ++ feeds a (entriesIn xs counts)) y (l .to)) says-both (l .along));
+        }
+
+  leads : (xs counts : List ℕ) (t : Trail) (fs : List Fed) (ss : List Say) → a .size ≡ bytesIn t → Good t → openAt t ≡ Idle
+      → (isNone (feeds a (entriesIn xs counts)) ≡ false → who ≡ p) → Along p a fs ss t → Led (t .world) fs ss xs counts
+  leads [] counts t fs ss sized g idle alone r = record { to = t; world = refl; idle = idle; along = nothing-led t fs ss r }
+  leads (x ∷ xs) [] t fs ss sized g idle alone r = record { to = t; world = refl; idle = idle; along = nothing-led t fs ss r }
+  leads (x ∷ xs) (n ∷ counts) t fs ss sized g idle alone r =
+      others-led t fs ss sized g idle r x n xs counts
+      (leads xs counts (follow t m) (fs ++ fedBy a m) (ss ++ toldBy byRules a t m) (sized ∙ sym (size-follows t m g)) (good-follow t m g)
+      (ap (λ (w : World). w .state .question) (item-world t fs ss sized g idle r x n) ∙ item-idle ns settings pending page (t .world) (g .world) idle x n)
+      (λ e. alone (none-before (fedAt a (releasesAt x n)) (feeds a (entriesIn xs counts)) e))
+      (item-along t fs ss sized g idle r x n (λ e. alone (none-behind (fedAt a (releasesAt x n)) (feeds a (entriesIn xs counts)) e))))
+    where
+      m : Marked
+      m = itemCall t fs ss sized g idle r x n
+
+module _ (p : ℕ) (a : Place) (fs : List Fed) (ss : List Say) (t : Trail) (m : MarkedList) where
+  abbrev es : List Entry
+  es = entriesOfList m
+
+  -- nothing of a list that is refused as a whole
+  none-of-it : isTaken t m ≡ false → Along p a fs ss t → Along p a (fs ++ fedByList a t m) (ss ++ toldByList byRules a t m) t
+  none-of-it e r =
+      subst (λ (x : List Fed). Along p a (fs ++ x) (ss ++ toldByList byRules a t m) t) (sym (unless (isTaken t m) _ _ e))
+      (subst (λ (x : List Say). Along p a (fs ++ []) (ss ++ x) t) (sym (unless (isTaken t m) _ _ e))
+      (subst (λ (x : List Fed). Along p a x (ss ++ []) t) (sym (append-nil fs)) (subst (λ (x : List Say). Along p a fs x t) (sym (append-nil ss)) r)))
+
+  list-goes-on : a .size ≡ bytesIn t → Good t → ListPremises p a t m → (isSoundList m ≡ true → listBy byRules m ≡ listOf t m) → Along p a fs ss t
+      → Along p a (fs ++ fedByList a t m) (ss ++ toldByList byRules a t m) (followList t m)
+  list-goes-on sized g k is r = go (isSoundList m) refl
+    where
+      after : isSoundList m ≡ true → (o : ListOutcome) → listBy byRules m ≡ o → ListComes (t .world) (m .ns) (m .settings) (m .items) o
+          → Along p a (fs ++ fedByList a t m) (ss ++ toldByList byRules a t m) (leaving t (o .whole .world))
+      after e o by (turned-down why f z) =
+          subst (λ (x : ListOutcome). Along p a (fs ++ fedByList a t m) (ss ++ toldByList byRules a t m) (leaving t (x .whole .world))) (sym z)
+          (none-of-it (ap (λ (x : Bool). x && (isIdle (openAt t) && listFits (m .items))) e ∙ sym (ap (λ (x : Bool). x && (isIdle (openAt t) && listFits (m .items))) (list-sound t m g e)) ∙ f) r)
+      after e o by (one-by-one f idle fits z) =
+          subst (λ (x : List Fed). Along p a (fs ++ x) (ss ++ toldByList byRules a t m) (leaving t (o .whole .world))) (sym (when (isTaken t m) _ _ taken))
+          (subst (λ (x : List Say). Along p a (fs ++ feeds a es) (ss ++ x) (leaving t (o .whole .world))) (sym heard-of)
+          (subst (λ (x : World). Along p a (fs ++ feeds a es) (ss ++ hears a es (map numberSays (each .numbers))) (leaving t x)) (l .world ∙ sym (ap (λ (x : ListOutcome). x .whole .world) z))
+          (moved p a (a .id) (fs ++ feeds a es) (ss ++ hears a es (map numberSays (each .numbers))) (l .to) (leaving t (l .to .world)) (l .along) (l .idle) (l .idle) (l .along .inv .low) refl)))
+        where
+          page : pageSizeSound (m .settings .page) ≡ true
+          page = page-of (bytesIn t) (t .world) (m .settings .page) f
+
+          each : ListOutcome
+          each = releaseEach (m .ns) (m .settings) (m .items .pending) (t .world) (m .items .addresses) (m .items .counts)
+
+          taken : isTaken t m ≡ true
+          taken = ap₂ _&&_ e (ap₂ _&&_ (ap isIdle idle) fits)
+
+          l : Led p a (m .who) (m .ns) (m .settings) (m .items .pending) page (t .world) fs ss (m .items .addresses) (m .items .counts)
+          l = leads p a (m .who) (m .ns) (m .settings) (m .items .pending) page (m .items .addresses) (m .items .counts) t fs ss sized g idle
+              (λ u. k .alone (ap isNone (when (isTaken t m) _ _ taken) ∙ u)) r
+
+          heard-of : toldByList byRules a t m ≡ hears a es (map numberSays (each .numbers))
+          heard-of =
+              when (isTaken t m) _ _ taken
+              ∙ ap (λ (x : ListOutcome). hears a es (saidOfList es (x .whole .answer) (x .numbers))) (by ∙ z)
+              ∙ ap (λ (x : Answer). hears a es (saidOfList es x (each .numbers))) (each-granted (m .ns) (m .settings) (m .items .pending) (t .world) (m .items .addresses) (m .items .counts))
+
+      go : (b : Bool) → isSoundList m ≡ b → Along p a (fs ++ fedByList a t m) (ss ++ toldByList byRules a t m) (followList t m)
+      go true e =
+          subst (Along p a (fs ++ fedByList a t m) (ss ++ toldByList byRules a t m)) (sym (when (isSoundList m) _ _ e))
+          (after e (listOf t m) (is e) (list-comes (t .world) (m .ns) (m .settings) (m .items)))
+      go false e =
+          subst (Along p a (fs ++ fedByList a t m) (ss ++ toldByList byRules a t m)) (sym (unless (isSoundList m) _ _ e))
+          (none-of-it (ap (λ (x : Bool). x && (isIdle (openAt t) && listFits (m .items))) e) r)
+
+-- ---- joins, for each side
 
 module _ (p : ℕ) (fs : List Fed) (ss : List Say) (t u : Trail) (m : MarkedJoin) where
   -- an arena of the first
@@ -289,6 +441,7 @@ pub place-size : (h : History) (w : Where h) → place h w .size ≡ bytesIn (ru
 place-size begin w = absurd w
 place-size (next h m) (inl o) = sym (size-follows (ruled h) m (good-ruled h))
 place-size (next h m) (inr w) = place-size h w ∙ sym (size-follows (ruled h) m (good-ruled h))
+place-size (listing h m) w = place-size h w ∙ same-size (ruled (listing h m)) (ruled h)
 place-size (joining ofFirst h g m) (inl w) = place-size h w ∙ same-size (ruled (joining ofFirst h g m)) (ruled h)
 place-size (joining ofFirst h g m) (inr w) = place-size g (w .0) ∙ same-size (ruled (joining ofFirst h g m)) (ruled g)
 place-size (joining ofSecond h g m) w = place-size g (w .0) ∙ same-size (ruled (joining ofSecond h g m)) (ruled g)
@@ -299,6 +452,8 @@ along p (next h m) (inl o) l k = let x = opening p (ruled h) m (good-ruled h) o 
 along p (next h m) (inr w) l k =
     go-on p (place h w) (fed h w) (fedBy (place h w) m) (told byRules h w) (toldBy byRules (place h w) (ruled h) m) (ruled h) (follow (ruled h) m) (along p h w (l .0) (k .0))
     (one p (place h w) (ruled h) (place-size h w) m byRules (good-ruled h) (along p h w (l .0) (k .0) .inv) (k .1) (answers-ruled h m l))
+along p (listing h m) w l k =
+    list-goes-on p (place h w) (fed h w) (told byRules h w) (ruled h) m (place-size h w) (good-ruled h) (k .1) (lists-ruled h m l) (along p h w (l .0) (k .0))
 along p (joining ofFirst h g m) (inl w) l k =
     first-goes-on p (fed h w) (told byRules h w) (ruled h) (ruled g) m (place h w) (good-ruled h) (good-ruled g) (along p h w (l .0) k)
 along p (joining ofFirst h g m) (inr w) l k =

@@ -1,5 +1,5 @@
 -- "no other's claim is granted a chunk there"; and demand 3 as a whole. Assumes nothing.
-use Rattle.layer.proofs.Prelude.{byRules, join, _≡_, refl, sym, ap, ap₂, _∙_, subst, Bool, true, false, cond, not, _&&_, true≢false, List, [], _∷_, _++_, ℕ, _+_, _*_, _<_, arith, leb, ltb, eqb, pos, negsuc, when, Arena, bytesOf, endOf, isInside, never, NoSuchQuestion, Settings, Question, Idle, Committing, Purging, Reserving, GivingBack, Reserve, Claim, Kind, Answer, Refused, Claimed, World, Outcome, at, sound, isFor, answerOf, Act, reserve, manage, adopt, claim, release, sweep, Call, act, query, answer, stepOn, step, lowest, claims, Marked, isSound, Layer, isBroken, Trail, openAt, ruled, entries, goesOn, Place, inRange, isNone, feeds, fedBy, standing, place, isAnswer, claimant, chunksOf, Demand3}
+use Rattle.layer.proofs.Prelude.{Items, releaseList, byRules, join, _≡_, refl, sym, ap, ap₂, _∙_, subst, Bool, true, false, cond, not, _&&_, true≢false, List, [], _∷_, _++_, ℕ, _+_, _*_, _<_, arith, leb, ltb, eqb, pos, negsuc, when, Arena, bytesOf, endOf, isInside, never, NoSuchQuestion, Settings, Question, Idle, Committing, Purging, Reserving, GivingBack, Reserve, Claim, Kind, Answer, Refused, Claimed, World, Outcome, at, sound, isFor, answerOf, Act, reserve, manage, adopt, claim, release, sweep, Call, act, query, answer, stepOn, step, lowest, claims, Marked, isSound, Layer, isBroken, Trail, openAt, ruled, entries, goesOn, Place, inRange, isNone, feeds, fedBy, standing, place, isAnswer, claimant, chunksOf, Demand3}
 use Rattle.layer.specs.World.{sizeOf}
 use Rattle.layer.specs.History.{bytesIn}
 use Rattle.layer.specs.Demand.{OthersElsewhere, StaysSound}
@@ -114,5 +114,9 @@ demand3-rules = record {
 
 -- and of every layer that answers and leaves what they say
 pub demand3 : (L : Layer) → ((w : World) (ns : ℕ) (settings : Settings) (c : Call) → L .does w ns settings c ≡ step w ns settings c)
+    → ((w : World) (ns : ℕ) (settings : Settings) (t : Items) → L .lists w ns settings t ≡ releaseList w ns settings t)
     → ((w v : World) (ns : ℕ) (settings : Settings) → L .joins w v ns settings ≡ join w v ns settings) → Demand3 L
-demand3 L e f = subst Demand3 (λ i. record { does = λ w ns settings c. sym (e w ns settings c) i; joins = λ w v ns settings. sym (f w v ns settings) i }) demand3-rules
+demand3 L e l f =
+    subst Demand3
+    (λ i. record { does = λ w ns settings c. sym (e w ns settings c) i; lists = λ w ns settings t. sym (l w ns settings t) i; joins = λ w v ns settings. sym (f w v ns settings) i })
+    demand3-rules

@@ -18,6 +18,7 @@ pub mod Counts
 pub mod Keeps
 pub mod Outcomes
 pub mod Asked
+pub mod Lists
 pub mod Trails
 pub mod Plain
 pub mod Opened

@@ -13,7 +13,7 @@ pub use native.Mathlib.Decide.{ℕ-discrete}
 pub use native.Mathlib.Nat.{add-mul, div-add-mod', eq-or-lt-of-le, mul-comm, mul-div-cancel, mul-le-mul-right, mul-mod-left, mul-sub, suc-mul}
 pub use native.Mathlib.Omega.{arith}
 pub use Rattle.refusals.specs.declared.Refusal.{Refusal}
-pub use Rattle.refusals.specs.declared.Refusal.the-variants.{ArenasOff, Broken, ChunkCount, CommitRefused, MemoryRefused, NoRun, NoSuchQuestion, NoWholeChunk, NotWhole, PastEnd, QuestionOpen, Range, TableFull, Zero}
+pub use Rattle.refusals.specs.declared.Refusal.the-variants.{ArenasOff, Broken, ChunkCount, CommitRefused, ListLength, MemoryRefused, NoRun, NoSuchQuestion, NoWholeChunk, NotWhole, PastEnd, QuestionOpen, Range, TableFull, Zero}
 pub use Rattle.clock.specs.Clock.{ageOf}
 unfoldable pub use Rattle.clock.specs.Clock.{armed, delayMs, isDue, keeps, neverPurges, nowMs, orOne}
 unfoldable pub use Rattle.options.specs.Options.{arenaAllowed, pageSizeSound}
@@ -55,10 +55,12 @@ unfoldable pub use Rattle.layer.specs.Book.{enter}
 pub use Rattle.layer.specs.Claiming.{grantFound, isNegative, searchAt}
 unfoldable pub use Rattle.layer.specs.Claiming.{asksCommit, claimOf, eligible, grantArena, grantReply, missReply, searchOf, serves}
 pub use Rattle.layer.specs.Demand.{ByTheBook, Demand3, bookOf, chunksOf, claimant}
-pub use Rattle.layer.specs.History.{History, Keeps, Layer, Lent, Marked, MarkedJoin, OpensAt, Place, Premises, Registrable, Side, Trail, Where, begin, bothSound, byRules, declines, entries, entriesOf, fed, fedBy, feeds, follow, followJoin, goesOn, hears, isAnswer, isBroken, isBrokenJoin, isIdle, isJoined, isNone, isSound, joinBy, joinOf, joining, leaving, left, next, ofFirst, ofSecond, openAt, outcomeBy, place, risen, ruled, said, sideOf, standing, start, tells, told, toldBy, unites, waits}
+pub use Rattle.layer.specs.History.{History, Keeps, Layer, Lent, ListPremises, Marked, MarkedJoin, MarkedList, OpensAt, Place, Premises, Registrable, Side, Trail, Where, begin, bothSound, byRules, declines, entries, entriesIn, entriesOf, entriesOfList, fed, fedBy, fedByList, feeds, follow, followJoin, followList, goesOn, hears, isAnswer, isBroken, isBrokenJoin, isIdle, isJoined, isNone, isSound, isSoundList, isTaken, joinBy, joinOf, joining, leaving, left, listBy, listOf, listing, next, numberSays, ofFirst, ofSecond, openAt, outcomeBy, place, risen, ruled, said, saidOfList, sideOf, standing, start, tells, told, toldBy, toldByList, unites, waits}
 unfoldable pub use Rattle.layer.specs.History.{inRange}
 pub use Rattle.layer.specs.Joining.{JoinOutcome, join, joinOutcome, joinedWorld}
 unfoldable pub use Rattle.layer.specs.Joining.{joinOn, joinRules, tablesOverlap}
+pub use Rattle.layer.specs.Listing.{Items, ListOutcome, itemNumber, listOutcome, releaseEach, releaseItem}
+unfoldable pub use Rattle.layer.specs.Listing.{listFits, releaseList}
 pub use Rattle.layer.specs.Registering.{firstWhole, pastWhole, withRecord, withStamps}
 unfoldable pub use Rattle.layer.specs.Registering.{adoptOf, askMemory, badCount, bytesAsked, chunksFor, grows, manageOf, noWholeChunk, reserveOf, reserveReply, tooLarge}
 unfoldable pub use Rattle.layer.specs.Releasing.{releaseOf}

@@ -1,6 +1,7 @@
 -- The rules' own run of a history: its table stays sound and its open question is of the call that put it; and the rules, lent as they left it, go that way. Assumes nothing.
-use Rattle.layer.proofs.Prelude.{_≡_, refl, sym, ap, ap₂, _∙_, subst, Bool, true, false, cond, not, ℕ, arith, eqb, length, length-replicate, when, unless, and-both, pageSizeSound, World, Outcome, empty, soundLent, stepOn, step, JoinOutcome, join, Marked, MarkedJoin, Side, ofFirst, ofSecond, History, begin, next, joining, isSound, bothSound, byRules, outcomeBy, joinBy, isBroken, isBrokenJoin, sideOf, left, Lent, Trail, openAt, isIdle, follow, followJoin, joinOf, leaving, start, ruled}
+use Rattle.layer.proofs.Prelude.{_≡_, refl, sym, ap, ap₂, _∙_, subst, Bool, true, false, cond, not, ℕ, arith, length, length-replicate, when, unless, World, Outcome, empty, stepOn, step, JoinOutcome, join, Marked, MarkedJoin, Side, ofFirst, ofSecond, History, begin, next, joining, isSound, bothSound, byRules, outcomeBy, joinBy, isBroken, isBrokenJoin, sideOf, left, Lent, Trail, openAt, isIdle, follow, followJoin, joinOf, leaving, start, ruled, by-cond, Question, Idle, sound, ListOutcome, releaseList, MarkedList, isSoundList, listBy, listing, listOf, followList}
 use Rattle.layer.specs.World.{sizeOf}
+use Rattle.layer.specs.declared.State.{State}
 use Rattle.layer.specs.History.{bytesIn}
 use Rattle.layer.proofs.ChunkLaws.{size-fits}
 use Rattle.layer.proofs.Kept.{SoundWorld}
@@ -8,6 +9,7 @@ use Rattle.layer.proofs.Stepped.{step-on-kept, sound-test}
 use Rattle.layer.proofs.Outcomes.{refused-1}
 use Rattle.layer.proofs.Asked.{Asked, step-asked}
 use Rattle.layer.proofs.Calls.{past-1}
+use Rattle.layer.proofs.Lists.{page-of, each-sound, each-state, ListComes, turned-down, one-by-one, list-comes, broken-list}
 use Rattle.layer.proofs.Joins.{Comes, both-stay, one-table, join-comes, broken-join, one-table-sound}
 
 -- facts that hold of the rules' own tables alone, and not of every sound one; none so far
@@ -25,12 +27,8 @@ module _ (t : Trail) (m : Marked) where
   abbrev pub onTrail : Outcome
   onTrail = stepOn (bytesIn t) (t .world .records) (t .world .stamps) (t .world .state .count) (t .world .state .mark) (openAt t) (m .ns) (m .settings) (m .call)
 
-  page-sound : isSound m ≡ true → pageSizeSound (m .settings .page) ≡ true
-  unfolding soundLent
-  page-sound e = and-both (pageSizeSound (m .settings .page)) _ (and-both (eqb (length (m .lent .stamps)) 32768) _ (and-both (eqb (length (m .lent .records)) 32) _ e .1) .1) .0
-
   pub on-rules : Good t → isSound m ≡ true → step (t .world) (m .ns) (m .settings) (m .call) ≡ onTrail
-  on-rules g e = past-1 (bytesIn t) (t .world) (m .ns) (m .settings) (sound-test (bytesIn t) (t .world) (m .settings .page) (g .world) (page-sound e)) (m .call)
+  on-rules g e = past-1 (bytesIn t) (t .world) (m .ns) (m .settings) (sound-test (bytesIn t) (t .world) (m .settings .page) (g .world) (page-of (sizeOf (m .lent .state)) (m .lent) (m .settings .page) e)) (m .call)
 
   abbrev pub gone : Outcome → Trail
   gone o = record { world = o .world; asker = cond (isIdle (openAt t)) (m .who) (t .asker); asked = cond (isIdle (openAt t)) (m .call) (t .asked) }
@@ -65,6 +63,28 @@ module _ (t : Trail) (m : Marked) where
       go : (b : Bool) → isSound m ≡ b → bytesIn (follow t m) ≡ bytesIn t
       go true e = ap bytesIn (follow-sound g e) ∙ size-stays
       go false e = ap bytesIn (follow-not e)
+
+-- ---- a list
+
+module _ (t : Trail) (m : MarkedList) where
+  -- what the rules' run lets pass of a list whose own table they let pass
+  pub list-sound : Good t → isSoundList m ≡ true → sound (bytesIn t) (t .world) (m .settings .page) ≡ true
+  list-sound g e = sound-test (bytesIn t) (t .world) (m .settings .page) (g .world) (page-of (sizeOf (m .lent .state)) (m .lent) (m .settings .page) e)
+
+  -- another sound world where no question is open
+  pub good-leaving : (w : World) → SoundWorld (sizeOf (w .state)) w → w .state .question ≡ Idle → Good (leaving t w)
+  good-leaving w k idle = record { world = k; asked = subst (λ (q : Question). Asked (sizeOf (w .state)) (w .records) q (t .asked)) (sym idle) tt; own = tt }
+
+  good-list : Good t → Good (followList t m)
+  good-list g = by-cond Good (isSoundList m) _ _ (λ e. after (listOf t m) (list-comes (t .world) (m .ns) (m .settings) (m .items))) (λ e. g)
+    where
+      after : (o : ListOutcome) → ListComes (t .world) (m .ns) (m .settings) (m .items) o → Good (leaving t (o .whole .world))
+      after o (turned-down why e is) = subst (λ (x : ListOutcome). Good (leaving t (x .whole .world))) (sym is) g
+      after o (one-by-one e idle fits is) =
+          let page = page-of (bytesIn t) (t .world) (m .settings .page) e in
+          subst (λ (x : ListOutcome). Good (leaving t (x .whole .world))) (sym is)
+          (good-leaving _ (each-sound (m .ns) (m .settings) (m .items .pending) page (t .world) (g .world) idle (m .items .addresses) (m .items .counts))
+          (ap (λ (s : State). s .question) (each-state (m .ns) (m .settings) (m .items .pending) page (t .world) (g .world) idle (m .items .addresses) (m .items .counts)) ∙ idle))
 
 -- where nothing stands
 good-empty : (t : Trail) → Good (leaving t empty)
@@ -109,6 +129,7 @@ module _ (t u : Trail) (m : MarkedJoin) where
 pub good-ruled : (h : History) → Good (ruled h)
 good-ruled begin = good-empty start
 good-ruled (next h m) = good-follow (ruled h) m (good-ruled h)
+good-ruled (listing h m) = good-list (ruled h) m (good-ruled h)
 good-ruled (joining side h g m) = good-join (ruled h) (ruled g) m side (good-ruled h) (good-ruled g)
 
 -- ---- the rules as the layer
@@ -116,6 +137,9 @@ good-ruled (joining side h g m) = good-join (ruled h) (ruled g) m side (good-rul
 -- "1" exactly if row 1 does not let it pass
 pub row-1 : (m : Marked) → isBroken (outcomeBy byRules m .answer) ≡ not (isSound m)
 row-1 m = refused-1 (sizeOf (m .lent .state)) (m .lent) (m .ns) (m .settings) (m .call)
+
+row-1-list : (m : MarkedList) → isBroken (listBy byRules m .whole .answer) ≡ not (isSoundList m)
+row-1-list m = broken-list (m .lent) (m .ns) (m .settings) (m .items)
 
 row-1-join : (m : MarkedJoin) → isBrokenJoin (joinBy byRules m .answer) ≡ not (bothSound m)
 row-1-join m = broken-join (sizeOf (m .first .state)) (m .first) (m .second) (m .settings)
@@ -133,6 +157,16 @@ left-ruled (next h m) k = go (isSound m) refl (left-ruled h (k .0))
         ∙ sym (ap (λ (t : Trail). t .world) (when (isSound m) _ _ e))
     go false e before =
         when (isBroken (outcomeBy byRules m .answer)) _ _ (row-1 m ∙ ap not e) ∙ before ∙ sym (ap (λ (t : Trail). t .world) (unless (isSound m) _ _ e))
+left-ruled (listing h m) k = go (isSoundList m) refl (left-ruled h (k .0))
+  where
+    go : (b : Bool) → isSoundList m ≡ b → left byRules h ≡ ruled h .world → left byRules (listing h m) ≡ followList (ruled h) m .world
+    go true e before =
+        let not-1 : isBroken (listBy byRules m .whole .answer) ≡ false = row-1-list m ∙ ap not e in
+        unless (isBroken (listBy byRules m .whole .answer)) _ _ not-1
+        ∙ ap (λ (w : World). releaseList w (m .ns) (m .settings) (m .items) .whole .world) (k .1 not-1 ∙ before)
+        ∙ sym (ap (λ (t : Trail). t .world) (when (isSoundList m) _ _ e))
+    go false e before =
+        when (isBroken (listBy byRules m .whole .answer)) _ _ (row-1-list m ∙ ap not e) ∙ before ∙ sym (ap (λ (t : Trail). t .world) (unless (isSoundList m) _ _ e))
 left-ruled (joining side h g m) k = go (bothSound m) refl side (left-ruled h (k .0)) (left-ruled g (k .1))
   where
     go : (b : Bool) → bothSound m ≡ b → (side : Side) → left byRules h ≡ ruled h .world → left byRules g ≡ ruled g .world → left byRules (joining side h g m) ≡ followJoin side (ruled h) (ruled g) m .world
@@ -157,3 +191,6 @@ left-ruled (joining side h g m) k = go (bothSound m) refl side (left-ruled h (k 
 pub answers-ruled : (h : History) (m : Marked) → Lent byRules (next h m) → isSound m ≡ true → outcomeBy byRules m ≡ onTrail (ruled h) m
 answers-ruled h m k e =
     ap (λ (w : World). step w (m .ns) (m .settings) (m .call)) (k .1 (row-1 m ∙ ap not e) ∙ left-ruled h (k .0)) ∙ on-rules (ruled h) m (good-ruled h) e
+
+pub lists-ruled : (h : History) (m : MarkedList) → Lent byRules (listing h m) → isSoundList m ≡ true → listBy byRules m ≡ listOf (ruled h) m
+lists-ruled h m k e = ap (λ (w : World). releaseList w (m .ns) (m .settings) (m .items)) (k .1 (row-1-list m ∙ ap not e) ∙ left-ruled h (k .0))

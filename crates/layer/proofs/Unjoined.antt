@@ -1,6 +1,6 @@
 -- "a program's calls in its exclusive arena get the addresses and fresh marks they would have got unjoined": the history without joins is the program's alone. It registers the same range in the
 -- empty layer, then claims and releases as the book was fed, and puts no commit question, so that none of its calls waits. Assumes nothing.
-use Rattle.layer.proofs.Prelude.{_≡_, refl, sym, ap, ap₂, _∙_, subst, Bool, true, false, cond, _&&_, List, [], _∷_, _++_, append-assoc, append-nil, inl, inr, ℕ, _+_, _*_, _^_, _<_, arith, eq-eqb, lt-leb, eqb, leb, ltb, pos, negsuc, length, by-cond, when, unless, pageSizeSound, Found, At, Nothing, findRun, Arena, Untold, Settings, Question, Idle, Reserve, ForMemory, Reply, Outcome, empty, after, at, chunksFor, tooLarge, askMemory, reserveReply, reserveOf, asksCommit, grantReply, missReply, grantFound, claimOf, releaseOf, isFor, Act, reserve, manage, claim, release, Call, act, answer, actOn, stepOn, Book, lowest, Fed, claims, releases, Say, opened, sayAll, Marked, History, begin, next, joining, ofFirst, ofSecond, isSound, byRules, Lent, Trail, openAt, isIdle, start, ruled, entries, entriesOf, Place, inRange, feeds, fedBy, waits, Registrable, OpensAt, Where, place, fed, told, bookOf}
+use Rattle.layer.proofs.Prelude.{_≡_, refl, sym, ap, ap₂, _∙_, subst, Bool, true, false, cond, _&&_, List, [], _∷_, _++_, append-assoc, append-nil, inl, inr, ℕ, _+_, _*_, _^_, _<_, arith, eq-eqb, lt-leb, eqb, leb, ltb, pos, negsuc, length, by-cond, when, unless, pageSizeSound, Found, At, Nothing, findRun, Arena, Untold, Settings, Question, Idle, Reserve, ForMemory, Reply, Outcome, empty, after, at, chunksFor, tooLarge, askMemory, reserveReply, reserveOf, asksCommit, grantReply, missReply, grantFound, claimOf, releaseOf, isFor, Act, reserve, manage, claim, release, Call, act, answer, actOn, stepOn, Book, lowest, Fed, claims, releases, Say, opened, sayAll, Marked, History, begin, next, joining, ofFirst, ofSecond, isSound, byRules, Lent, Trail, openAt, isIdle, start, ruled, entries, entriesOf, Place, inRange, feeds, fedBy, waits, Registrable, OpensAt, Where, place, fed, told, bookOf, MarkedList, listing, isTaken, fedByList, entriesOfList}
 use Rattle.layer.specs.History.{Entry, claimsAt, releasesAt, fedAt, bytesIn, Reserves}
 use Rattle.layer.specs.Demand.{AllBut, isUnjoined, Unjoined, AsUnjoined}
 use Rattle.layer.proofs.ChunkLaws.{size-fits, up-is}
@@ -39,10 +39,14 @@ module _ (a : Place) where
   call-inside : (m : Marked) → AllInside (bookOf a) (fedBy a m)
   call-inside m = by-cond (AllInside (bookOf a)) (isSound m) _ _ (λ e. entries-inside (entries (m .call))) (λ e. tt)
 
+  list-inside : (t : Trail) (m : MarkedList) → AllInside (bookOf a) (fedByList a t m)
+  list-inside t m = by-cond (AllInside (bookOf a)) (isTaken t m) _ _ (λ e. entries-inside (entriesOfList m)) (λ e. tt)
+
 fed-inside : (h : History) (w : Where h) → AllInside (bookOf (place h w)) (fed h w)
 fed-inside begin w = absurd w
 fed-inside (next h m) (inl o) = tt
 fed-inside (next h m) (inr w) = append-inside (bookOf (place h w)) (fed h w) (fedBy (place h w) m) (fed-inside h w) (call-inside (place h w) m)
+fed-inside (listing h m) w = append-inside (bookOf (place h w)) (fed h w) (fedByList (place h w) (ruled h) m) (fed-inside h w) (list-inside (place h w) (ruled h) m)
 fed-inside (joining ofFirst h g m) (inl w) = fed-inside h w
 fed-inside (joining ofFirst h g m) (inr w) = fed-inside g (w .0)
 fed-inside (joining ofSecond h g m) w = fed-inside g (w .0)
@@ -56,6 +60,7 @@ range-alone (next h m) (inl o) =
     let r = o .registrable in
     record { some = r .some; few = r .few; whole = r .whole; somewhere = r .somewhere; ends = r .ends; apart = λ i low. absurd (omega (arith, low)); room = omega arith }
 range-alone (next h m) (inr w) = range-alone h w
+range-alone (listing h m) w = range-alone h w
 range-alone (joining ofFirst h g m) (inl w) = range-alone h w
 range-alone (joining ofFirst h g m) (inr w) = range-alone g (w .0)
 range-alone (joining ofSecond h g m) w = range-alone g (w .0)

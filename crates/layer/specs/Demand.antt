@@ -1,5 +1,5 @@
 -- Demand 3, of any layer; proofs/ proves it of every layer that answers and leaves what the rules say. Each statement is about every history from the empty
--- layer, with any nesting of joins in it, lent as the order says, and every exclusive arena whose book opened in it, in this table or in one that was joined
+-- layer, with lists of releases and any nesting of joins in it, lent as the order says, and every exclusive arena whose book opened in it, in this table or in one that was joined
 -- to it, and whose program keeps the premises. Assumes nothing.
 use mathlib.Core.Path.{_≡_}
 use mathlib.Core.Bool.{Bool, true, false, cond, not, _&&_, _||_}
@@ -16,7 +16,7 @@ use Rattle.layer.specs.World.{sizeOf}
 use Rattle.layer.specs.Table.{sound}
 use Rattle.layer.specs.Step.{reserve, manage, adopt, claim, release, sweep, Call, act, query, answer}
 use Rattle.layer.specs.Book.{Book, lowest, Fed, claims, releases, Say, refused, granted, released, opened, sayAll}
-use Rattle.layer.specs.History.{Marked, History, begin, next, joining, Layer, outcomeBy, left, Lent, Trail, ruled, goesOn, Place, inRange, waits, Where, place, fed, told, isAnswer, Keeps}
+use Rattle.layer.specs.History.{Marked, History, begin, next, listing, joining, Layer, outcomeBy, left, Lent, Trail, ruled, goesOn, Place, inRange, waits, Where, place, fed, told, isAnswer, Keeps}
 
 -- the book as it is opened
 abbrev pub bookOf : Place → Book
@@ -114,6 +114,7 @@ Alike L =
 abbrev pub isUnjoined : History → Bool
 isUnjoined begin = true
 isUnjoined (next h m) = isUnjoined h
+isUnjoined (listing h m) = isUnjoined h
 isUnjoined (joining side h g m) = false
 
 -- a history without joins in which the arena is registered alike and its program makes the same calls there

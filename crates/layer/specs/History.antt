@@ -1,11 +1,11 @@
--- Histories: calls, each marked with its program and with what it is lent, from the empty layer, and joins of two histories; any layer's run of one, and the
+-- Histories: calls and lists of releases, each marked with its program and with what it is lent, from the empty layer, and joins of two histories; any layer's run of one, and the
 -- rules' own; what the share book of an exclusive arena is fed and its program is told; and the premises of demand 3. What is open, who asked for what and what is registered are read
 -- off the rules' own run: "a question is open from where the rules above put it until they close it, whatever a layer says". Assumes nothing.
 use mathlib.Core.Path.{_≡_}
 use mathlib.Core.Bool.{Bool, true, false, cond, not, _&&_}
-use mathlib.Core.List.{List, [], _∷_, _++_}
+use mathlib.Core.List.{List, [], _∷_, _++_, map}
 use mathlib.Core.Logic.{_⊎_, inl, inr}
-use Prim.Native.Nat.{ℕ, _+_, _*_, _%_, _^_, _<_, _≤_}
+use Prim.Native.Nat.{ℕ, zero, suc, _+_, _*_, _%_, _^_, _<_, _≤_}
 use lib.IntN.{ℤ, pos, negsuc}
 use lib.Dec.{leb, ltb, eqb}
 use Rattle.refusals.specs.Number.{number}
@@ -22,6 +22,7 @@ use Rattle.layer.specs.Table.{at, sound}
 use Rattle.layer.specs.Answering.{isFor}
 pub use Rattle.layer.specs.Answering.{isIdle}
 use Rattle.layer.specs.Step.{Act, reserve, manage, adopt, claim, release, sweep, owns, Call, act, query, answer, step}
+use Rattle.layer.specs.Listing.{Items, ListOutcome, listFits, releaseList}
 use Rattle.layer.specs.Joining.{JoinOutcome, join}
 use Rattle.layer.specs.Book.{How, lowest, Fed, claims, releases, Say, refused, granted, released}
 
@@ -42,6 +43,14 @@ pub record MarkedJoin : Type 0 where
   pub ns : ℕ
   pub settings : Settings
 
+-- a list of releases, its program, and what it carries and is lent
+pub record MarkedList : Type 0 where
+  pub who : ℕ
+  pub lent : World
+  pub ns : ℕ
+  pub settings : Settings
+  pub items : Items
+
 -- which of its two tables
 pub data Side : Type 0 where
   ofFirst : Side
@@ -52,28 +61,36 @@ pub data Side : Type 0 where
 pub data History : Type 0 where
   begin : History
   next : History → Marked → History
+  listing : History → MarkedList → History
   joining : Side → History → History → MarkedJoin → History
 
 -- "Sound is what row 1 lets pass."
 abbrev pub isSound : Marked → Bool
 isSound m = sound (sizeOf (m .lent .state)) (m .lent) (m .settings .page)
 
+abbrev pub isSoundList : MarkedList → Bool
+isSoundList m = sound (sizeOf (m .lent .state)) (m .lent) (m .settings .page)
+
 abbrev pub bothSound : MarkedJoin → Bool
 bothSound m = sound (sizeOf (m .first .state)) (m .first) (m .settings .page) && sound (sizeOf (m .second .state)) (m .second) (m .settings .page)
 
 -- ---- a layer's run
 
--- what a layer does with a call, and with a join of two tables
+-- what a layer does with a call, with a list of releases, and with a join of two tables
 pub record Layer : Type 0 where
   pub does : World → ℕ → Settings → Call → Outcome
+  pub lists : World → ℕ → Settings → Items → ListOutcome
   pub joins : World → World → ℕ → Settings → JoinOutcome
 
 -- THE RULES as a layer
 abbrev pub byRules : Layer
-byRules = record { does = step; joins = join }
+byRules = record { does = step; lists = releaseList; joins = join }
 
 abbrev pub outcomeBy : Layer → Marked → Outcome
 outcomeBy L m = L .does (m .lent) (m .ns) (m .settings) (m .call)
+
+abbrev pub listBy : Layer → MarkedList → ListOutcome
+listBy L m = L .lists (m .lent) (m .ns) (m .settings) (m .items)
 
 abbrev pub joinBy : Layer → MarkedJoin → JoinOutcome
 joinBy L m = L .joins (m .first) (m .second) (m .ns) (m .settings)
@@ -102,12 +119,14 @@ sideOf ofSecond x y = y
 abbrev pub left : Layer → History → World
 left L begin = empty
 left L (next h m) = cond (isBroken (outcomeBy L m .answer)) (left L h) (outcomeBy L m .world)
+left L (listing h m) = cond (isBroken (listBy L m .whole .answer)) (left L h) (listBy L m .whole .world)
 left L (joining side h g m) = cond (isBrokenJoin (joinBy L m .answer)) (sideOf side (left L h) (left L g)) (sideOf side (joinBy L m .first) (joinBy L m .second))
 
 -- "each call not refused with 1 being lent the records, stamps and state as the last such call left them"
 abbrev pub Lent : Layer → History → Type 0
 Lent L begin = Unit {0}
 Lent L (next h m) = Lent L h × (isBroken (outcomeBy L m .answer) ≡ false → m .lent ≡ left L h)
+Lent L (listing h m) = Lent L h × (isBroken (listBy L m .whole .answer) ≡ false → m .lent ≡ left L h)
 Lent L (joining side h g m) = Lent L h × Lent L g × (isBrokenJoin (joinBy L m .answer) ≡ false → (m .first ≡ left L h) × (m .second ≡ left L g))
 
 -- ---- the rules' own run
@@ -137,13 +156,20 @@ follow t m =
 abbrev pub start : Trail
 start = record { world = empty; asker = 0; asked = query (owns 0) }
 
--- the rules' join of what they left of two tables
-abbrev pub joinOf : Trail → Trail → MarkedJoin → JoinOutcome
-joinOf t u m = join (t .world) (u .world) (m .ns) (m .settings)
-
--- whoever asked is remembered: a join that leaves a question open has left both tables
+-- whoever asked is remembered, where what comes leaves the question that is open
 abbrev pub leaving : Trail → World → Trail
 leaving t w = record { world = w; asker = t .asker; asked = t .asked }
+
+-- the rules' list on what they left: it puts no question
+abbrev pub listOf : Trail → MarkedList → ListOutcome
+listOf t m = releaseList (t .world) (m .ns) (m .settings) (m .items)
+
+abbrev pub followList : Trail → MarkedList → Trail
+followList t m = cond (isSoundList m) (leaving t (listOf t m .whole .world)) t
+
+-- the rules' join of what they left of two tables: one that leaves a question open has left both
+abbrev pub joinOf : Trail → Trail → MarkedJoin → JoinOutcome
+joinOf t u m = join (t .world) (u .world) (m .ns) (m .settings)
 
 abbrev pub followJoin : Side → Trail → Trail → MarkedJoin → Trail
 followJoin side t u m = cond (bothSound m) (sideOf side (leaving t (joinOf t u m .first)) (leaving u (joinOf t u m .second))) (sideOf side t u)
@@ -151,6 +177,7 @@ followJoin side t u m = cond (bothSound m) (sideOf side (leaving t (joinOf t u m
 abbrev pub ruled : History → Trail
 ruled begin = start
 ruled (next h m) = follow (ruled h) m
+ruled (listing h m) = followList (ruled h) m
 ruled (joining side h g m) = followJoin side (ruled h) (ruled g) m
 
 -- the rules make one table of the two
@@ -191,6 +218,27 @@ said (Registered id) = []
 said (Swept count) = []
 said (Owns whether) = []
 said (Area base bytes) = []
+
+-- a list says an entry for each of its items, in its order
+abbrev pub entriesIn : List ℕ → List ℕ → List Entry
+entriesIn (x ∷ xs) (n ∷ counts) = releasesAt x n ∷ entriesIn xs counts
+entriesIn [] counts = []
+entriesIn (x ∷ xs) [] = []
+
+-- and its answers say a word for each: "each item's number (0 for granted) stands at its place". Where the list is turned down as a whole, each item is.
+abbrev pub numberSays : ℕ → Say
+numberSays zero = released
+numberSays (suc n) = refused (suc n)
+
+abbrev pub saidOfList : List Entry → Answer → List ℕ → List Say
+saidOfList es Released numbers = map numberSays numbers
+saidOfList es (Refused why) numbers = map (λ e. refused (number why)) es
+saidOfList es (Claimed address fresh committed) numbers = []
+saidOfList es (Asks ask) numbers = []
+saidOfList es (Registered id) numbers = []
+saidOfList es (Swept count) numbers = []
+saidOfList es (Owns whether) numbers = []
+saidOfList es (Area base bytes) numbers = []
 
 -- an answer goes on with the call that put the question
 abbrev pub goesOn : Trail → Call → Call
@@ -244,6 +292,22 @@ fedBy a m = cond (isSound m) (feeds a (entries (m .call))) []
 -- what a layer's answer to it tells the arena's program: of the call's own entries there, or of those of the call that it goes on with
 abbrev pub toldBy : Layer → Place → Trail → Marked → List Say
 toldBy L a t m = cond (isSound m && tells t (m .call)) (hears a (entries (goesOn t (m .call))) (said (outcomeBy L m .answer))) []
+
+-- the rules do not refuse the list as a whole: rows 1, 2 and 19 let it pass
+abbrev pub isTaken : Trail → MarkedList → Bool
+isTaken t m = isSoundList m && (isIdle (openAt t) && listFits (m .items))
+
+abbrev pub entriesOfList : MarkedList → List Entry
+entriesOfList m = entriesIn (m .items .addresses) (m .items .counts)
+
+-- "A share book is fed its program's items in the range one by one, and nothing of a list refused as a whole."
+abbrev pub fedByList : Place → Trail → MarkedList → List Fed
+fedByList a t m = cond (isTaken t m) (feeds a (entriesOfList m)) []
+
+-- what a layer's answers to it tell the arena's program
+abbrev pub toldByList : Layer → Place → Trail → MarkedList → List Say
+toldByList L a t m =
+    cond (isTaken t m) (hears a (entriesOfList m) (saidOfList (entriesOfList m) (listBy L m .whole .answer) (listBy L m .numbers))) []
 
 -- what was fed and waits for its answer
 abbrev pub waits : Place → Trail → List Fed
@@ -316,6 +380,7 @@ pub record OpensAt (t : Trail) (m : Marked) : Type 0 where
 abbrev pub Where : History → Type 0
 Where begin = ⊥
 Where (next h m) = OpensAt (ruled h) m ⊎ Where h
+Where (listing h m) = Where h
 Where (joining ofFirst h g m) = Where h ⊎ (Where g × (unites (ruled h) (ruled g) m ≡ true))
 Where (joining ofSecond h g m) = Where g × (unites (ruled h) (ruled g) m ≡ false)
 
@@ -328,6 +393,7 @@ abbrev pub place : (h : History) → Where h → Place
 place begin w = absurd w
 place (next h m) (inl o) = record { id = standing (ruled h); size = bytesIn (ruled h); base = o .base; chunks = o .chunks; managed = o .managed }
 place (next h m) (inr w) = place h w
+place (listing h m) w = place h w
 place (joining ofFirst h g m) (inl w) = place h w
 place (joining ofFirst h g m) (inr w) = risen (standing (ruled h)) (place g (w .0))
 place (joining ofSecond h g m) w = place g (w .0)
@@ -339,6 +405,7 @@ abbrev pub fed : (h : History) → Where h → List Fed
 fed begin w = absurd w
 fed (next h m) (inl o) = []
 fed (next h m) (inr w) = fed h w ++ fedBy (place h w) m
+fed (listing h m) w = fed h w ++ fedByList (place h w) (ruled h) m
 fed (joining ofFirst h g m) (inl w) = fed h w
 fed (joining ofFirst h g m) (inr w) = fed g (w .0)
 fed (joining ofSecond h g m) w = fed g (w .0)
@@ -347,6 +414,7 @@ abbrev pub told : Layer → (h : History) → Where h → List Say
 told L begin w = absurd w
 told L (next h m) (inl o) = []
 told L (next h m) (inr w) = told L h w ++ toldBy L (place h w) (ruled h) m
+told L (listing h m) w = told L h w ++ toldByList L (place h w) (ruled h) m
 told L (joining ofFirst h g m) (inl w) = told L h w
 told L (joining ofFirst h g m) (inr w) = told L g (w .0)
 told L (joining ofSecond h g m) w = told L g (w .0)
@@ -373,10 +441,17 @@ pub record Premises (p : ℕ) (a : Place) (t : Trail) (m : Marked) : Type 0 wher
   -- "has each commit question of its own answered yes"
   pub agreed : t .asker ≡ p → isSound m ≡ true → declines (openAt t) (m .call) ≡ false
 
+-- at one list: the same, but that a list answers no question
+pub record ListPremises (p : ℕ) (a : Place) (t : Trail) (m : MarkedList) : Type 0 where
+  pub alone : isNone (fedByList a t m) ≡ false → m .who ≡ p
+  pub sound-lent : m .who ≡ p → isSoundList m ≡ true
+  pub none-open : m .who ≡ p → openAt t ≡ Idle
+
 abbrev pub Keeps : ℕ → (h : History) → Where h → Type 0
 Keeps p begin w = absurd w
 Keeps p (next h m) (inl o) = Unit {0}
 Keeps p (next h m) (inr w) = Keeps p h w × Premises p (place h w) (ruled h) m
+Keeps p (listing h m) w = Keeps p h w × ListPremises p (place h w) (ruled h) m
 Keeps p (joining ofFirst h g m) (inl w) = Keeps p h w
 Keeps p (joining ofFirst h g m) (inr w) = Keeps p g (w .0)
 Keeps p (joining ofSecond h g m) w = Keeps p g (w .0)

@@ -8,6 +8,7 @@ pub mod Sweeping
 pub mod Answering
 pub mod Step
 pub mod Joining
+pub mod Listing
 pub mod Book
 pub mod History
 pub mod Demand

@@ -7,7 +7,7 @@ pub use lib.Dec.{eqb, leb, ltb}
 pub use lib.IntN.{ℤ, pos, negsuc}
 pub use lib.ListN.{length, getD, set, replicate}
 pub use Rattle.refusals.specs.declared.Refusal.{Refusal}
-pub use Rattle.refusals.specs.declared.Refusal.the-variants.{Broken, QuestionOpen, NoSuchQuestion, Zero, ArenasOff, Range, NotWhole, NotInside, PastEnd, NoRun, CommitRefused, ChunkCount, TableFull, MemoryRefused, NoWholeChunk, HostRefused, TablesOverlap, TooManyArenas}
+pub use Rattle.refusals.specs.declared.Refusal.the-variants.{Broken, QuestionOpen, NoSuchQuestion, Zero, ArenasOff, Range, NotWhole, NotInside, PastEnd, NoRun, CommitRefused, ChunkCount, TableFull, MemoryRefused, NoWholeChunk, HostRefused, TablesOverlap, TooManyArenas, ListLength}
 pub use Rattle.clock.specs.Clock.{nowMs, delayMs, neverPurges}
 pub use Rattle.options.specs.Options.{pageSizeSound, arenaAllowed}
 pub use Rattle.bitmap.specs.Bits.{bitAt}
@@ -16,6 +16,7 @@ pub use Rattle.bitmap.specs.declared.runs.Found.the-variants.{At, Nothing}
 pub use Rattle.bitmap.specs.Lowest.{all, least}
 pub use Rattle.arena.specs.declared.Arena.{Arena}
 pub use Rattle.arena.specs.declared.Commitment.{Commitment}
+pub use Rattle.arena.specs.declared.Commitment.the-variants.{Untold}
 pub use Rattle.arena.specs.Flags.{isOn}
 pub use Rattle.arena.specs.Registering.{noBits, reservedArena, managedArena, adoptedArena, grownArena}
 pub use Rattle.arena.specs.Claiming.{findRun, runCommitted, runFresh, takeRun, dirtyRun, giveBackRun, finishGrant}

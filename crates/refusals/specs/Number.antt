@@ -1,7 +1,7 @@
 -- The number of each refusal: the column "No." of document 01's table "Turned down", and those of document 02. The one place that says it.
 use Prim.Native.Nat.{ℕ}
 use Rattle.refusals.specs.declared.Refusal.{Refusal}
-use Rattle.refusals.specs.declared.Refusal.the-variants.{Broken, QuestionOpen, NoSuchQuestion, Zero, ArenasOff, Range, NotWhole, NotInside, PastEnd, NoRun, CommitRefused, ChunkCount, TableFull, MemoryRefused, NoWholeChunk, HostRefused, TablesOverlap, TooManyArenas}
+use Rattle.refusals.specs.declared.Refusal.the-variants.{Broken, QuestionOpen, NoSuchQuestion, Zero, ArenasOff, Range, NotWhole, NotInside, PastEnd, NoRun, CommitRefused, ChunkCount, TableFull, MemoryRefused, NoWholeChunk, HostRefused, TablesOverlap, TooManyArenas, ListLength}
 
 abbrev pub number : Refusal → ℕ
 number Broken = 1
@@ -23,3 +23,5 @@ number HostRefused = 16
 -- "17 when a range of one overlaps a range of the other, 18 when more than 32 arenas result"
 number TablesOverlap = 17
 number TooManyArenas = 18
+-- "19 when the three lengths differ or pass 32,768"
+number ListLength = 19

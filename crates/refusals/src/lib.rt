@@ -40,6 +40,8 @@ pub enum Refusal {
     TablesOverlap,
     // 18: more than 32 arenas would result
     TooManyArenas,
+    // 19: the lengths of a lent list differ, or pass 32,768
+    ListLength,
 }
 
 // The number by which the papers and the C side name a refusal.
@@ -65,5 +67,6 @@ pub fn refusal_number(r: Refusal) -> u32
         Refusal::HostRefused => 16,
         Refusal::TablesOverlap => 17,
         Refusal::TooManyArenas => 18,
+        Refusal::ListLength => 19,
     }
 }

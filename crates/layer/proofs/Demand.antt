@@ -6,8 +6,8 @@ use Rattle.layer.proofs.Facts.{SoundTable}
 use Rattle.layer.proofs.Shown.{View, calm, committing, purging, viewOf, waitsIn, owedIn, Mine, Role, closing, aside, ends, role, fedOf, heard, toldAs, Stays, bookIn as bookShown, bookAt, owedAt, Inv, Fits}
 use Rattle.layer.proofs.Keeps.{keeps}
 use Rattle.layer.proofs.Asked.{ServedIn, Asked}
-use Rattle.layer.proofs.Stepped.{sound-test}
-use Rattle.layer.proofs.Lists.{page-of, settled, item-idle, each-granted, ListComes, turned-down, one-by-one, list-comes}
+use Rattle.layer.proofs.Stepped.{passing-facts, sound-test}
+use Rattle.layer.proofs.Lists.{settled, still-open, each-granted, ListComes, turned-down, one-by-one, list-comes}
 use Rattle.layer.proofs.Joins.{Comes, both-stay, one-table, first-kept, second-moved}
 use Rattle.layer.proofs.Trails.{Good, onTrail, gone, on-rules, follow-sound, follow-not, good-follow, size-follows, list-sound, same-size, join-of-comes, good-ruled, answers-ruled, lists-ruled}
 use Rattle.layer.proofs.Opened.{opening}
@@ -284,7 +284,7 @@ module _ (p : ℕ) (a : Place) (who ns : ℕ) (settings : Settings) (pending : B
     item-told : toldBy byRules a t itemCall ≡ cond (isNone (fedAt a (releasesAt x n))) [] (numberSays (itemNumber (item .answer)) ∷ [])
     item-told =
         ap (λ (b : Bool). cond (b && true) (hears a (releasesAt x n ∷ []) (said (item .answer))) []) item-passes
-        ∙ ap (hears a (releasesAt x n ∷ [])) (settled ns settings pending page (t .world) (g .world) idle x n .says)
+        ∙ ap (hears a (releasesAt x n ∷ [])) (settled ns settings pending (t .world) (item-passes, idle) x n .says)
 
     item-world : follow t itemCall .world ≡ item .world
     item-world = ap (λ (u : Trail). u .world) (when (isSound itemCall) _ _ item-passes)
@@ -333,7 +333,7 @@ module _ (p : ℕ) (a : Place) (who ns : ℕ) (settings : Settings) (pending : B
   leads (x ∷ xs) (n ∷ counts) t fs ss sized g idle alone r =
       others-led t fs ss sized g idle r x n xs counts
       (leads xs counts (follow t m) (fs ++ fedBy a m) (ss ++ toldBy byRules a t m) (sized ∙ sym (size-follows t m g)) (good-follow t m g)
-      (ap (λ (w : World). w .state .question) (item-world t fs ss sized g idle r x n) ∙ item-idle ns settings pending page (t .world) (g .world) idle x n)
+      (ap (λ (w : World). w .state .question) (item-world t fs ss sized g idle r x n) ∙ still-open ns settings pending (t .world) (item-passes t fs ss sized g idle r x n, idle) x n .1)
       (λ e. alone (none-before (fedAt a (releasesAt x n)) (feeds a (entriesIn xs counts)) e))
       (item-along t fs ss sized g idle r x n (λ e. alone (none-behind (fedAt a (releasesAt x n)) (feeds a (entriesIn xs counts)) e))))
     where
@@ -367,7 +367,7 @@ module _ (p : ℕ) (a : Place) (fs : List Fed) (ss : List Say) (t : Trail) (m : 
           (moved p a (a .id) (fs ++ feeds a es) (ss ++ hears a es (map numberSays (each .numbers))) (l .to) (leaving t (l .to .world)) (l .along) (l .idle) (l .idle) (l .along .inv .low) refl)))
         where
           page : pageSizeSound (m .settings .page) ≡ true
-          page = page-of (bytesIn t) (t .world) (m .settings .page) f
+          page = passing-facts (bytesIn t) (t .world) (m .settings .page) f .page-sound
 
           each : ListOutcome
           each = releaseEach (m .ns) (m .settings) (m .items .pending) (t .world) (m .items .addresses) (m .items .counts)

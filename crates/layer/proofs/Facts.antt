@@ -88,6 +88,26 @@ module _ (S : ℕ) (l : List Arena) (k : ℕ) where
 
 -- ---- a store of a record with the same range
 
+module _ (S : ℕ) (l : List Arena) (i : ℕ) (a : Arena) (inside : i < length l) (p : a .base ≡ at l i .base) (q : a .chunks ≡ at l i .chunks) where
+  base-kept : (j : ℕ) → at (set l i a) j .base ≡ at l j .base
+  base-kept j = go (ℕ-discrete j i)
+    where
+      go : Dec (j ≡ i) → at (set l i a) j .base ≡ at l j .base
+      go (yes e) = ap (λ (z : ℕ). at (set l i a) z .base) e ∙ ap (λ (b : Arena). b .base) (at-same l i a inside) ∙ p ∙ ap (λ (z : ℕ). at l z .base) (sym e)
+      go (no e) = ap (λ (b : Arena). b .base) (at-other l i j a e)
+
+  chunks-kept : (j : ℕ) → at (set l i a) j .chunks ≡ at l j .chunks
+  chunks-kept j = go (ℕ-discrete j i)
+    where
+      go : Dec (j ≡ i) → at (set l i a) j .chunks ≡ at l j .chunks
+      go (yes e) = ap (λ (z : ℕ). at (set l i a) z .chunks) e ∙ ap (λ (b : Arena). b .chunks) (at-same l i a inside) ∙ q ∙ ap (λ (z : ℕ). at l z .chunks) (sym e)
+      go (no e) = ap (λ (b : Arena). b .chunks) (at-other l i j a e)
+
+  pub put-meets : (x y : ℕ) → meets S (at (set l i a) x) (at (set l i a) y .base) (bytesOf S (at (set l i a) y)) ≡ meets S (at l x) (at l y .base) (bytesOf S (at l y))
+  put-meets x y =
+      meets-as S (at (set l i a) x) (at l x) (at (set l i a) y .base) (bytesOf S (at (set l i a) y)) (base-kept x) (chunks-kept x)
+      ∙ ap₂ (meets S (at l x)) (base-kept y) (bytes-as S (at (set l i a) y) (at l y) (chunks-kept y))
+
 module _ (S : ℕ) (l : List Arena) (k i : ℕ) (a : Arena) (t : SoundTable S l k) (h : i < k) where
   inside : i < length l
   inside = omega (arith, t .long, t .few)
@@ -98,25 +118,5 @@ module _ (S : ℕ) (l : List Arena) (k i : ℕ) (a : Arena) (t : SoundTable S l 
     few = t .few;
     rows = λ j u. by-set Rows l i a inside r j (λ _. t .rows j u);
     each = λ j u. by-set (SoundArena S) l i a inside x j (λ _. t .each j u);
-    apart = λ x y u v. apart-kept x y u v;
+    apart = λ x y u v. put-meets S l i a inside p q x y ∙ t .apart x y u v;
   }
-    where
-      base-kept : (j : ℕ) → at (set l i a) j .base ≡ at l j .base
-      base-kept j = go (ℕ-discrete j i)
-        where
-          go : Dec (j ≡ i) → at (set l i a) j .base ≡ at l j .base
-          go (yes e) = ap (λ (z : ℕ). at (set l i a) z .base) e ∙ ap (λ (b : Arena). b .base) (at-same l i a inside) ∙ p ∙ ap (λ (z : ℕ). at l z .base) (sym e)
-          go (no e) = ap (λ (b : Arena). b .base) (at-other l i j a e)
-
-      chunks-kept : (j : ℕ) → at (set l i a) j .chunks ≡ at l j .chunks
-      chunks-kept j = go (ℕ-discrete j i)
-        where
-          go : Dec (j ≡ i) → at (set l i a) j .chunks ≡ at l j .chunks
-          go (yes e) = ap (λ (z : ℕ). at (set l i a) z .chunks) e ∙ ap (λ (b : Arena). b .chunks) (at-same l i a inside) ∙ q ∙ ap (λ (z : ℕ). at l z .chunks) (sym e)
-          go (no e) = ap (λ (b : Arena). b .chunks) (at-other l i j a e)
-
-      apart-kept : (x y : ℕ) → x < y → y < k → meets S (at (set l i a) x) (at (set l i a) y .base) (bytesOf S (at (set l i a) y)) ≡ false
-      apart-kept x y u v =
-          meets-as S (at (set l i a) x) (at l x) (at (set l i a) y .base) (bytesOf S (at (set l i a) y)) (base-kept x) (chunks-kept x)
-          ∙ ap₂ (meets S (at l x)) (base-kept y) (bytes-as S (at (set l i a) y) (at l y) (chunks-kept y))
-          ∙ t .apart x y u v

@@ -103,7 +103,7 @@ module _ (S : ℕ) (l : List Arena) (stamps : List ℕ) (k : ℕ) (mark : Bool) 
 
     taken-table : SoundTable S (set l i (takeRun (at l i) s n)) k
     taken-table =
-        put-sound S l k i (takeRun (at l i) s n) t h (take-rows (at l i) s n (t .rows i h)) (take-sound S (at l i) s n (t .rows i h) (t .each i h) room)
+        put-sound S l k i (takeRun (at l i) s n) t h (take-rows (at l i) s n (t .rows i h)) (take-sound S (at l i) s n (t .each i h) room)
         (take-range (at l i) s n .0) (take-range (at l i) s n .1)
 
     asked : SoundQuestion (set l i (takeRun (at l i) s n)) k (Committing i s n)
@@ -116,7 +116,7 @@ module _ (S : ℕ) (l : List Arena) (stamps : List ℕ) (k : ℕ) (mark : Bool) 
     dirtied-table : SoundTable S (set l i (dirtyRun (takeRun (at l i) s n) s n)) k
     dirtied-table =
         put-sound S l k i (dirtyRun (takeRun (at l i) s n) s n) t h (dirty-rows (takeRun (at l i) s n) s n (take-rows (at l i) s n (t .rows i h)))
-        (dirty-sound S (takeRun (at l i) s n) s n (take-rows (at l i) s n (t .rows i h)) (take-sound S (at l i) s n (t .rows i h) (t .each i h) room)
+        (dirty-sound S (takeRun (at l i) s n) s n (take-sound S (at l i) s n (t .each i h) room)
         (omega (arith, room, take-range (at l i) s n .1)))
         (dirty-range (takeRun (at l i) s n) s n .0 ∙ take-range (at l i) s n .0) (dirty-range (takeRun (at l i) s n) s n .1 ∙ take-range (at l i) s n .1)
 
@@ -142,7 +142,7 @@ module _ (S : ℕ) (l : List Arena) (stamps : List ℕ) (k : ℕ) (mark : Bool) 
           → SoundWorld S (worldOf (set l i (releaseRun (at l i) s n told pending now delay)) (cond pending (stampRun stamps (1024 * i + s) n now) stamps) (calm k mark))
       granted i h s room = record {
         table = put-sound S l k i (releaseRun (at l i) s n told pending now delay) t h (release-rows (at l i) s n told pending now delay (t .rows i h))
-            (release-sound S (at l i) s n told pending now delay (t .rows i h) (t .each i h) room)
+            (release-sound S (at l i) s n told pending now delay (t .each i h) room)
             (release-range (at l i) s n told pending now delay .0) (release-range (at l i) s n told pending now delay .1);
         stamps = by-cond (λ (z : List ℕ). length z ≡ 32768) pending _ _ (λ f. stamped (1024 * i + s) n now (omega (arith, room, t .each i h .range .few, t .few))) (λ f. ls);
         question = tt;
@@ -169,7 +169,7 @@ module _ (S : ℕ) (stamps : List ℕ) (k : ℕ) (mark : Bool) (w : Sweep) (ls :
           let inside : j < a .chunks = omega (arith, f .0, f .1) in
           let few : a .chunks ≤ 1024 = x .range .few in
           record {
-            table = put-sound S l k i (borrowChunk a j) t h (borrow-rows a j r) (borrow-sound S a j r x inside) (borrow-range a j .0 ∙ p) (borrow-range a j .1 ∙ q);
+            table = put-sound S l k i (borrowChunk a j) t h (borrow-rows a j r) (borrow-sound S a j x inside) (borrow-range a j .0 ∙ p) (borrow-range a j .1 ∙ q);
             stamps = ls;
             question = subst (λ (z : Arena). (i < k) × (j < z .chunks) × (bitAt (z .used) j ≡ true) × (w .purged ≤ 1024 * i + j)) (sym (at-same l i (borrowChunk a j) there))
                 (h, omega (arith, inside, borrow-range a j .1), borrowed a j r (omega (arith, inside, few)), omega (arith, f .0, b));

@@ -1,16 +1,43 @@
 -- A list of releases: by its rows; and item after item, each of which leaves a sound table sound and the state as it was. So row 1 is looked at once. Assumes nothing.
-use Rattle.layer.proofs.Prelude.{_≡_, refl, sym, ap, ap₂, _∙_, subst, Bool, true, false, not, _&&_, List, [], _∷_, ℕ, suc, and-both, when, unless, eqb, length, Refusal, pageSizeSound, nowMs, delayMs, Settings, Question, Idle, Answer, Refused, Released, Untold, World, Outcome, outcome, calm, soundLent, sound, releaseOf, actOn, staysPending, isBroken, isIdle, said, numberSays, Say, Items, ListOutcome, itemNumber, listOutcome, releaseEach, releaseItem, listFits, releaseList}
+use Rattle.layer.proofs.Prelude.{_≡_, refl, sym, ap, ap₂, _∙_, subst, Bool, true, false, not, _&&_, List, [], _∷_, ℕ, when, unless, length, Refusal, nowMs, delayMs, Settings, Idle, Refused, Released, Untold, World, Outcome, outcome, calm, sound, releaseOf, staysPending, isBroken, isIdle, said, numberSays, Items, ListOutcome, itemNumber, listOutcome, releaseEach, releaseItem, listFits, releaseList, _+_, _-_, _*_, _/_, _<_, _≤_, arith, leb-true, cond, set, length-set, by-cond, Arena, SoundArena, Commitment, releaseRun, stampRun, worldOf, at}
 use Rattle.layer.specs.World.{sizeOf}
 use Rattle.layer.specs.declared.State.{State}
-use Rattle.layer.proofs.Tools.{by-not}
-use Rattle.layer.proofs.Kept.{SoundWorld, Kept, release-kept}
-use Rattle.layer.proofs.Stepped.{sound-test}
+use Rattle.arena.proofs.StaysSound.{release-sound}
+use Rattle.layer.proofs.Tools.{by-not, by-set}
+use Rattle.layer.proofs.Facts.{put-meets}
+use Rattle.layer.proofs.Kept.{SoundWorld, Kept, release-range, stamp-length, release-kept}
+use Rattle.layer.proofs.Stepped.{Passing, passing-facts, passing-test}
 use Rattle.layer.proofs.Cases.{release-in-cases, release-cases}
 use Rattle.layer.proofs.Calls.{idle-is, calm-world, past-2}
 
-pub page-of : (S : ℕ) (w : World) (page : ℕ) → sound S w page ≡ true → pageSizeSound page ≡ true
-unfolding soundLent
-page-of S w page e = and-both (pageSizeSound page) _ (and-both (eqb (length (w .stamps)) 32768) _ (and-both (eqb (length (w .records)) 32) _ e .1) .1) .0
+-- ---- a release keeps the table sound, whatever words its maps are of
+
+module _ (S : ℕ) (l : List Arena) (stamps : List ℕ) (k : ℕ) (mark : Bool) (page : ℕ) (p : Passing S (worldOf l stamps (calm k mark)) page) where
+  pub release-passes : (x n : ℕ) (told : Commitment) (pending : Bool) (now delay : ℕ) → Passing S (releaseOf S l stamps k mark x n told pending now delay .world) page
+  release-passes x n told pending now delay =
+      release-cases S l stamps k mark Passes n told pending now delay x (λ e. p) (λ e f. p)
+      (λ i e h f. release-in-cases S l stamps k mark Passes n told pending now delay i (x - at l i .base) (λ g. p) (λ g r. p)
+      (λ g r. granted i h ((x - at l i .base) / S) (leb-true _ _ r)))
+    where
+      Passes : Outcome → Type 0
+      Passes o = Passing S (o .world) page
+
+      granted : (i : ℕ) → i < k → (s : ℕ) → s + n ≤ at l i .chunks
+          → Passing S (worldOf (set l i (releaseRun (at l i) s n told pending now delay)) (cond pending (stampRun stamps (1024 * i + s) n now) stamps) (calm k mark)) page
+      granted i h s room =
+          let a = releaseRun (at l i) s n told pending now delay in
+          let inside : i < length l = omega (arith, p .long, p .few) in
+          let range = release-range (at l i) s n told pending now delay in
+          record {
+            long = length-set l i a ∙ p .long;
+            stamps = by-cond (λ (z : List ℕ). length z ≡ 32768) pending _ _
+                (λ f. stamp-length stamps (1024 * i + s) n now (omega (arith, room, p .each i h .range .few, p .few, p .stamps)) ∙ p .stamps) (λ f. p .stamps);
+            page-sound = p .page-sound;
+            few = p .few;
+            each = λ j u. by-set (SoundArena S) l i a inside (release-sound S (at l i) s n told pending now delay (p .each i h) room) j (λ _. p .each j u);
+            apart = λ y z u v. put-meets S l i a inside (range .0) (range .1) y z ∙ p .apart y z u v;
+            question = tt;
+          }
 
 -- ---- one item
 
@@ -19,13 +46,17 @@ pub record Settled (w : World) (o : Outcome) : Type 0 where
   pub state : o .world .state ≡ w .state
   pub says : said (o .answer) ≡ numberSays (itemNumber (o .answer)) ∷ []
 
-module _ (ns : ℕ) (settings : Settings) (pending : Bool) (page : pageSizeSound (settings .page) ≡ true) where
-  module _ (w : World) (k : SoundWorld (sizeOf (w .state)) w) (idle : w .state .question ≡ Idle) (x n : ℕ) where
+module _ (ns : ℕ) (settings : Settings) (pending : Bool) where
+  -- what row 1 lets pass, with no question open
+  abbrev pub Open : World → Type 0
+  Open w = (sound (sizeOf (w .state)) w (settings .page) ≡ true) × (w .state .question ≡ Idle)
+
+  module _ (w : World) (h : Open w) (x n : ℕ) where
     abbrev pub itemOf : Outcome
     itemOf = releaseOf (sizeOf (w .state)) (w .records) (w .stamps) (w .state .count) (w .state .mark) x n Untold (staysPending settings pending) (nowMs ns) (delayMs (settings .delay))
 
     pub item-is : releaseItem ns settings pending w x n ≡ itemOf
-    item-is = past-2 (sizeOf (w .state)) w ns settings (sound-test (sizeOf (w .state)) w (settings .page) k page) idle _
+    item-is = past-2 (sizeOf (w .state)) w ns settings (h .0) (h .1) _
 
     item-settled : Settled w itemOf
     item-settled =
@@ -35,41 +66,47 @@ module _ (ns : ℕ) (settings : Settings) (pending : Bool) (page : pageSizeSound
         (λ g. record { state = same; says = refl }) (λ g v. record { state = same; says = refl }) (λ g v. record { state = same; says = refl }))
       where
         same : calm (w .state .count) (w .state .mark) ≡ w .state
-        same = ap (λ (v : World). v .state) (calm-world w idle)
+        same = ap (λ (v : World). v .state) (calm-world w (h .1))
 
     pub settled : Settled w (releaseItem ns settings pending w x n)
     settled = subst (Settled w) (sym item-is) item-settled
 
-    -- "a release keeps the table sound"
-    pub item-kept : Kept (sizeOf (w .state)) (releaseItem ns settings pending w x n)
-    item-kept = subst (Kept (sizeOf (w .state))) (sym item-is) (release-kept _ _ _ _ _ (k .table) (k .stamps) x n Untold (staysPending settings pending) _ _)
+    passes : Passing (sizeOf (w .state)) (releaseItem ns settings pending w x n .world) (settings .page)
+    passes =
+        subst (λ (o : Outcome). Passing (sizeOf (w .state)) (o .world) (settings .page)) (sym item-is)
+        (release-passes _ _ _ _ _ (settings .page) (subst (λ (v : World). Passing (sizeOf (w .state)) v (settings .page)) (sym (calm-world w (h .1))) (passing-facts (sizeOf (w .state)) w (settings .page) (h .0)))
+        x n Untold (staysPending settings pending) _ _)
 
-    pub next-sound : SoundWorld (sizeOf (releaseItem ns settings pending w x n .world .state)) (releaseItem ns settings pending w x n .world)
-    next-sound = subst (λ (s : State). SoundWorld (sizeOf s) (releaseItem ns settings pending w x n .world)) (sym (settled .state)) item-kept
+    -- so the next item finds what this one found, and row 1 need not be looked at again
+    pub still-open : Open (releaseItem ns settings pending w x n .world)
+    still-open = (
+      passing-test _ _ (settings .page) (subst (λ (s : State). Passing (sizeOf s) (releaseItem ns settings pending w x n .world) (settings .page)) (sym (settled .state)) passes),
+      ap (λ (s : State). s .question) (settled .state) ∙ h .1,
+    )
 
-    pub item-idle : releaseItem ns settings pending w x n .world .state .question ≡ Idle
-    item-idle = ap (λ (s : State). s .question) (settled .state) ∙ idle
+    pub item-kept : SoundWorld (sizeOf (w .state)) w → SoundWorld (sizeOf (releaseItem ns settings pending w x n .world .state)) (releaseItem ns settings pending w x n .world)
+    item-kept k =
+        subst (λ (s : State). SoundWorld (sizeOf s) (releaseItem ns settings pending w x n .world)) (sym (settled .state))
+        (subst (Kept (sizeOf (w .state))) (sym item-is) (release-kept _ _ _ _ _ (k .table) (k .stamps) x n Untold (staysPending settings pending) _ _))
 
   -- ---- item after item
 
   -- what holds of the world before the items, and is kept by each, holds after them
-  pub each-keeps : (Q : World → Type 0)
-      → ((w : World) → SoundWorld (sizeOf (w .state)) w → w .state .question ≡ Idle → Q w → (x n : ℕ) → Q (releaseItem ns settings pending w x n .world))
-      → (w : World) → SoundWorld (sizeOf (w .state)) w → w .state .question ≡ Idle → Q w → (xs counts : List ℕ) → Q (releaseEach ns settings pending w xs counts .whole .world)
-  each-keeps Q keep w k idle q [] counts = q
-  each-keeps Q keep w k idle q (x ∷ xs) [] = q
-  each-keeps Q keep w k idle q (x ∷ xs) (n ∷ counts) =
-      each-keeps Q keep (releaseItem ns settings pending w x n .world) (next-sound w k idle x n) (item-idle w k idle x n) (keep w k idle q x n) xs counts
+  pub each-keeps : (Q : World → Type 0) → ((w : World) → Open w → Q w → (x n : ℕ) → Q (releaseItem ns settings pending w x n .world))
+      → (w : World) → Open w → Q w → (xs counts : List ℕ) → Q (releaseEach ns settings pending w xs counts .whole .world)
+  each-keeps Q keep w h q [] counts = q
+  each-keeps Q keep w h q (x ∷ xs) [] = q
+  each-keeps Q keep w h q (x ∷ xs) (n ∷ counts) = each-keeps Q keep (releaseItem ns settings pending w x n .world) (still-open w h x n) (keep w h q x n) xs counts
 
-  pub each-sound : (w : World) → SoundWorld (sizeOf (w .state)) w → w .state .question ≡ Idle → (xs counts : List ℕ)
+  pub each-open : (w : World) → Open w → (xs counts : List ℕ) → Open (releaseEach ns settings pending w xs counts .whole .world)
+  each-open w h xs counts = each-keeps Open (λ v g _ x n. still-open v g x n) w h h xs counts
+
+  pub each-sound : (w : World) → Open w → SoundWorld (sizeOf (w .state)) w → (xs counts : List ℕ)
       → SoundWorld (sizeOf (releaseEach ns settings pending w xs counts .whole .world .state)) (releaseEach ns settings pending w xs counts .whole .world)
-  each-sound w k idle xs counts =
-      each-keeps (λ (v : World). SoundWorld (sizeOf (v .state)) v) (λ v g f _ x n. next-sound v g f x n) w k idle k xs counts
+  each-sound w h k xs counts = each-keeps (λ (v : World). SoundWorld (sizeOf (v .state)) v) (λ v g z x n. item-kept v g x n z) w h k xs counts
 
-  pub each-state : (w : World) → SoundWorld (sizeOf (w .state)) w → w .state .question ≡ Idle → (xs counts : List ℕ)
-      → releaseEach ns settings pending w xs counts .whole .world .state ≡ w .state
-  each-state w k idle xs counts =
-      each-keeps (λ (v : World). v .state ≡ w .state) (λ v g f e x n. settled v g f x n .state ∙ e) w k idle refl xs counts
+  pub each-state : (w : World) → Open w → (xs counts : List ℕ) → releaseEach ns settings pending w xs counts .whole .world .state ≡ w .state
+  each-state w h xs counts = each-keeps (λ (v : World). v .state ≡ w .state) (λ v g e x n. settled v g x n .state ∙ e) w h refl xs counts
 
 -- the list itself is granted
 pub each-granted : (ns : ℕ) (settings : Settings) (pending : Bool) (w : World) (xs counts : List ℕ) → releaseEach ns settings pending w xs counts .whole .answer ≡ Released

@@ -228,7 +228,7 @@ module _ (S : ℕ) (l : List Arena) (stamps : List ℕ) (k : ℕ) (mark : Bool) 
         long = length-set l i (grownArena (at l i) n) ∙ t .long;
         few = t .few;
         rows = λ j u. by-set Rows l i (grownArena (at l i) n) there (grown-rows (at l i) n (t .rows i h)) j (λ e. t .rows j u);
-        each = λ j u. by-set (SoundArena S) l i (grownArena (at l i) n) there (grown-sound S (at l i) n (t .rows i h) (t .each i h) grown-range) j (λ e. t .each j u);
+        each = λ j u. by-set (SoundArena S) l i (grownArena (at l i) n) there (grown-sound S (at l i) n (t .each i h) grown-range) j (λ e. t .each j u);
         apart = λ x y u v. go x y u v (ℕ-discrete x i) (ℕ-discrete y i);
       }
         where

@@ -1,5 +1,5 @@
 -- Sound in, sound out, for every call: answers, and then the one step. Assumes nothing.
-use Rattle.layer.proofs.Prelude.{_≡_, ap₂, _∙_, Bool, true, false, _&&_, List, ℕ, suc, _+_, _-_, _*_, _<_, _≤_, arith, leb-true, le-leb, eqb-true, eq-eqb, leb, eqb, ℤ, length, all, all-free-of, free-all, and-both, pageSizeSound, Arena, reservedArena, giveBackRun, finishGrant, returnChunk, soundArena, SoundRange, arena-facts, Rows, return-rows, Settings, Sweep, Question, Idle, Committing, Purging, Reserving, GivingBack, Waiting, Reserve, Claim, Kind, Refusal, NoRun, World, worldOf, calm, turnDown, at, meets, apart, soundTable, soundLent, sound, askMemory, withRecord, withStamps, missReply, claimOf, isFor, counted, failReply, answerCommit, answerPurge, resume, answerMemory, answerTo, answerOf, sweepFrom, Act, reserve, manage, adopt, claim, release, sweep, Call, act, query, answer, sweepOf, actOn, stepOn, rules, staysPending, sweepsNone}
+use Rattle.layer.proofs.Prelude.{_≡_, ap₂, _∙_, Bool, true, false, _&&_, List, ℕ, suc, _+_, _-_, _*_, _<_, _≤_, arith, leb-true, le-leb, eqb-true, eq-eqb, leb, eqb, ℤ, length, all, all-free-of, free-all, and-both, pageSizeSound, Arena, reservedArena, giveBackRun, finishGrant, returnChunk, soundArena, SoundRange, arena-facts, Rows, return-rows, Settings, Sweep, Question, Idle, Committing, Purging, Reserving, GivingBack, Waiting, Reserve, Claim, Kind, Refusal, NoRun, World, worldOf, calm, turnDown, at, meets, apart, soundTable, soundLent, sound, askMemory, withRecord, withStamps, missReply, claimOf, isFor, counted, failReply, answerCommit, answerPurge, resume, answerMemory, answerTo, answerOf, sweepFrom, Act, reserve, manage, adopt, claim, release, sweep, Call, act, query, answer, sweepOf, actOn, stepOn, rules, staysPending, sweepsNone, SoundArena, bytesOf}
 use Rattle.arena.proofs.SoundLaws.{arena-test}
 use Rattle.arena.proofs.Changes.{finish-rows, give-back-rows}
 use Rattle.arena.proofs.StaysSound.{finish-sound, give-back-sound, return-sound}
@@ -31,13 +31,13 @@ module _ (S : ℕ) (pos : 0 < S) (l : List Arena) (stamps : List ℕ) (k : ℕ) 
   commit-kept : (i s n : ℕ) (granted : Bool) → SoundQuestion l k (Committing i s n) → Kept S (answerCommit S l stamps k mark i s n granted)
   commit-kept i s n true h = record {
     table = put-sound S l k i (finishGrant (at l i) s n true) t (h .0) (finish-rows (at l i) s n true (t .rows i (h .0)))
-        (finish-sound S (at l i) s n true (t .rows i (h .0)) (t .each i (h .0)) (h .1)) (finish-range (at l i) s n true .0) (finish-range (at l i) s n true .1);
+        (finish-sound S (at l i) s n true (t .each i (h .0)) (h .1)) (finish-range (at l i) s n true .0) (finish-range (at l i) s n true .1);
     stamps = ls;
     question = tt;
   }
   commit-kept i s n false h = record {
     table = put-sound S l k i (giveBackRun (at l i) s n) t (h .0) (give-back-rows (at l i) s n (t .rows i (h .0)))
-        (give-back-sound S (at l i) s n (t .rows i (h .0)) (t .each i (h .0)) (h .1)) (give-back-range (at l i) s n .0) (give-back-range (at l i) s n .1);
+        (give-back-sound S (at l i) s n (t .each i (h .0)) (h .1)) (give-back-range (at l i) s n .0) (give-back-range (at l i) s n .1);
     stamps = ls;
     question = tt;
   }
@@ -51,7 +51,7 @@ module _ (S : ℕ) (pos : 0 < S) (l : List Arena) (stamps : List ℕ) (k : ℕ) 
   purge-kept i j w granted h =
       visit-kept S stamps k mark (counted w granted) ls l i (j + 1) (returnChunk (at l i) j granted (w .decommit))
       (sweepFrom S stamps k mark (counted w granted) (k - (i + 1)) (i + 1)) t (h .0) (return-rows (at l i) j granted (w .decommit) (t .rows i (h .0)))
-      (return-sound S (at l i) j granted (w .decommit) (t .rows i (h .0)) (t .each i (h .0)) (h .1)) (return-range (at l i) j granted (w .decommit) .0)
+      (return-sound S (at l i) j granted (w .decommit) (t .each i (h .0)) (h .1)) (return-range (at l i) j granted (w .decommit) .0)
       (return-range (at l i) j granted (w .decommit) .1) (omega (arith, h .3, counted-most w granted))
       (λ m u. sweep-kept S stamps k mark (counted w granted) ls (k - (i + 1)) (i + 1) m u (omega (arith, h .0))
       (omega (arith, h .1, h .3, counted-most w granted, t .each i (h .0) .range .few)))
@@ -123,38 +123,56 @@ module _ (S : ℕ) (pos : 0 < S) (l : List Arena) (stamps : List ℕ) (k : ℕ) 
 abbrev pub Words : World → Type 0
 Words w = (i : ℕ) → i < w .state .count → Rows (at (w .records) i)
 
-pub sound-facts : (S : ℕ) (w : World) (page : ℕ) → Words w → sound S w page ≡ true → SoundWorld S w × (pageSizeSound page ≡ true)
+-- what row 1 lets pass, by facts
+pub record Passing (S : ℕ) (w : World) (page : ℕ) : Type 0 where
+  pub long : length (w .records) ≡ 32
+  pub stamps : length (w .stamps) ≡ 32768
+  pub page-sound : pageSizeSound page ≡ true
+  pub few : w .state .count ≤ 32
+  pub each : (i : ℕ) → i < w .state .count → SoundArena S (at (w .records) i)
+  pub apart : (i j : ℕ) → i < j → j < w .state .count → meets S (at (w .records) i) (at (w .records) j .base) (bytesOf S (at (w .records) j)) ≡ false
+  pub question : SoundQuestion (w .records) (w .state .count) (w .state .question)
+
+pub passing-facts : (S : ℕ) (w : World) (page : ℕ) → sound S w page ≡ true → Passing S w page
 unfolding soundLent soundTable
-sound-facts S w page r e =
+passing-facts S w page e =
     let a = and-both (eqb (length (w .records)) 32) _ e in
     let b = and-both (eqb (length (w .stamps)) 32768) _ (a .1) in
     let c = and-both (pageSizeSound page) _ (b .1) in
     let d = and-both (leb (w .state .count) 32) _ (c .1) in
     let f = and-both (all (λ i. soundArena S (at (w .records) i)) 0 (w .state .count)) _ (d .1) in
-    let g = and-both (apart S (w .records) (w .state .count)) _ (f .1) in (
-      record {
-        table = record {
-          long = eqb-true (length (w .records)) 32 (a .0);
-          few = leb-true (w .state .count) 32 (d .0);
-          rows = r;
-          each = λ i u. arena-facts S (at (w .records) i) (all-free-of (λ x. soundArena S (at (w .records) x)) 0 (w .state .count) (f .0) i (omega arith) (omega arith));
-          apart = apart-facts S (w .records) (w .state .count) (g .0);
-        };
-        stamps = eqb-true (length (w .stamps)) 32768 (b .0);
-        question = question-facts S (w .records) (w .state .count) (w .state .question) (g .1);
-      },
-      c .0,
-    )
+    let g = and-both (apart S (w .records) (w .state .count)) _ (f .1) in
+    record {
+      long = eqb-true (length (w .records)) 32 (a .0);
+      stamps = eqb-true (length (w .stamps)) 32768 (b .0);
+      page-sound = c .0;
+      few = leb-true (w .state .count) 32 (d .0);
+      each = λ i u. arena-facts S (at (w .records) i) (all-free-of (λ x. soundArena S (at (w .records) x)) 0 (w .state .count) (f .0) i (omega arith) (omega arith));
+      apart = apart-facts S (w .records) (w .state .count) (g .0);
+      question = question-facts S (w .records) (w .state .count) (w .state .question) (g .1);
+    }
+
+pub passing-test : (S : ℕ) (w : World) (page : ℕ) → Passing S w page → sound S w page ≡ true
+unfolding soundLent soundTable
+passing-test S w page x =
+    ap₂ _&&_ (eq-eqb (length (w .records)) 32 (x .long))
+    (ap₂ _&&_ (eq-eqb (length (w .stamps)) 32768 (x .stamps))
+    (ap₂ _&&_ (x .page-sound)
+    (ap₂ _&&_ (le-leb (w .state .count) 32 (x .few))
+    (ap₂ _&&_ (free-all (λ i. soundArena S (at (w .records) i)) 0 (w .state .count) (λ i u v. arena-test S (at (w .records) i) (x .each i (omega arith))))
+    (ap₂ _&&_ (apart-test S (w .records) (w .state .count) (x .apart)) (question-test S (w .records) (w .state .count) (w .state .question) (x .question)))))))
+
+pub sound-facts : (S : ℕ) (w : World) (page : ℕ) → Words w → sound S w page ≡ true → SoundWorld S w × (pageSizeSound page ≡ true)
+sound-facts S w page r e =
+    let x = passing-facts S w page e in
+    (record { table = record { long = x .long; few = x .few; rows = r; each = x .each; apart = x .apart }; stamps = x .stamps; question = x .question }, x .page-sound)
 
 pub sound-test : (S : ℕ) (w : World) (page : ℕ) → SoundWorld S w → pageSizeSound page ≡ true → sound S w page ≡ true
-unfolding soundLent soundTable
 sound-test S w page x p =
-    ap₂ _&&_ (eq-eqb (length (w .records)) 32 (x .table .long))
-    (ap₂ _&&_ (eq-eqb (length (w .stamps)) 32768 (x .stamps))
-    (ap₂ _&&_ p
-    (ap₂ _&&_ (le-leb (w .state .count) 32 (x .table .few))
-    (ap₂ _&&_ (free-all (λ i. soundArena S (at (w .records) i)) 0 (w .state .count) (λ i u v. arena-test S (at (w .records) i) (x .table .each i (omega arith))))
-    (ap₂ _&&_ (apart-test S (w .records) (w .state .count) (x .table .apart)) (question-test S (w .records) (w .state .count) (w .state .question) (x .question)))))))
+    passing-test S w page
+    (record {
+      long = x .table .long; stamps = x .stamps; page-sound = p; few = x .table .few; each = x .table .each; apart = x .table .apart; question = x .question;
+    })
 
 -- a call on a table that row 1 lets pass leaves one that row 1 lets pass, at any sound page size
 pub step-sound : (S : ℕ) → 0 < S → (w : World) (ns : ℕ) (settings : Settings) (c : Call) → Words w → sound S w (settings .page) ≡ true

@@ -5,11 +5,11 @@ use Rattle.layer.specs.declared.State.{State}
 use Rattle.layer.specs.History.{bytesIn}
 use Rattle.layer.proofs.ChunkLaws.{size-fits}
 use Rattle.layer.proofs.Kept.{SoundWorld}
-use Rattle.layer.proofs.Stepped.{step-on-kept, sound-test}
+use Rattle.layer.proofs.Stepped.{step-on-kept, passing-facts, sound-test}
 use Rattle.layer.proofs.Outcomes.{refused-1}
 use Rattle.layer.proofs.Asked.{Asked, step-asked}
 use Rattle.layer.proofs.Calls.{past-1}
-use Rattle.layer.proofs.Lists.{page-of, each-sound, each-state, ListComes, turned-down, one-by-one, list-comes, broken-list}
+use Rattle.layer.proofs.Lists.{each-sound, each-state, ListComes, turned-down, one-by-one, list-comes, broken-list}
 use Rattle.layer.proofs.Joins.{Comes, both-stay, one-table, join-comes, broken-join, one-table-sound}
 
 -- facts that hold of the rules' own tables alone, and not of every sound one; none so far
@@ -28,7 +28,7 @@ module _ (t : Trail) (m : Marked) where
   onTrail = stepOn (bytesIn t) (t .world .records) (t .world .stamps) (t .world .state .count) (t .world .state .mark) (openAt t) (m .ns) (m .settings) (m .call)
 
   pub on-rules : Good t → isSound m ≡ true → step (t .world) (m .ns) (m .settings) (m .call) ≡ onTrail
-  on-rules g e = past-1 (bytesIn t) (t .world) (m .ns) (m .settings) (sound-test (bytesIn t) (t .world) (m .settings .page) (g .world) (page-of (sizeOf (m .lent .state)) (m .lent) (m .settings .page) e)) (m .call)
+  on-rules g e = past-1 (bytesIn t) (t .world) (m .ns) (m .settings) (sound-test (bytesIn t) (t .world) (m .settings .page) (g .world) (passing-facts (sizeOf (m .lent .state)) (m .lent) (m .settings .page) e .page-sound)) (m .call)
 
   abbrev pub gone : Outcome → Trail
   gone o = record { world = o .world; asker = cond (isIdle (openAt t)) (m .who) (t .asker); asked = cond (isIdle (openAt t)) (m .call) (t .asked) }
@@ -69,7 +69,7 @@ module _ (t : Trail) (m : Marked) where
 module _ (t : Trail) (m : MarkedList) where
   -- what the rules' run lets pass of a list whose own table they let pass
   pub list-sound : Good t → isSoundList m ≡ true → sound (bytesIn t) (t .world) (m .settings .page) ≡ true
-  list-sound g e = sound-test (bytesIn t) (t .world) (m .settings .page) (g .world) (page-of (sizeOf (m .lent .state)) (m .lent) (m .settings .page) e)
+  list-sound g e = sound-test (bytesIn t) (t .world) (m .settings .page) (g .world) (passing-facts (sizeOf (m .lent .state)) (m .lent) (m .settings .page) e .page-sound)
 
   -- another sound world where no question is open
   pub good-leaving : (w : World) → SoundWorld (sizeOf (w .state)) w → w .state .question ≡ Idle → Good (leaving t w)
@@ -81,10 +81,9 @@ module _ (t : Trail) (m : MarkedList) where
       after : (o : ListOutcome) → ListComes (t .world) (m .ns) (m .settings) (m .items) o → Good (leaving t (o .whole .world))
       after o (turned-down why e is) = subst (λ (x : ListOutcome). Good (leaving t (x .whole .world))) (sym is) g
       after o (one-by-one e idle fits is) =
-          let page = page-of (bytesIn t) (t .world) (m .settings .page) e in
           subst (λ (x : ListOutcome). Good (leaving t (x .whole .world))) (sym is)
-          (good-leaving _ (each-sound (m .ns) (m .settings) (m .items .pending) page (t .world) (g .world) idle (m .items .addresses) (m .items .counts))
-          (ap (λ (s : State). s .question) (each-state (m .ns) (m .settings) (m .items .pending) page (t .world) (g .world) idle (m .items .addresses) (m .items .counts)) ∙ idle))
+          (good-leaving _ (each-sound (m .ns) (m .settings) (m .items .pending) (t .world) (e, idle) (g .world) (m .items .addresses) (m .items .counts))
+          (ap (λ (s : State). s .question) (each-state (m .ns) (m .settings) (m .items .pending) (t .world) (e, idle) (m .items .addresses) (m .items .counts)) ∙ idle))
 
 -- where nothing stands
 good-empty : (t : Trail) → Good (leaving t empty)

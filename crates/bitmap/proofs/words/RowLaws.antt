@@ -225,6 +225,14 @@ module _ (b : Bool) (ws : List ℕ) (start n : ℕ) where
       ∙ ap (λ (t : Bool). cond t b (bitAt ws j)) (sym (within-after start n j (omega arith))))
       (lt-or-le j (32 * length ws))
 
+  -- a place outside the run is as it was, wherever the run lies
+  pub writeRun-elsewhere : (j : ℕ) → within start n j ≡ false → bitAt (writeRun b ws start n) j ≡ bitAt ws j
+  unfolding writeRun
+  writeRun-elsewhere j e =
+      ⊎-elim (λ (l : j < 32 * length ws). pack-bit (λ i. cond (within start n i) b (bitAt ws i)) (length ws) j l ∙ ap (λ (t : Bool). cond t b (bitAt ws j)) e)
+      (λ (l : 32 * length ws ≤ j). past-the-end (writeRun b ws start n) j (rw writeRun-length l) ∙ sym (past-the-end ws j l))
+      (lt-or-le j (32 * length ws))
+
   -- a row that is as long and has those places is that row
   pub writeRun-is : (r : List ℕ) → length r ≡ length ws → ((i : ℕ) → getD r i 0 < 2 ^ 32) → ((j : ℕ) → bitAt r j ≡ cond (within start n j) b (bitAt ws j)) → r ≡ writeRun b ws start n
   unfolding writeRun

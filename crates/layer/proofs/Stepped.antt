@@ -171,7 +171,13 @@ pub sound-test : (S : ℕ) (w : World) (page : ℕ) → SoundWorld S w → pageS
 sound-test S w page x p =
     passing-test S w page
     (record {
-      long = x .table .long; stamps = x .stamps; page-sound = p; few = x .table .few; each = x .table .each; apart = x .table .apart; question = x .question;
+      long = x .table .long;
+      stamps = x .stamps;
+      page-sound = p;
+      few = x .table .few;
+      each = x .table .each;
+      apart = x .table .apart;
+      question = x .question;
     })
 
 -- a call on a table that row 1 lets pass leaves one that row 1 lets pass, at any sound page size

@@ -14,6 +14,9 @@ pub record Items : Type 0 where
   pub answers : List ℕ
   pub pending : Bool
 
+abbrev pub items : List ℕ → List ℕ → List ℕ → Bool → Items
+items addresses counts answers pending = record { addresses = addresses; counts = counts; answers = answers; pending = pending }
+
 -- what the call as a whole answers and leaves, and the numbers that stand in the list of answers then
 pub record ListOutcome : Type 0 where
   pub whole : Outcome

@@ -10,3 +10,4 @@ pub mod ShapeMmmm
 pub mod ShapeMs
 pub mod Rotations
 pub mod ShapeSs
+pub mod ShapeMmssm

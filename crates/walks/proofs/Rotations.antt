@@ -18,3 +18,9 @@ module _ {M : Type 1} {𝓤 : URA M} {H : Heap 𝓤} {A : Atoms 𝓤} {K : Type 
 
   pub from-3 : K → {i0 i1 i2 i3 l : Item 𝓤} → Step K W ((i0 ⊛ (i1 ⊛ (i2 ⊛ (i3 ⊛ l)))) ∷ Γ) G ((i3 ⊛ (i0 ⊛ (i1 ⊛ (i2 ⊛ l)))) ∷ Γ) G
   from-3 t = step (λ s. split t $ move t (1 ∷ []) $ split t $ move t (1 ∷ []) $ split t $ move t (1 ∷ []) $ split t $ move t (4 ∷ 1 ∷ []) $ join t $ move t (1 ∷ 0 ∷ []) $ join t $ move t (1 ∷ 0 ∷ []) $ join t $ move t (1 ∷ 0 ∷ []) $ join t $ s)
+
+  pub to-4 : K → {i0 i1 i2 i3 i4 l : Item 𝓤} → Step K W ((i4 ⊛ (i0 ⊛ (i1 ⊛ (i2 ⊛ (i3 ⊛ l))))) ∷ Γ) G ((i0 ⊛ (i1 ⊛ (i2 ⊛ (i3 ⊛ (i4 ⊛ l))))) ∷ Γ) G
+  to-4 t = step (λ s. split t $ move t (1 ∷ []) $ split t $ move t (1 ∷ []) $ split t $ move t (1 ∷ []) $ split t $ move t (1 ∷ []) $ split t $ move t (2 ∷ 1 ∷ []) $ join t $ move t (2 ∷ 0 ∷ []) $ join t $ move t (2 ∷ 0 ∷ []) $ join t $ move t (2 ∷ 0 ∷ []) $ join t $ move t (1 ∷ 0 ∷ []) $ join t $ s)
+
+  pub from-4 : K → {i0 i1 i2 i3 i4 l : Item 𝓤} → Step K W ((i0 ⊛ (i1 ⊛ (i2 ⊛ (i3 ⊛ (i4 ⊛ l))))) ∷ Γ) G ((i4 ⊛ (i0 ⊛ (i1 ⊛ (i2 ⊛ (i3 ⊛ l))))) ∷ Γ) G
+  from-4 t = step (λ s. split t $ move t (1 ∷ []) $ split t $ move t (1 ∷ []) $ split t $ move t (1 ∷ []) $ split t $ move t (1 ∷ []) $ split t $ move t (5 ∷ 1 ∷ []) $ join t $ move t (1 ∷ 0 ∷ []) $ join t $ move t (1 ∷ 0 ∷ []) $ join t $ move t (1 ∷ 0 ∷ []) $ join t $ move t (1 ∷ 0 ∷ []) $ join t $ s)

@@ -1,27 +1,29 @@
--- Functions of `release_lists` that a walk calls, each in one step: address-at-pass, as-number-step, count-at-pass, fits-step, number-of-step, put-number-step, release-each-as-mmssm, release-item-step, released-step. Written by tools/walks.
+-- Functions of `release_lists` that a walk calls, each in one step: address-at-pass, as-number-step, chunk-release-list-as-mmssm, count-at-pass, fits-step, number-of-step, put-number-step, release-each-as-mmssm, release-item-step, released-step. Written by tools/walks.
 -- Assumes `Given`, the callee's theorem, and that the table of calls is monotone under a frame.
 use Rattle.walks.proofs.Walking.{_≡_, refl, sym, _∙_, ap, subst, Bool, ℕ, _<_, _^_, List, [], _∷_, eqb, leb, length, getD, set, w32, w64, Operand, Val, vint, vbool, URA, SProp, emp, id⊢, Memory, Routine, Heap, Env, Calls, Atoms, Given, Item, Goal, Seq, ‵, _⊛_, Opds, Fun, factI, bool, u32, u64, usize, yes, Is, Ises, owns-make, Nothing, uint-makes, bool-tells, bool-makes, plain, only, tripleOf, Contract, Triple, Loan, lent, shared, sliceOf, Site, plain-call, mut-call, pass-call, mut2-call}
-use Rattle.layer.proofs.Reply as T-Reply
-use Rattle.layer.proofs.Reply.Laws as L-Reply
-use denote.Struct.Laws as LL
 use Rattle.layer.proofs.State as T-State
 use Rattle.layer.proofs.State.Laws as L-State
+use denote.Struct.Laws as LL
 use Rattle.layer.proofs.Settings as T-Settings
 use Rattle.layer.proofs.Settings.Laws as L-Settings
 use Rattle.arena.proofs.Arena as T-Arena
-use mathlib.Core.Bool.{_&&_}
-use Rattle.layer.specs.declared.Reply.{Reply}
-use Rattle.layer.specs.Listing.{itemNumber, releaseEach, releaseItem}
+use Rattle.layer.proofs.Reply as T-Reply
+use Rattle.layer.proofs.Reply.Laws as L-Reply
 use Rattle.layer.specs.declared.State.{State}
 use Rattle.layer.specs.declared.Settings.{Settings}
 use Rattle.arena.specs.declared.Arena.{Arena}
+use Rattle.layer.specs.declared.Reply.{Reply}
 use Rattle.layer.specs.World.{worldOf, reply, calm}
+use Rattle.layer.specs.Listing.{items, releaseList, LeavesList, itemNumber, releaseEach, releaseItem}
+use mathlib.Core.Bool.{_&&_}
 use Rattle.release_lists.specs.Passed.{Passed, LeavesItem}
 use Rattle.layer.specs.declared.Answer.the-variants.{Released}
 use Rattle.release_lists.proofs.address_at as address-at′
 use Rattle.release_lists.proofs.address_at.Symbol.{name as #release-lists·address-at}
 use Rattle.release_lists.proofs.as_number as as-number′
 use Rattle.release_lists.proofs.as_number.Symbol.{name as #release-lists·as-number}
+use Rattle.release_lists.proofs.chunk_release_list as chunk-release-list′
+use Rattle.release_lists.proofs.chunk_release_list.Symbol.{name as #release-lists·chunk-release-list}
 use Rattle.release_lists.proofs.count_at as count-at′
 use Rattle.release_lists.proofs.count_at.Symbol.{name as #release-lists·count-at}
 use Rattle.release_lists.proofs.fits as fits′
@@ -45,6 +47,9 @@ module _ {M : Type 1} (𝓤 : URA M) (H : Heap 𝓤) (A : Atoms 𝓤) (mem : Mem
 
   abbrev pub AsNumberSpec : Contract 𝓤
   AsNumberSpec = tripleOf 𝓤 H A as-number′.signature (as-number′.spec 𝓤 H A mem run)
+
+  abbrev pub ChunkReleaseListSpec : Contract 𝓤
+  ChunkReleaseListSpec = tripleOf 𝓤 H A chunk-release-list′.signature (chunk-release-list′.spec 𝓤 H A mem run)
 
   abbrev pub CountAtSpec : Contract 𝓤
   CountAtSpec = tripleOf 𝓤 H A count-at′.signature (count-at′.spec 𝓤 H A mem run)
@@ -87,6 +92,16 @@ module _ {M : Type 1} {𝓤 : URA M} {H : Heap 𝓤} {A : Atoms 𝓤} {K : Type 
       plain-call bang site usize (plain (λ _. u32) ∷ []) (yes, tt) (as-number′.clauses 𝓤 H A mem run) known (count, tt) (vint w32 count ∷ [], tt)
       (owns-make 𝓤 H A (u32 ∷ []) (Ises (u32 ∷ [])) (uint-makes 𝓤 H A W w32, tt) (count, tt) (vint w32 count ∷ [], tt) ((refl, f-count), tt)) tt (id⊢ 𝓤 _)
       (λ out. out ≡ count) (λ out ws. id⊢ 𝓤 _) ops (λ val′ out rel′ eq′. subst (λ (new′ : Val). Seq K W (more ∷ Γ) (after new′)) (sym (ap only (rel′ .0) ∙ ap (vint w64) eq′)) (then′ (subst (λ (num′ : ℕ). num′ < 2 ^ 64) eq′ (rel′ .1))))
+
+  pub chunk-release-list-as-mmssm : K → Site K W Γ C E #release-lists·chunk-release-list xs G after → (mem : Memory → SProp 𝓤) (run : Routine → Fun 𝓤) → Triple 𝓤 (C #release-lists·chunk-release-list) (ChunkReleaseListSpec 𝓤 H A mem run)
+      → (L-records : Loan) (records : List Arena) → (L-stamps : Loan) (stamps : List ℕ) → (L-addresses : Loan) (addresses : List ℕ) → (L-counts : Loan) (counts : List ℕ) → (L-answers : Loan) (answers : List ℕ) → (state : State) (v-state : Val) → Is T-State.the-row state (v-state ∷ []) → (ns : ℕ) → ns < 2 ^ 64 → (settings : Settings) (v-settings : Val) → Is T-Settings.the-row settings (v-settings ∷ []) → (pending : Bool)
+      → ((hd′ : Item 𝓤) → Opds K W (hd′ ∷ Γ) E xs (sliceOf L-records ∷ sliceOf L-stamps ∷ sliceOf L-addresses ∷ sliceOf L-counts ∷ sliceOf L-answers ∷ v-state ∷ vint w64 ns ∷ v-settings ∷ vbool pending ∷ []))
+      → ((val′ : Val) (out : Reply) (records-exit : List Arena) (stamps-exit : List ℕ) (answers-exit : List ℕ) → Is T-Reply.the-row out (val′ ∷ []) → LeavesList (releaseList (worldOf records stamps state) ns settings (items addresses counts answers pending)) out records-exit stamps-exit answers-exit → length records-exit ≡ length records → length stamps-exit ≡ length stamps → length answers-exit ≡ length answers → Seq K W ((‵ (lent T-Arena.the-row L-records records-exit) ⊛ (‵ (lent u32 L-stamps stamps-exit) ⊛ (‵ (shared u64 L-addresses addresses) ⊛ (‵ (shared u32 L-counts counts) ⊛ (‵ (lent u32 L-answers answers-exit) ⊛ more))))) ∷ Γ) (after val′))
+      → Seq K W ((‵ (lent T-Arena.the-row L-records records) ⊛ (‵ (lent u32 L-stamps stamps) ⊛ (‵ (shared u64 L-addresses addresses) ⊛ (‵ (shared u32 L-counts counts) ⊛ (‵ (lent u32 L-answers answers) ⊛ more))))) ∷ Γ) G
+  chunk-release-list-as-mmssm bang site mem run known L-records records L-stamps stamps L-addresses addresses L-counts counts L-answers answers state v-state g-state ns f-ns settings v-settings g-settings pending ops then′ =
+      mmssm-call bang site T-Arena.the-row u32 u64 u32 u32 L-records L-stamps L-addresses L-counts L-answers T-Reply.the-row (plain (λ _. T-State.the-row) ∷ plain (λ _. u64) ∷ plain (λ _. T-Settings.the-row) ∷ plain (λ _. bool) ∷ []) (yes, (yes, (yes, (yes, tt)))) (chunk-release-list′.clauses 𝓤 H A mem run) known records stamps addresses counts answers (λ _. (state, (ns, (settings, (pending, tt))))) (λ _. (v-state ∷ [], (vint w64 ns ∷ [], (v-settings ∷ [], (vbool pending ∷ [], tt)))))
+      (λ _. owns-make 𝓤 H A (T-State.the-row ∷ u64 ∷ T-Settings.the-row ∷ bool ∷ []) (Ises (T-State.the-row ∷ u64 ∷ T-Settings.the-row ∷ bool ∷ [])) (LL.makes T-State.the-type L-State.the-plain 𝓤 H A, (uint-makes 𝓤 H A W w64, (LL.makes T-Settings.the-type L-Settings.the-plain 𝓤 H A, (bool-makes 𝓤 H A W, tt)))) (state, (ns, (settings, (pending, tt)))) (v-state ∷ [], (vint w64 ns ∷ [], (v-settings ∷ [], (vbool pending ∷ [], tt)))) (g-state, ((refl, f-ns), (g-settings, (refl, tt))))) (λ _ _ _ _. tt) (λ _ _ _ _. id⊢ 𝓤 _)
+      (λ out records-exit stamps-exit answers-exit. LeavesList (releaseList (worldOf records stamps state) ns settings (items addresses counts answers pending)) out records-exit stamps-exit answers-exit) (λ _ _ _ _ out ws. id⊢ 𝓤 _) (λ hd′ _. ops hd′) (λ val′ out records-exit stamps-exit answers-exit rel′ eq′ l-records l-stamps l-answers. then′ val′ out records-exit stamps-exit answers-exit rel′ eq′ l-records l-stamps l-answers)
 
   pub count-at-pass : K → Site K W Γ C E #release-lists·count-at xs G after → (mem : Memory → SProp 𝓤) (run : Routine → Fun 𝓤) → Triple 𝓤 (C #release-lists·count-at) (CountAtSpec 𝓤 H A mem run)
       → (L-counts : Loan) (counts : List ℕ) → (j : ℕ) → j < 2 ^ 64 → (j < length counts)

@@ -1,7 +1,8 @@
--- An exported call is the layer's step in numbers, and the exported join the layer's join. Assumes nothing.
+-- An exported call is the layer's step in numbers, the exported list the layer's list, and the exported join the layer's join. Assumes nothing.
 use Rattle.state.proofs.Prelude.{_≡_, refl, sym, ap, ap₂, _∙_, Bool, true, false, _&&_, List, ℕ, when, unless, Arena, Reply, Settings, World, Outcome, sizeOf, worldOf, Leaves, sound, Query, Call, query, rules, step}
 use Rattle.layer.specs.declared.JoinReply.{JoinReply}
 use Rattle.layer.specs.World.{replyIn}
+use Rattle.layer.specs.Listing.{Items, ListOutcome, releaseList, LeavesList}
 use Rattle.layer.specs.Joining.{JoinOutcome, join, LeavesBoth}
 use Rattle.layer.proofs.Tools.{by-not}
 use Rattle.surface.specs.declared.StateNumbers.{StateNumbers}
@@ -9,6 +10,7 @@ use Rattle.surface.specs.declared.told.SettingsNumbers.{SettingsNumbers}
 use Rattle.surface.specs.Numbers.{stateOf, numbersOf, isState}
 use Rattle.surface.specs.Told.{settingsOf}
 use Rattle.surface.specs.Replies.{answerNumbers, brokenNumbers, replyOf, Left, inNumbers, stepNumbers, LeavesNumbers}
+use Rattle.surface.specs.Lists.{LeftList, listInNumbers, listNumbers, LeavesListNumbers}
 use Rattle.surface.specs.Joins.{joinAnswerNumbers, brokenJoin, joinReplyOf, LeftBoth, bothInNumbers, joinNumbers, LeavesBothNumbers}
 use Rattle.surface.proofs.NumberLaws.{state-written}
 
@@ -57,6 +59,33 @@ module _ (l : List Arena) (stamps : List ℕ) (f : StateNumbers) (ns : ℕ) (s :
       ap (λ (x : Reply). answerNumbers (x .answer) f) h
       ∙ ap (answerNumbers (asked .answer)) (sym (ap numbersOf (query-leaves (worldOf l stamps (stateOf f)) ns (settingsOf s) c) ∙ state-written f e))
       ∙ ap (λ (o : Left). o .reply) (sym (a-state l stamps f ns s (query c) e))
+
+-- ---- a list
+
+module _ (l : List Arena) (stamps : List ℕ) (f : StateNumbers) (ns : ℕ) (s : SettingsNumbers) (t : Items) where
+  -- the layer's list
+  abbrev listed : ListOutcome
+  listed = releaseList (worldOf l stamps (stateOf f)) ns (settingsOf s) t
+
+  -- what the entry point leaves, in numbers
+  pub lists : isState f ≡ true → (r : Reply) (zs : List Arena) (ts given : List ℕ) → LeavesList listed r zs ts given → LeavesListNumbers (listNumbers l stamps f ns s t) (replyOf r) zs ts given
+  unfolding listNumbers replyOf
+  lists e r zs ts given h =
+      let d : listInNumbers listed ≡ listNumbers l stamps f ns s t = sym (when (isState f) _ _ e) in (
+        (
+          ap (λ (x : Reply). answerNumbers (x .answer) (numbersOf (x .state))) (h .0 .0) ∙ ap (λ (o : LeftList). o .whole .reply) d,
+          h .0 .1 ∙ ap (λ (o : LeftList). o .whole .records) d,
+          h .0 .2 ∙ ap (λ (o : LeftList). o .whole .stamps) d,
+        ),
+        h .1 ∙ ap (λ (o : LeftList). o .numbers) d,
+      )
+
+  -- numbers that are no state's: 1, and all is left
+  pub list-refuses : isState f ≡ false → LeavesListNumbers (listNumbers l stamps f ns s t) (brokenNumbers f) l stamps (t .answers)
+  unfolding listNumbers
+  list-refuses e =
+      let d : record { whole = record { reply = brokenNumbers f; records = l; stamps = stamps }; numbers = t .answers } ≡ listNumbers l stamps f ns s t = sym (unless (isState f) _ _ e) in
+      ((ap (λ (o : LeftList). o .whole .reply) d, ap (λ (o : LeftList). o .whole .records) d, ap (λ (o : LeftList). o .whole .stamps) d), ap (λ (o : LeftList). o .numbers) d)
 
 -- ---- a join
 

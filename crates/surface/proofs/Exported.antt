@@ -1,6 +1,6 @@
 -- Demand 3 of the exported calls: read back, they answer and leave what the rules say. Assumes nothing.
 use Rattle.state.proofs.Prelude.{_≡_, refl, sym, ap, ap₂, _∙_, subst, Bool, true, false, List, ℕ, suc, _+_, _-_, _&&_, arith, eqb, ltb, pos, negsuc, by-cond, when, unless, Refusal, Broken, QuestionOpen, NoSuchQuestion, Zero, ArenasOff, Range, NotWhole, NotInside, PastEnd, NoRun, CommitRefused, ChunkCount, TableFull, MemoryRefused, NoWholeChunk, HostRefused, Arena, Settings, State, Question, Idle, Committing, Purging, Reserving, GivingBack, Waiting, Reserve, Claim, Kind, AskCommit, AskPurge, AskMemory, Answer, Asks, Registered, Claimed, Released, Area, World, Outcome, sizeOf, worldOf, after, sound, askMemory, withRecord, withStamps, isFor, counted, failReply, resume, answerTo, answerOf as answerOn, Act, claim, release, sweep, Query, Call, act, query, answer, staysPending, sweepOf, sweepsNone, actOn, queryOn, rules, step}
-use Rattle.refusals.specs.declared.Refusal.the-variants.{TablesOverlap, TooManyArenas}
+use Rattle.refusals.specs.declared.Refusal.the-variants.{TablesOverlap, TooManyArenas, ListLength}
 use Rattle.refusals.specs.Number.{number}
 use Rattle.arena.proofs.FlagLaws.{flag-read}
 use Rattle.layer.specs.declared.Ask.the-variants.{AskGiveBack}
@@ -9,19 +9,22 @@ use Rattle.layer.specs.declared.JoinAnswer.{JoinAnswer}
 use Rattle.layer.specs.declared.JoinAnswer.the-variants.{NotJoined, Joined}
 use Rattle.layer.specs.World.{outcome}
 use Rattle.layer.specs.Step.{reserve, manage, adopt, owns, area, stepOn}
+use Rattle.layer.specs.Listing.{Items, ListOutcome, listOutcome, releaseList}
 use Rattle.layer.specs.Joining.{JoinOutcome, joinOutcome, join}
 use Rattle.layer.specs.Demand.{Demand3}
 use Rattle.layer.proofs.Tools.{by-not}
 use Rattle.layer.proofs.Rules.{Again, again}
 use Rattle.layer.proofs.Cases.{register, grant-cases, search-cases, miss-cases, claim-cases, release-in-cases, release-cases, reserve-cases, register-cases, manage-cases, adopt-cases, memory-cases}
 use Rattle.layer.proofs.Sweeps.{visit-cases, sweep-cases, all-or-none}
+use Rattle.layer.proofs.Lists.{each-granted, ListComes, turned-down, one-by-one, list-comes}
 use Rattle.layer.proofs.Elsewhere.{demand3}
 use Rattle.surface.specs.declared.StateNumbers.{StateNumbers}
 use Rattle.surface.specs.Numbers.{stateOf, numbersOf, isState}
 use Rattle.surface.specs.Told.{settingsOf}
 use Rattle.surface.specs.Replies.{answerNumbers, inNumbers, stepNumbers}
+use Rattle.surface.specs.Lists.{listInNumbers, listNumbers}
 use Rattle.surface.specs.Joins.{joinAnswerNumbers, bothInNumbers, joinNumbers}
-use Rattle.surface.specs.Exported.{settingsNumbers, Grant, registering, claiming, releasing, sweeping, owning, lying, grantOfAct, grantOfQuery, grantOfWaiting, grantOfQuestion, grantOf, granting, refusalOf, answerOf, joinAnswerOf, readBack, readBothBack, exported}
+use Rattle.surface.specs.Exported.{settingsNumbers, Grant, registering, claiming, releasing, sweeping, owning, lying, grantOfAct, grantOfQuery, grantOfWaiting, grantOfQuestion, grantOf, granting, refusalOf, answerOf, joinAnswerOf, readListBack, readBack, readBothBack, exported}
 use Rattle.surface.proofs.NumberLaws.{state-read, is-state}
 
 -- ---- what is granted is of the call's kind
@@ -130,20 +133,21 @@ is-refusal NoWholeChunk = (refl, refl, refl)
 is-refusal HostRefused = (refl, refl, refl)
 is-refusal TablesOverlap = (refl, refl, refl)
 is-refusal TooManyArenas = (refl, refl, refl)
+is-refusal ListLength = (refl, refl, refl)
 
-answer-read : (q : Question) (c : Call) (r : Answer) (st : StateNumbers) → Shape (grantOf q c) r → answerOf q c (answerNumbers r st) ≡ r
-answer-read q c (Refused why) st h =
+answer-read : (g : Grant) (r : Answer) (st : StateNumbers) → Shape g r → answerOf g (answerNumbers r st) ≡ r
+answer-read g (Refused why) st h =
     let n : IsRefusal why = is-refusal why in unless (eqb (number why) 0) _ _ (n .0) ∙ unless (eqb (number why) 255) _ _ (n .1) ∙ ap Refused (n .2)
-answer-read q c (Asks (AskCommit address bytes)) st h = refl
-answer-read q c (Asks (AskPurge address bytes decommit)) st h = refl
-answer-read q c (Asks (AskMemory bytes align commit large)) st h = refl
-answer-read q c (Asks (AskGiveBack address bytes)) st h = refl
-answer-read q c (Registered id) st h = ap (λ (g : Grant). granting g (answerNumbers (Registered id) st)) h
-answer-read q c (Claimed address fresh committed) st h = ap (λ (g : Grant). granting g (answerNumbers (Claimed address fresh committed) st)) h
-answer-read q c Released st h = ap (λ (g : Grant). granting g (answerNumbers Released st)) h
-answer-read q c (Swept count) st h = ap (λ (g : Grant). granting g (answerNumbers (Swept count) st)) h
-answer-read q c (Owns whether) st h = ap (λ (g : Grant). granting g (answerNumbers (Owns whether) st)) h
-answer-read q c (Area base bytes) st h = ap (λ (g : Grant). granting g (answerNumbers (Area base bytes) st)) h
+answer-read g (Asks (AskCommit address bytes)) st h = refl
+answer-read g (Asks (AskPurge address bytes decommit)) st h = refl
+answer-read g (Asks (AskMemory bytes align commit large)) st h = refl
+answer-read g (Asks (AskGiveBack address bytes)) st h = refl
+answer-read g (Registered id) st h = ap (λ (x : Grant). granting x (answerNumbers (Registered id) st)) h
+answer-read g (Claimed address fresh committed) st h = ap (λ (x : Grant). granting x (answerNumbers (Claimed address fresh committed) st)) h
+answer-read g Released st h = ap (λ (x : Grant). granting x (answerNumbers Released st)) h
+answer-read g (Swept count) st h = ap (λ (x : Grant). granting x (answerNumbers (Swept count) st)) h
+answer-read g (Owns whether) st h = ap (λ (x : Grant). granting x (answerNumbers (Owns whether) st)) h
+answer-read g (Area base bytes) st h = ap (λ (x : Grant). granting x (answerNumbers (Area base bytes) st)) h
 
 -- the reply has the state's numbers
 reply-state : (r : Answer) (st : StateNumbers) → answerNumbers r st .state ≡ st
@@ -191,8 +195,27 @@ exported-rules w ns settings c =
     ap (readBack w c) (when (isState (numbersOf (w .state))) _ _ (is-state (w .state)))
     ∙ ap₂ (λ (s : State) (t : Settings). readBack w c (inNumbers (step (worldOf (w .records) (w .stamps) s) ns t c))) (state-read (w .state)) (settings-read settings)
     ∙ ap₂ (λ (r : Answer) (s : State). outcome r (worldOf (o .world .records) (o .world .stamps) s))
-    (answer-read (w .state .question) c (o .answer) (numbersOf (o .world .state)) (step-shape w ns settings c))
+    (answer-read (grantOf (w .state .question) c) (o .answer) (numbersOf (o .world .state)) (step-shape w ns settings c))
     (ap stateOf (reply-state (o .answer) (numbersOf (o .world .state))) ∙ state-read (o .world .state))
+
+-- a list is granted as a release is, or turned down
+list-shape : (w : World) (ns : ℕ) (settings : Settings) (t : Items) → Shape releasing (releaseList w ns settings t .whole .answer)
+list-shape w ns settings t = go (releaseList w ns settings t) (list-comes w ns settings t)
+  where
+    go : (o : ListOutcome) → ListComes w ns settings t o → Shape releasing (o .whole .answer)
+    go o (turned-down why e is) = subst (λ (u : ListOutcome). Shape releasing (u .whole .answer)) (sym is) tt
+    go o (one-by-one e idle fits is) =
+        subst (Shape releasing) (sym (ap (λ (u : ListOutcome). u .whole .answer) is ∙ each-granted ns settings (t .pending) w (t .addresses) (t .counts))) refl
+
+pub exported-list : (w : World) (ns : ℕ) (settings : Settings) (t : Items) → exported .lists w ns settings t ≡ releaseList w ns settings t
+unfolding listNumbers
+exported-list w ns settings t =
+    let o : ListOutcome = releaseList w ns settings t in
+    ap readListBack (when (isState (numbersOf (w .state))) _ _ (is-state (w .state)))
+    ∙ ap₂ (λ (s : State) (c : Settings). readListBack (listInNumbers (releaseList (worldOf (w .records) (w .stamps) s) ns c t))) (state-read (w .state)) (settings-read settings)
+    ∙ ap₂ (λ (r : Answer) (s : State). listOutcome (outcome r (worldOf (o .whole .world .records) (o .whole .world .stamps) s)) (o .numbers))
+    (answer-read releasing (o .whole .answer) (numbersOf (o .whole .world .state)) (list-shape w ns settings t))
+    (ap stateOf (reply-state (o .whole .answer) (numbersOf (o .whole .world .state))) ∙ state-read (o .whole .world .state))
 
 pub exported-join : (w v : World) (ns : ℕ) (settings : Settings) → exported .joins w v ns settings ≡ join w v ns settings
 unfolding joinNumbers
@@ -208,4 +231,4 @@ exported-join w v ns settings =
 
 -- DEMAND 3, of what people link
 pub demand3-exported : Demand3 exported
-demand3-exported = demand3 exported exported-rules exported-join
+demand3-exported = demand3 exported exported-rules exported-list exported-join

@@ -58,6 +58,23 @@ layer_calls! {
 }
 
 extern "C" {
+    pub fn sirqobal_chunk_release_list(
+        records: *mut Arena,
+        record_count: usize,
+        stamps: *mut u32,
+        stamp_count: usize,
+        addresses: *const u64,
+        address_count: usize,
+        counts: *const u32,
+        count_count: usize,
+        answers: *mut u32,
+        answer_count: usize,
+        state: State,
+        ns: u64,
+        settings: Settings,
+        pending: bool,
+    ) -> Reply;
+
     pub fn sirqobal_join_tables(
         records: *mut Arena,
         record_count: usize,

@@ -58,6 +58,8 @@ pub enum Refusal {
     TablesOverlap = 17,
     /// A join: the two tables have more than 32 arenas.
     TooManyArenas = 18,
+    /// A list: its lengths differ, or pass 32,768.
+    ListLength = 19,
 }
 
 impl Refusal {
@@ -81,9 +83,10 @@ impl Refusal {
         Refusal::HostRefused,
         Refusal::TablesOverlap,
         Refusal::TooManyArenas,
+        Refusal::ListLength,
     ];
 
-    /// The row's number, 1 to 18.
+    /// The row's number, 1 to 19.
     ///
     /// ```
     /// assert_eq!(sirqobal::Refusal::NoRun.number(), 10);
@@ -125,6 +128,7 @@ impl Refusal {
             Refusal::HostRefused => "the range is mapped already or not reserved",
             Refusal::TablesOverlap => "a range of one table overlaps a range of the other",
             Refusal::TooManyArenas => "the two tables have more than 32 arenas",
+            Refusal::ListLength => "the list's lengths differ or pass 32,768",
         }
     }
 }

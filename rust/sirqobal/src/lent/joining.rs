@@ -1,7 +1,7 @@
 use super::{Arena, JoinReply, Settings, State};
 use crate::abi;
 
-/// A table that is lent to a join.
+/// A table that is lent.
 #[derive(Debug)]
 pub struct Table<'a> {
     /// Its records.

@@ -21,11 +21,13 @@
 use crate::abi;
 
 mod joining;
+mod listing;
 mod reply;
 mod table;
 mod told;
 
 pub use joining::{join_tables, Table};
+pub use listing::{chunk_release_list, Items};
 pub use reply::{JoinReply, Reply, QUESTION};
 pub use table::{Arena, State};
 pub use told::{Call, Settings};
@@ -35,6 +37,9 @@ pub const RECORDS: usize = 32;
 
 /// Stamps that a table has, 1,024 for each record.
 pub const STAMPS: usize = 32_768;
+
+/// Items that a list of releases has at most.
+pub const LIST: usize = 32_768;
 
 /// Makes the C call of this name on what is lent and carried.
 macro_rules! make {

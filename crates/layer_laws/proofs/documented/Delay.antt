@@ -1,5 +1,5 @@
 -- Option 15, purge_delay: where every call carries a negative delay nothing is purged, over whole histories. No deadline is ever set, so a forced sweep asks nothing either. Assumes nothing.
-use Rattle.layer.proofs.Prelude.{_≡_, refl, sym, ap, _∙_, subst, Bool, true, false, not, _&&_, _||_, true≢false, List, ⊎-elim, ℕ, zero, suc, _+_, _-_, _<_, _≤_, arith, ℕ-discrete, eq-eqb, ℤ, pos, negsuc, ltb, length, set, lt-or-le, by-cond, unless, Refusal, neverPurges, isDue, Arena, Commitment, newArena, reservedArena, managedArena, adoptedArena, grownArena, takeRun, dirtyRun, giveBackRun, commitRun, finishGrant, releaseRun, sweepDue, World, Outcome, worldOf, stateWith, after, blank, at, askMemory, withRecord, withStamps, sweepFrom, sweptReply, failReply, resume, answerTo, answerOf, isFor, Act, claim, reserve, manage, adopt, release, sweep, owns, area, Call, act, query, answer, sweepOf, sweepsNone, actOn, stepOn, rules, byRules, History, begin, next, joining, Lent, left, join, empty, _/_, searchOf, releaseOf, nowMs, delayMs, sound, isIdle, JoinOutcome, isBroken, outcomeBy, isBrokenJoin, joinBy, Side, sideOf, ofFirst, ofSecond}
+use Rattle.layer.proofs.Prelude.{_≡_, refl, sym, ap, _∙_, subst, Bool, true, false, not, _&&_, _||_, true≢false, List, ⊎-elim, ℕ, zero, suc, _+_, _-_, _<_, _≤_, arith, ℕ-discrete, eq-eqb, ℤ, pos, negsuc, ltb, length, set, lt-or-le, by-cond, unless, Refusal, neverPurges, isDue, Arena, Commitment, newArena, reservedArena, managedArena, adoptedArena, grownArena, takeRun, dirtyRun, giveBackRun, commitRun, finishGrant, releaseRun, sweepDue, World, Outcome, worldOf, stateWith, after, blank, at, askMemory, withRecord, withStamps, sweepFrom, sweptReply, failReply, resume, answerTo, answerOf, isFor, Act, claim, reserve, manage, adopt, release, sweep, owns, area, Call, act, query, answer, sweepOf, sweepsNone, actOn, stepOn, rules, byRules, History, begin, next, joining, Lent, left, join, empty, _/_, searchOf, releaseOf, nowMs, delayMs, sound, isIdle, JoinOutcome, isBroken, outcomeBy, isBrokenJoin, joinBy, Side, sideOf, ofFirst, ofSecond, Items, ListOutcome, releaseList, listing, listBy}
 use lib.ListN.{List·getD-eq-default}
 use lib.Seq.{set-out}
 use Rattle.options.proofs.Differences.{never-is-negative}
@@ -19,6 +19,7 @@ use Rattle.layer.proofs.Tools.{at-same, at-other, by-not}
 use Rattle.layer.proofs.Rules.{Again, again}
 use Rattle.layer.proofs.Cases.{register, grant-cases, search-cases, miss-cases, claim-cases, release-in-cases, release-cases, reserve-cases, register-cases, manage-cases, adopt-cases, memory-cases}
 use Rattle.layer.proofs.Sweeps.{all-or-none}
+use Rattle.layer.proofs.Lists.{each-keeps, ListComes, turned-down, one-by-one, list-comes}
 use Rattle.layer.proofs.Joins.{Comes, both-stay, one-table, join-comes}
 use Rattle.layer_laws.specs.sweep_runs.Run.{asksPurge, isPurging}
 use Rattle.layer_laws.specs.joined.Join.{OneTable}
@@ -220,11 +221,24 @@ negative-never : (d : ℤ) → Negative d → neverPurges d ≡ true
 unfolding neverPurges
 negative-never d h = ap neverPurges (h .1)
 
+-- a list is releases
+list-quiet : (w : World) (ns : ℕ) (settings : Settings) (t : Items) → neverPurges (settings .delay) ≡ true → Quiet w → Quiet (releaseList w ns settings t .whole .world)
+list-quiet w ns settings t n q = go (releaseList w ns settings t) (list-comes w ns settings t)
+  where
+    go : (o : ListOutcome) → ListComes w ns settings t o → Quiet (o .whole .world)
+    go o (turned-down why e is) = subst (λ (u : ListOutcome). Quiet (u .whole .world)) (sym is) q
+    go o (one-by-one e idle fits is) =
+        subst (λ (u : ListOutcome). Quiet (u .whole .world)) (sym is)
+        (each-keeps ns settings (t .pending) Quiet (λ v g p x m. step-fine (sizeOf (v .state)) v ns settings _ p n .0) w (e, idle) q (t .addresses) (t .counts))
+
 quiet : (h : History) → Lent byRules h → EachDelay Negative h → Quiet (left byRules h)
 quiet begin lent each = empty-quiet
 quiet (next h m) lent each =
     by-cond Quiet (isBroken (outcomeBy byRules m .answer)) _ _ (λ e. quiet h (lent .0) (each .0))
     (λ e. step-fine (sizeOf (m .lent .state)) (m .lent) (m .ns) (m .settings) (m .call) (subst Quiet (sym (lent .1 e)) (quiet h (lent .0) (each .0))) (negative-never (m .settings .delay) (each .1)) .0)
+quiet (listing h m) lent each =
+    by-cond Quiet (isBroken (listBy byRules m .whole .answer)) _ _ (λ e. quiet h (lent .0) (each .0))
+    (λ e. list-quiet (m .lent) (m .ns) (m .settings) (m .items) (negative-never (m .settings .delay) (each .1)) (subst Quiet (sym (lent .1 e)) (quiet h (lent .0) (each .0))))
 quiet (joining side h g m) lent each =
     by-cond Quiet (isBrokenJoin (joinBy byRules m .answer)) _ _ (λ e. of-side side (left byRules h) (left byRules g) (quiet h (lent .0) (each .0)) (quiet g (lent .1) (each .1)))
     (λ e. let t = lent .2 e in
@@ -258,6 +272,7 @@ nothing-purged h m lent each = go (isBroken (outcomeBy byRules m .answer)) refl
 each-other : (P Q : ℤ → Type 0) → ((d : ℤ) → P d → Q d) → (h : History) → EachDelay P h → EachDelay Q h
 each-other P Q f begin e = tt
 each-other P Q f (next h m) e = (each-other P Q f h (e .0), f _ (e .1))
+each-other P Q f (listing h m) e = (each-other P Q f h (e .0), f _ (e .1))
 each-other P Q f (joining side h g m) e = (each-other P Q f h (e .0), each-other P Q f g (e .1))
 
 pub documented-never : NothingPurged SaidNever byRules

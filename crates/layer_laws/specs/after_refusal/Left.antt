@@ -7,7 +7,7 @@ use mathlib.Core.Logic.{_⊎_}
 use Prim.Native.Nat.{ℕ, suc}
 use lib.ListN.{set}
 use Rattle.refusals.specs.declared.Refusal.{Refusal}
-use Rattle.refusals.specs.declared.Refusal.the-variants.{Broken, QuestionOpen, NoSuchQuestion, Zero, ArenasOff, Range, NotWhole, NotInside, PastEnd, NoRun, CommitRefused, ChunkCount, TableFull, MemoryRefused, NoWholeChunk, HostRefused, TablesOverlap, TooManyArenas}
+use Rattle.refusals.specs.declared.Refusal.the-variants.{Broken, QuestionOpen, NoSuchQuestion, Zero, ArenasOff, Range, NotWhole, NotInside, PastEnd, NoRun, CommitRefused, ChunkCount, TableFull, MemoryRefused, NoWholeChunk, HostRefused, TablesOverlap, TooManyArenas, ListLength}
 use Rattle.arena.specs.declared.Arena.{Arena}
 use Rattle.arena.specs.Registering.{reservedArena}
 use Rattle.arena.specs.Claiming.{giveBackRun}
@@ -69,6 +69,7 @@ LeftByAnswer w base NoWholeChunk v = ⊥
 LeftByAnswer w base HostRefused v = ⊥
 LeftByAnswer w base TablesOverlap v = ⊥
 LeftByAnswer w base TooManyArenas v = ⊥
+LeftByAnswer w base ListLength v = ⊥
 
 -- by any call: of the calls that are no answers, a claim alone may leave more than it found, the mark
 abbrev pub LeftBy : World → Call → Refusal → World → Type 0

@@ -11,7 +11,7 @@ use Rattle.layer.specs.declared.Ask.{Ask}
 use Rattle.layer.specs.declared.Ask.the-variants.{AskMemory}
 use Rattle.layer.specs.World.{World}
 use Rattle.layer.specs.Table.{at}
-use Rattle.layer.specs.History.{Marked, History, begin, next, joining, Layer, outcomeBy, Lent}
+use Rattle.layer.specs.History.{Marked, History, begin, next, listing, joining, Layer, outcomeBy, Lent}
 use Rattle.layer_laws.specs.sweep_runs.Run.{asksPurge}
 use Rattle.layer_laws.specs.documented.Areas.{isExclusive, Stands}
 
@@ -37,10 +37,11 @@ answered false purge before = before
 
 -- ---- 15, purge_delay: "−1 means that nothing is purged"
 
--- every call of a history is made with such a delay; a join reads none
+-- every call and every list of a history is made with such a delay; a join reads none
 abbrev pub EachDelay : (ℤ → Type 0) → History → Type 0
 EachDelay P begin = Unit {0}
 EachDelay P (next h m) = EachDelay P h × P (m .settings .delay)
+EachDelay P (listing h m) = EachDelay P h × P (m .settings .delay)
 EachDelay P (joining side h g m) = EachDelay P h × EachDelay P g
 
 -- where P is what is said of each delay, no call is answered by a purge question, a forced sweep neither

@@ -1,0 +1,290 @@
+-- Wish 3 of the rules' list: the order of its refusals, that it is single releases in list order, and what follows of these. Assumes nothing.
+use Rattle.layer.proofs.Prelude.{_≡_, refl, sym, ap, ap₂, _∙_, subst, Bool, true, false, not, _&&_, true≢false, List, [], _∷_, _⊎_, inl, inr, _↔_, ℕ, zero, suc, _<_, _≤_, arith, ℕ-discrete, eq-eqb, eqb-true, leb-true, le-leb, eqb, leb, length, getD, set, when, unless, and-both, Refusal, Broken, QuestionOpen, Zero, NotWhole, PastEnd, ListLength, pageSizeSound, nowMs, delayMs, Arena, Untold, releaseRun, pendRun, tellRun, giveBackRun, World, Outcome, at, sound, releaseOf, staysPending, byRules, isIdle, isBroken, Items, ListOutcome, itemNumber, releaseEach, releaseItem, listFits, releaseList}
+use Rattle.refusals.specs.declared.Refusal.the-variants.{NotInside}
+use Rattle.refusals.specs.Number.{number}
+use Rattle.layer.specs.declared.Settings.{Settings}
+use Rattle.layer.specs.declared.State.{State}
+use Rattle.layer.specs.declared.Question.{Question}
+use Rattle.layer.specs.declared.Question.the-variants.{Idle}
+use Rattle.layer.specs.declared.Answer.{Answer}
+use Rattle.layer.specs.declared.Answer.the-variants.{Refused, Asks, Registered, Claimed, Released, Swept, Owns, Area}
+use Rattle.layer.specs.World.{sizeOf}
+use Rattle.layer.proofs.Tools.{at-same, at-other}
+use Rattle.layer.proofs.Stepped.{passing-facts, passing-test}
+use Rattle.layer.proofs.Cases.{release-in-cases, release-cases}
+use Rattle.layer.proofs.Calls.{idle-is}
+use Rattle.layer.proofs.Lists.{Open, item-is, settled, still-open, each-keeps, each-granted, ListComes, turned-down, one-by-one, list-comes, broken-list}
+use Rattle.layer_laws.specs.listed.Releases.{Passes, OneLength, BrokenExactly, OpenExactly, NineteenExactly, GrantedElse, RefusedLeaves, Says, Singly, AsSingles, ReleasesNumber, OnlyReleases, LeavesCommitted, LeavesState, LeavesSound, ReleasesLists}
+
+-- two answers of other numbers
+differ : {A : Type 0} (a b : Answer) → a ≡ b → (itemNumber a ≡ itemNumber b → ⊥) → A
+differ a b e d = absurd (d (ap itemNumber e))
+
+abbrev isRefused : Answer → Bool
+isRefused (Refused why) = true
+isRefused (Asks ask) = false
+isRefused (Registered id) = false
+isRefused (Claimed address fresh committed) = false
+isRefused Released = false
+isRefused (Swept count) = false
+isRefused (Owns whether) = false
+isRefused (Area base bytes) = false
+
+not-both : {A : Type 0} {why : Refusal} → Released ≡ Refused why → A
+not-both e = absurd (true≢false (sym (ap isRefused e)))
+
+-- ---- the rows
+
+fits-length : (t : Items) → listFits t ≡ true → OneLength t
+unfolding listFits
+fits-length t e =
+    let a = and-both (eqb (length (t .counts)) (length (t .addresses))) _ e in
+    let b = and-both (eqb (length (t .answers)) (length (t .addresses))) _ (a .1) in
+    record {
+      as-counts = eqb-true (length (t .counts)) (length (t .addresses)) (a .0);
+      as-answers = eqb-true (length (t .answers)) (length (t .addresses)) (b .0);
+      most = leb-true (length (t .addresses)) 32768 (b .1);
+    }
+
+length-fits : (t : Items) → OneLength t → listFits t ≡ true
+unfolding listFits
+length-fits t l =
+    ap₂ _&&_ (eq-eqb (length (t .counts)) (length (t .addresses)) (l .as-counts))
+    (ap₂ _&&_ (eq-eqb (length (t .answers)) (length (t .addresses)) (l .as-answers)) (le-leb (length (t .addresses)) 32768 (l .most)))
+
+module _ (w : World) (ns : ℕ) (settings : Settings) (t : Items) where
+  abbrev answered : Answer
+  answered = releaseList w ns settings t .whole .answer
+
+  row-one : sound (sizeOf (w .state)) w (settings .page) ≡ false → answered ≡ Refused Broken
+  unfolding releaseList
+  row-one e = ap (λ (o : ListOutcome). o .whole .answer) (when (not (sound (sizeOf (w .state)) w (settings .page))) _ _ (ap not e))
+
+  row-two : Passes w settings → isIdle (w .state .question) ≡ false → answered ≡ Refused QuestionOpen
+  unfolding releaseList
+  row-two e f =
+      ap (λ (o : ListOutcome). o .whole .answer) (unless (not (sound (sizeOf (w .state)) w (settings .page))) _ _ (ap not e) ∙ when (not (isIdle (w .state .question))) _ _ (ap not f))
+
+  row-nineteen : Passes w settings → isIdle (w .state .question) ≡ true → listFits t ≡ false → answered ≡ Refused ListLength
+  unfolding releaseList
+  row-nineteen e f g =
+      ap (λ (o : ListOutcome). o .whole .answer)
+      (unless (not (sound (sizeOf (w .state)) w (settings .page))) _ _ (ap not e) ∙ unless (not (isIdle (w .state .question))) _ _ (ap not f) ∙ when (not (listFits t)) _ _ (ap not g))
+
+  row-none : Passes w settings → isIdle (w .state .question) ≡ true → listFits t ≡ true → answered ≡ Released
+  unfolding releaseList
+  row-none e f g =
+      ap (λ (o : ListOutcome). o .whole .answer)
+      (unless (not (sound (sizeOf (w .state)) w (settings .page))) _ _ (ap not e) ∙ unless (not (isIdle (w .state .question))) _ _ (ap not f) ∙ unless (not (listFits t)) _ _ (ap not g))
+      ∙ each-granted ns settings (t .pending) w (t .addresses) (t .counts)
+
+  -- past row 2 it is 19 or 0
+  not-two : Passes w settings → w .state .question ≡ Idle → answered ≡ Refused QuestionOpen → ⊥
+  not-two e idle is = go (listFits t) refl
+    where
+      go : (b : Bool) → listFits t ≡ b → ⊥
+      go true g = differ _ _ (sym (row-none e (ap isIdle idle) g) ∙ is) (λ n. omega (arith, n))
+      go false g = differ _ _ (sym (row-nineteen e (ap isIdle idle) g) ∙ is) (λ n. omega (arith, n))
+
+  is-idle-or : (w .state .question ≡ Idle → ⊥) → isIdle (w .state .question) ≡ false
+  is-idle-or none = go (isIdle (w .state .question)) refl
+    where
+      go : (b : Bool) → isIdle (w .state .question) ≡ b → b ≡ false
+      go true e = absurd (none (idle-is (w .state .question) e))
+      go false e = refl
+
+turned-bool : (b : Bool) → (b ≡ true → ⊥) → b ≡ false
+turned-bool true h = absurd (h refl)
+turned-bool false h = refl
+
+broken-exactly : BrokenExactly byRules
+broken-exactly w ns settings t = (
+  (λ e p. true≢false (sym (ap isBroken e) ∙ broken-list w ns settings t ∙ ap not p)),
+  (λ h. row-one w ns settings t (turned-bool (sound (sizeOf (w .state)) w (settings .page)) h)),
+)
+
+open-exactly : OpenExactly byRules
+open-exactly w ns settings t p = ((λ e idle. not-two w ns settings t p idle e), (λ h. row-two w ns settings t p (is-idle-or w ns settings t h)))
+
+nineteen-exactly : NineteenExactly byRules
+nineteen-exactly w ns settings t p idle = (
+  (λ e l. differ _ _ (sym (row-none w ns settings t p (ap isIdle idle) (length-fits t l)) ∙ e) (λ n. omega (arith, n))),
+  (λ h. row-nineteen w ns settings t p (ap isIdle idle) (turned-bool (listFits t) (λ e. h (fits-length t e)))),
+)
+
+granted-else : GrantedElse byRules
+granted-else w ns settings t p idle l = row-none w ns settings t p (ap isIdle idle) (length-fits t l)
+
+refused-leaves : RefusedLeaves byRules
+refused-leaves w ns settings t why e = go (releaseList w ns settings t) (list-comes w ns settings t) e
+  where
+    go : (o : ListOutcome) → ListComes w ns settings t o → o .whole .answer ≡ Refused why → (o .whole .world ≡ w) × (o .numbers ≡ t .answers)
+    go o (turned-down why′ f is) e = (ap (λ (u : ListOutcome). u .whole .world) is, ap (λ (u : ListOutcome). u .numbers) is)
+    go o (one-by-one f idle fits is) e =
+        not-both (sym (ap (λ (u : ListOutcome). u .whole .answer) is ∙ each-granted ns settings (t .pending) w (t .addresses) (t .counts)) ∙ e)
+
+-- ---- one item
+
+-- what a release is answered
+ItemSays : Answer → Type 0
+ItemSays r = (r ≡ Released) ⊎ ((r ≡ Refused Zero) ⊎ ((r ≡ Refused NotInside) ⊎ ((r ≡ Refused NotWhole) ⊎ (r ≡ Refused PastEnd))))
+
+says-number : (r : Answer) → ItemSays r → Says r (itemNumber r) × ReleasesNumber (itemNumber r)
+unfolding ItemSays
+says-number r (inl e) = (inl (e, ap itemNumber e), inl (ap itemNumber e))
+says-number r (inr (inl e)) = (inr (Zero, e, ap itemNumber e), inr (inl (ap itemNumber e)))
+says-number r (inr (inr (inl e))) = (inr (NotInside, e, ap itemNumber e), inr (inr (inl (ap itemNumber e))))
+says-number r (inr (inr (inr (inl e)))) = (inr (NotWhole, e, ap itemNumber e), inr (inr (inr (inl (ap itemNumber e)))))
+says-number r (inr (inr (inr (inr e)))) = (inr (PastEnd, e, ap itemNumber e), inr (inr (inr (inr (ap itemNumber e)))))
+
+module _ (ns : ℕ) (settings : Settings) (pending : Bool) where
+  -- what an item says, and that it leaves the map of committed chunks of every arena
+  record Item (w : World) (o : Outcome) : Type 0 where
+    says : ItemSays (o .answer)
+    committed : (i : ℕ) → at (o .world .records) i .committed ≡ at (w .records) i .committed
+
+  run-committed : (a : Arena) (s n : ℕ) (p : Bool) (now delay : ℕ) → releaseRun a s n Untold p now delay .committed ≡ a .committed
+  unfolding releaseRun pendRun tellRun giveBackRun
+  run-committed a s n true now delay = refl
+  run-committed a s n false now delay = refl
+
+  set-committed : (l : List Arena) (i : ℕ) (a : Arena) → i < length l → a .committed ≡ at l i .committed → (j : ℕ) → at (set l i a) j .committed ≡ at l j .committed
+  set-committed l i a h e j = go (ℕ-discrete j i)
+    where
+      go : Dec (j ≡ i) → at (set l i a) j .committed ≡ at l j .committed
+      go (yes f) = ap (λ (z : ℕ). at (set l i a) z .committed) f ∙ ap (λ (b : Arena). b .committed) (at-same l i a h) ∙ e ∙ ap (λ (z : ℕ). at l z .committed) (sym f)
+      go (no f) = ap (λ (b : Arena). b .committed) (at-other l i j a f)
+
+  item : (w : World) → Open ns settings pending w → (x n : ℕ) → Item w (releaseItem ns settings pending w x n)
+  unfolding ItemSays
+  item w h x n =
+      subst (Item w) (sym (item-is ns settings pending w h x n))
+      (release-cases _ _ _ _ _ (Item w) n Untold (staysPending settings pending) (nowMs ns) (delayMs (settings .delay)) x
+      (λ e. record { says = inr (inl refl); committed = λ i. refl }) (λ e f. record { says = inr (inr (inl refl)); committed = λ i. refl })
+      (λ i e u f. release-in-cases _ _ _ _ _ (Item w) n Untold (staysPending settings pending) (nowMs ns) (delayMs (settings .delay)) i _
+      (λ g. record { says = inr (inr (inr (inl refl))); committed = λ j. refl }) (λ g v. record { says = inr (inr (inr (inr refl))); committed = λ j. refl })
+      (λ g v. record {
+        says = inl refl;
+        committed = set-committed (w .records) i _ (let p = passing-facts (sizeOf (w .state)) w (settings .page) (h .0) in omega (arith, u, p .few, p .long)) (run-committed (at (w .records) i) _ n _ _ _);
+      })))
+
+  -- ---- item after item
+
+  -- the table before the item at each place
+  before : World → List ℕ → List ℕ → ℕ → World
+  before w xs counts zero = w
+  before w (x ∷ xs) (n ∷ counts) (suc j) = before (releaseItem ns settings pending w x n .world) xs counts j
+  before w (x ∷ xs) [] (suc j) = w
+  before w [] counts (suc j) = w
+
+  abbrev each : World → List ℕ → List ℕ → ListOutcome
+  each w xs counts = releaseEach ns settings pending w xs counts
+
+  abbrev itemAt : World → List ℕ → List ℕ → ℕ → Outcome
+  itemAt w xs counts j = releaseItem ns settings pending (before w xs counts j) (getD xs j 0) (getD counts j 0)
+
+  starts : (w : World) (xs counts : List ℕ) → before w xs counts 0 ≡ w
+  unfolding before
+  starts w xs counts = refl
+
+  ends : (w : World) (xs counts : List ℕ) → length counts ≡ length xs → before w xs counts (length xs) ≡ each w xs counts .whole .world
+  unfolding before
+  ends w [] counts e = refl
+  ends w (x ∷ xs) [] e = absurd (omega (arith, e))
+  ends w (x ∷ xs) (n ∷ counts) e = ends (releaseItem ns settings pending w x n .world) xs counts (let f : length counts ≡ length xs = omega (arith, e) in f)
+
+  leads : (w : World) (xs counts : List ℕ) → length counts ≡ length xs → (j : ℕ) → j < length xs → itemAt w xs counts j .world ≡ before w xs counts (suc j)
+  unfolding before
+  leads w [] counts e j h = absurd (omega (arith, h))
+  leads w (x ∷ xs) [] e j h = absurd (omega (arith, e))
+  leads w (x ∷ xs) (n ∷ counts) e zero h = refl
+  leads w (x ∷ xs) (n ∷ counts) e (suc j) h = leads (releaseItem ns settings pending w x n .world) xs counts (let f : length counts ≡ length xs = omega (arith, e) in f) j (omega (arith, h))
+
+  as-many : (w : World) (xs counts : List ℕ) → length counts ≡ length xs → length (each w xs counts .numbers) ≡ length xs
+  as-many w [] counts e = refl
+  as-many w (x ∷ xs) [] e = absurd (omega (arith, e))
+  as-many w (x ∷ xs) (n ∷ counts) e = ap suc (as-many (releaseItem ns settings pending w x n .world) xs counts (let f : length counts ≡ length xs = omega (arith, e) in f))
+
+  stands : (w : World) → Open ns settings pending w → (xs counts : List ℕ) → length counts ≡ length xs → (j : ℕ) → j < length xs
+      → Says (itemAt w xs counts j .answer) (getD (each w xs counts .numbers) j 0) × ReleasesNumber (getD (each w xs counts .numbers) j 0)
+  unfolding before
+  stands w o [] counts e j h = absurd (omega (arith, h))
+  stands w o (x ∷ xs) [] e j h = absurd (omega (arith, e))
+  stands w o (x ∷ xs) (n ∷ counts) e zero h = says-number _ (item w o x n .says)
+  stands w o (x ∷ xs) (n ∷ counts) e (suc j) h =
+      stands (releaseItem ns settings pending w x n .world) (still-open ns settings pending w o x n) xs counts (let f : length counts ≡ length xs = omega (arith, e) in f) j (omega (arith, h))
+
+-- ---- so of a list that is granted
+
+-- what it came from
+record Granted (w : World) (ns : ℕ) (settings : Settings) (t : Items) : Type 0 where
+  passes : Open ns settings (t .pending) w
+  lengths : OneLength t
+  is : releaseList w ns settings t ≡ releaseEach ns settings (t .pending) w (t .addresses) (t .counts)
+
+granted : (w : World) (ns : ℕ) (settings : Settings) (t : Items) → releaseList w ns settings t .whole .answer ≡ Released → Granted w ns settings t
+granted w ns settings t e = go (list-comes w ns settings t)
+  where
+    go : ListComes w ns settings t (releaseList w ns settings t) → Granted w ns settings t
+    go (turned-down why f is) = not-both (sym e ∙ ap (λ (u : ListOutcome). u .whole .answer) is)
+    go (one-by-one f idle fits is) = record { passes = (f, idle); lengths = fits-length t fits; is = is }
+
+as-singles : AsSingles byRules
+as-singles w ns settings t e =
+    let g = granted w ns settings t e in
+    let same = g .lengths .as-counts in
+    record {
+      before = before ns settings (t .pending) w (t .addresses) (t .counts);
+      starts = starts ns settings (t .pending) w (t .addresses) (t .counts);
+      ends = ends ns settings (t .pending) w (t .addresses) (t .counts) same ∙ sym (ap (λ (u : ListOutcome). u .whole .world) (g .is));
+      leads = leads ns settings (t .pending) w (t .addresses) (t .counts) same;
+      as-many = ap (λ (u : ListOutcome). length (u .numbers)) (g .is) ∙ as-many ns settings (t .pending) w (t .addresses) (t .counts) same;
+      stands = λ j h. subst (λ (u : ListOutcome). Says (itemAt ns settings (t .pending) w (t .addresses) (t .counts) j .answer) (getD (u .numbers) j 0)) (sym (g .is))
+          (stands ns settings (t .pending) w (g .passes) (t .addresses) (t .counts) same j h .0);
+    }
+
+only-releases : OnlyReleases byRules
+only-releases w ns settings t e j h =
+    let g = granted w ns settings t e in
+    subst (λ (u : ListOutcome). ReleasesNumber (getD (u .numbers) j 0)) (sym (g .is)) (stands ns settings (t .pending) w (g .passes) (t .addresses) (t .counts) (g .lengths .as-counts) j h .1)
+
+-- ---- and of every list
+
+-- what holds of the table, and is kept by each item of a list that is granted, holds after it
+list-keeps : (Q : World → Type 0) (w : World) (ns : ℕ) (settings : Settings) (t : Items)
+    → ((v : World) → Open ns settings (t .pending) v → Q v → (x n : ℕ) → Q (releaseItem ns settings (t .pending) v x n .world)) → Q w → Q (releaseList w ns settings t .whole .world)
+list-keeps Q w ns settings t keep q = go (list-comes w ns settings t)
+  where
+    go : ListComes w ns settings t (releaseList w ns settings t) → Q (releaseList w ns settings t .whole .world)
+    go (turned-down why e is) = subst (λ (u : ListOutcome). Q (u .whole .world)) (sym is) q
+    go (one-by-one e idle fits is) = subst (λ (u : ListOutcome). Q (u .whole .world)) (sym is) (each-keeps ns settings (t .pending) Q keep w (e, idle) q (t .addresses) (t .counts))
+
+leaves-committed : LeavesCommitted byRules
+leaves-committed w ns settings t i =
+    list-keeps (λ (v : World). at (v .records) i .committed ≡ at (w .records) i .committed) w ns settings t (λ v o e x n. item ns settings (t .pending) v o x n .committed i ∙ e) refl
+
+leaves-state : LeavesState byRules
+leaves-state w ns settings t =
+    list-keeps (λ (v : World). v .state ≡ w .state) w ns settings t (λ v o e x n. settled ns settings (t .pending) v o x n .state ∙ e) refl
+
+leaves-sound : LeavesSound byRules
+leaves-sound w ns settings t p page h =
+    let after : Passes (releaseList w ns settings t .whole .world) settings = list-keeps (λ (v : World). Passes v settings) w ns settings t (λ v o e x n. still-open ns settings (t .pending) v o x n .0) p in
+    let f = passing-facts _ (releaseList w ns settings t .whole .world) (settings .page) after in
+    passing-test _ (releaseList w ns settings t .whole .world) page
+    (record { long = f .long; stamps = f .stamps; page-sound = h; few = f .few; each = f .each; apart = f .apart; question = f .question })
+
+-- WISH 3, of the rules
+pub releases-lists : ReleasesLists byRules
+releases-lists = record {
+  broken-exactly = broken-exactly;
+  open-exactly = open-exactly;
+  nineteen-exactly = nineteen-exactly;
+  granted-else = granted-else;
+  refused-leaves = refused-leaves;
+  as-singles = as-singles;
+  only-releases = only-releases;
+  leaves-committed = leaves-committed;
+  leaves-state = leaves-state;
+  leaves-sound = leaves-sound;
+}

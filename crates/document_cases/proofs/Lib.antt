@@ -5,3 +5,4 @@ pub mod Example
 pub mod SwitchOver
 pub mod Joined
 pub mod Never
+pub mod Listed

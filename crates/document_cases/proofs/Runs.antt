@@ -1,17 +1,17 @@
 -- Histories worked through call by call: what the rules and a layer leave is written out after each call, so that each call is computed by itself. Assumes nothing.
-use Rattle.layer.proofs.Prelude.{_≡_, refl, sym, ap, ap₂, _∙_, subst, Bool, true, false, cond, _&&_, true≢false, List, [], _++_, inl, inr, ℕ, _+_, _*_, _<_, _≤_, when, unless, World, Outcome, JoinOutcome, empty, step, Fed, Say, sayAll, Marked, MarkedJoin, Side, ofFirst, ofSecond, History, begin, next, joining, isSound, bothSound, Layer, outcomeBy, joinBy, isBroken, isBrokenJoin, sideOf, left, Lent, Trail, openAt, isIdle, follow, start, joinOf, leaving, followJoin, ruled, isJoined, unites, entries, said, goesOn, tells, Place, inRange, isNone, feeds, hears, fedBy, toldBy, waits, standing, OpensAt, risen, Where, place, fed, told, isAnswer, declines, Premises, Keeps, bookOf, claimant, chunksOf, Demand3}
+use Rattle.layer.proofs.Prelude.{_≡_, refl, sym, ap, ap₂, _∙_, subst, Bool, true, false, cond, _&&_, true≢false, List, [], _++_, inl, inr, ℕ, _+_, _*_, _<_, _≤_, when, unless, World, Outcome, JoinOutcome, empty, step, Fed, Say, sayAll, Marked, MarkedJoin, Side, ofFirst, ofSecond, History, begin, next, joining, isSound, bothSound, Layer, outcomeBy, joinBy, isBroken, isBrokenJoin, sideOf, left, Lent, Trail, openAt, isIdle, follow, start, joinOf, leaving, followJoin, ruled, isJoined, unites, entries, said, goesOn, tells, Place, inRange, isNone, feeds, hears, fedBy, toldBy, waits, standing, OpensAt, risen, Where, place, fed, told, isAnswer, declines, Premises, Keeps, bookOf, claimant, chunksOf, Demand3, ListOutcome, releaseList, listFits, MarkedList, ListPremises, listing, listBy, listOf, isSoundList, isTaken, followList, fedByList, toldByList, entriesOfList, saidOfList}
 use Rattle.layer.specs.declared.Settings.{Settings}
 use Rattle.layer.specs.declared.Question.the-variants.{Idle}
 use Rattle.layer.specs.declared.Answer.the-variants.{Claimed}
 use Rattle.layer.specs.History.{bytesIn}
 use Rattle.layer.specs.Demand.{AllBut}
 
--- the rules' calls, and some way to join
+-- the rules' calls and lists, and some way to join
 abbrev pub Joining : Type 0
 Joining = World → World → ℕ → Settings → JoinOutcome
 
 abbrev pub joinsBy : Joining → Layer
-joinsBy J = record { does = step; joins = J }
+joinsBy J = record { does = step; lists = releaseList; joins = J }
 
 module _ (L : Layer) where
   -- what the layer leaves after m, where x stood
@@ -122,6 +122,42 @@ module _ (L : Layer) where
       after-next p a h t x fs ss r m t x [] [] (λ e. absurd (true≢false (sym b ∙ e))) (unless (isSound m) _ _ s) (when (isBroken (outcomeBy L m .answer)) _ _ b) k (unless (isSound m) _ _ s)
       (ap (λ (c : Bool). cond (c && tells t (m .call)) (hears a (entries (goesOn t (m .call))) (said (outcomeBy L m .answer))) []) s)
 
+  -- ---- a list that row 1 lets pass: o is what the rules make of it, o′ what the layer does; taken says whether rows 2 and 19 let it pass
+
+  pub record MadeList (t : Trail) (m : MarkedList) (o o′ : ListOutcome) (taken : Bool) : Type 0 where
+    pub sound : isSoundList m ≡ true
+    pub by-rules : listOf t m ≡ o
+    pub by-layer : listBy L m ≡ o′
+    pub passed : isBroken (o′ .whole .answer) ≡ false
+    pub takes : (isIdle (openAt t) && listFits (m .items)) ≡ taken
+
+  pub after-list : (p : ℕ) (a : Place) (h : History) (t : Trail) (x : World) (fs : List Fed) (ss : List Say) → After p a h t x fs ss → (m : MarkedList) (o o′ : ListOutcome) (taken : Bool) (gs : List Fed) (rs : List Say)
+      → MadeList t m o o′ taken → m .lent ≡ x → ListPremises p a t m → cond taken (feeds a (entriesOfList m)) [] ≡ gs
+      → cond taken (hears a (entriesOfList m) (saidOfList (entriesOfList m) (o′ .whole .answer) (o′ .numbers))) [] ≡ rs
+      → After p a (listing h m) (leaving t (o .whole .world)) (o′ .whole .world) (fs ++ gs) (ss ++ rs)
+  after-list p a h t x fs ss r m o o′ taken gs rs k lent keeps f s =
+      let there : place h (r .opens) ≡ a = r .place-is in
+      let goes : ruled h ≡ t = r .stands .ruled-is in
+      let takes : isTaken t m ≡ taken = ap₂ _&&_ (k .sound) (k .takes) in
+      record {
+        stands = record {
+          ruled-is = ap (λ (q : Trail). followList q m) goes ∙ when (isSoundList m) _ _ (k .sound) ∙ ap (λ (z : ListOutcome). leaving t (z .whole .world)) (k .by-rules);
+          left-is = ap (λ (z : ListOutcome). cond (isBroken (z .whole .answer)) (left L h) (z .whole .world)) (k .by-layer) ∙ unless (isBroken (o′ .whole .answer)) _ _ (k .passed);
+          lent = (r .stands .lent, λ e. lent ∙ sym (r .stands .left-is));
+        };
+        opens = r .opens;
+        place-is = there;
+        keeps = (r .keeps, subst (λ (b : Place). ListPremises p b (ruled h) m) (sym there) (subst (λ (q : Trail). ListPremises p a q m) (sym goes) keeps));
+        fed-is = ap₂ (λ (y : List Fed) (b : Place). y ++ fedByList b (ruled h) m) (r .fed-is) there
+            ∙ ap (λ (q : Trail). fs ++ fedByList a q m) goes
+            ∙ ap (λ (b : Bool). fs ++ cond b (feeds a (entriesOfList m)) []) takes
+            ∙ ap (λ (y : List Fed). fs ++ y) f;
+        told-is = ap₂ (λ (y : List Say) (b : Place). y ++ toldByList L b (ruled h) m) (r .told-is) there
+            ∙ ap (λ (q : Trail). ss ++ toldByList L a q m) goes
+            ∙ ap₂ (λ (b : Bool) (z : ListOutcome). ss ++ cond b (hears a (entriesOfList m) (saidOfList (entriesOfList m) (z .whole .answer) (z .numbers))) []) takes (k .by-layer)
+            ∙ ap (λ (y : List Say). ss ++ y) s;
+      }
+
   -- ---- a join that row 1 lets pass on both sides: o is what the rules make of it, o′ what the layer does
 
   pub record MadeJoin (t u : Trail) (m : MarkedJoin) (o o′ : JoinOutcome) : Type 0 where
@@ -193,6 +229,17 @@ module _ (L : Layer) where
       (r .keeps, subst (λ (b : Place). Premises p b (ruled h) m) (sym there) (subst (λ (q : Trail). Premises p a q m) (sym goes) keeps))
       (λ f. other (ap (λ (q : Trail). claimant q m) (sym goes) ∙ f)) z fresh committed (ap (λ (q : Outcome). q .answer) (k .by-layer) ∙ e) y lo
       (subst (λ (n : ℕ). y < z + n) (ap₂ (λ (q : Trail) (b : Place). chunksOf (goesOn q (m .call)) * b .size) (sym goes) (sym there)) hi))
+
+-- ---- the premises at one list
+
+module _ (p : ℕ) (a : Place) (t : Trail) (m : MarkedList) where
+  -- of the program's own, where no question is open
+  pub own-list : m .who ≡ p → openAt t ≡ Idle → isSoundList m ≡ true → ListPremises p a t m
+  own-list mine q s = record { alone = λ e. mine; sound-lent = λ e. s; none-open = λ e. q }
+
+  -- of another's, of which nothing is fed
+  pub others-list : (m .who ≡ p → ⊥) → isNone (fedByList a t m) ≡ true → ListPremises p a t m
+  others-list other none = record { alone = λ e. absurd (true≢false (sym none ∙ e)); sound-lent = λ e. absurd (other e); none-open = λ e. absurd (other e) }
 
 -- ---- the premises at one call
 

@@ -4,3 +4,4 @@ pub mod Example
 pub mod SwitchOver
 pub mod Joined
 pub mod Never
+pub mod Listed

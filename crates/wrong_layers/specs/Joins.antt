@@ -18,14 +18,15 @@ use Rattle.layer.specs.World.{World, worldOf, calm, sizeOf, Row, firstOf, empty
 use Rattle.layer.specs.Table.{at, isAt, overlaps, sound}
 use Rattle.layer.specs.Answering.{isIdle}
 use Rattle.layer.specs.Step.{step}
+use Rattle.layer.specs.Listing.{releaseList}
 use Rattle.layer.specs.Joining.{JoinOutcome, joinOutcome, refuseJoin, tablesOverlap, joinedWorld, join}
 use Rattle.layer.specs.History.{Layer}
 use Rattle.layer.specs.Demand.{Demand3}
 use Rattle.layer_laws.specs.joined.Join.{Join, ByTheWish}
 
--- its calls go by the rules
+-- its calls and lists go by the rules
 abbrev pub butJoins : Join → Layer
-butJoins J = record { does = step; joins = J }
+butJoins J = record { does = step; lists = releaseList; joins = J }
 
 -- ---- a join, by its rows and by what it does where none holds
 

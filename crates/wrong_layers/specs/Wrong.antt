@@ -25,6 +25,7 @@ use Rattle.layer.specs.World.{World, Outcome, outcome, worldOf, stateWith, size
 use Rattle.layer.specs.Table.{at}
 use Rattle.layer.specs.Answering.{kindOpen}
 use Rattle.layer.specs.Step.{reserve, manage, adopt, claim, release, sweep, Call, act, query, answer, step}
+use Rattle.layer.specs.Listing.{releaseList}
 use Rattle.layer.specs.Joining.{join}
 use Rattle.layer.specs.History.{Layer, isAnswer}
 use Rattle.layer.specs.Demand.{Demand3}
@@ -91,9 +92,9 @@ managedEnd (answer kind accepted base) = 0
 
 -- ---- what it does instead
 
--- it joins as the rules do
+-- its lists and joins go by the rules
 abbrev pub butCalls : (World → ℕ → Settings → Call → Outcome) → Layer
-butCalls does = record { does = does; joins = join }
+butCalls does = record { does = does; lists = releaseList; joins = join }
 
 -- the rules, but where the test holds
 abbrev pub butWhere : (World → Call → Bool) → (World → Outcome → Outcome) → Layer

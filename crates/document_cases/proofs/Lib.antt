@@ -6,3 +6,4 @@ pub mod SwitchOver
 pub mod Joined
 pub mod Never
 pub mod Listed
+pub mod Ring

@@ -9,26 +9,12 @@ use Rattle.layer.specs.World.{sizeOf}
 use Rattle.layer.specs.Listing.{items}
 use Rattle.document_cases.specs.Joined.{stampIn0}
 use Rattle.document_cases.specs.Never.{tableOf, older, calmer, purgeAt, atDelay}
-use Rattle.document_cases.specs.Listed.{Grants, Refuses, chunk, part, notPending, bothHeld, ListedCases}
+use Rattle.document_cases.proofs.Runs.{then-items, past-rows}
+use Rattle.document_cases.specs.Listed.{Refuses, chunk, part, notPending, bothHeld, ListedCases}
 
--- ---- item after item, at 50 ms
-
+-- one item at 50 ms
 abbrev Item : ℤ → Bool → World → ℕ → ℕ → Answer → World → Type 0
 Item d pending w x n a v = releaseItem 50000000 (atDelay d) pending w x n ≡ outcome a v
-
-abbrev Each : ℤ → Bool → World → List ℕ → List ℕ → World → List ℕ → Type 0
-Each d pending w xs counts v numbers = releaseEach 50000000 (atDelay d) pending w xs counts ≡ listOutcome (outcome Released v) numbers
-
-then-items : (d : ℤ) (pending : Bool) (w : World) (x n : ℕ) (a : Answer) (u : World) (xs counts : List ℕ) (v : World) (numbers : List ℕ)
-    → Item d pending w x n a u → Each d pending u xs counts v numbers → Each d pending w (x ∷ xs) (n ∷ counts) v (itemNumber a ∷ numbers)
-then-items d pending w x n a u xs counts v numbers e f =
-    ap (λ (o : Outcome). let rest = releaseEach 50000000 (atDelay d) pending (o .world) xs counts in listOutcome (rest .whole) (itemNumber (o .answer) ∷ rest .numbers)) e
-    ∙ ap (λ (r : ListOutcome). listOutcome (r .whole) (itemNumber a ∷ r .numbers)) f
-
-past-rows : (d : ℤ) (w : World) (t : Items) (v : World) (numbers : List ℕ) → sound (sizeOf (w .state)) w 4096 ≡ true → isIdle (w .state .question) ≡ true → listFits t ≡ true
-    → Each d (t .pending) w (t .addresses) (t .counts) v numbers → Grants d w t v numbers
-unfolding releaseList
-past-rows d w t v numbers e f g r = unless _ _ _ (ap not e) ∙ unless _ _ _ (ap not f) ∙ unless _ _ _ (ap not g) ∙ r
 
 -- ---- the items, computed
 
@@ -114,17 +100,17 @@ as-a-whole = record {
 pub listed-cases : ListedCases
 unfolding listFits
 listed-cases = record {
-  closes = past-rows (pos 10) older (items ((chunk 0) ∷ (chunk 2) ∷ []) (1 ∷ 1 ∷ []) (99 ∷ 99 ∷ []) false) (tableOf 0 7 2 20 stampIn0 Idle) (0 ∷ 0 ∷ []) (computed .sound-older) refl refl (then-items (pos 10) false older (chunk 0) 1 Released less ((chunk 2) ∷ []) (1 ∷ []) (tableOf 0 7 2 20 stampIn0 Idle) (0 ∷ []) (computed .first) (then-items (pos 10) false less (chunk 2) 1 Released (tableOf 0 7 2 20 stampIn0 Idle) [] [] (tableOf 0 7 2 20 stampIn0 Idle) [] (computed .third) refl));
-  passes-refused = past-rows (pos 10) older (items ((chunk 0) ∷ 5 ∷ (chunk 2) ∷ []) (1 ∷ 1 ∷ 1 ∷ []) (99 ∷ 99 ∷ 99 ∷ []) false) (tableOf 0 7 2 20 stampIn0 Idle) (0 ∷ 8 ∷ 0 ∷ []) (computed .sound-older) refl refl (then-items (pos 10) false older (chunk 0) 1 Released less (5 ∷ (chunk 2) ∷ []) (1 ∷ 1 ∷ []) (tableOf 0 7 2 20 stampIn0 Idle) (8 ∷ 0 ∷ []) (computed .first) (then-items (pos 10) false less 5 1 (Refused NotInside) less ((chunk 2) ∷ []) (1 ∷ []) (tableOf 0 7 2 20 stampIn0 Idle) (0 ∷ []) (computed .nowhere-then) (then-items (pos 10) false less (chunk 2) 1 Released (tableOf 0 7 2 20 stampIn0 Idle) [] [] (tableOf 0 7 2 20 stampIn0 Idle) [] (computed .third) refl)));
-  first-refused = past-rows (pos 10) older (items (5 ∷ (chunk 0) ∷ []) (1 ∷ 1 ∷ []) (99 ∷ 99 ∷ []) false) less (8 ∷ 0 ∷ []) (computed .sound-older) refl refl (then-items (pos 10) false older 5 1 (Refused NotInside) older ((chunk 0) ∷ []) (1 ∷ []) less (0 ∷ []) (computed .nowhere) (then-items (pos 10) false older (chunk 0) 1 Released less [] [] less [] (computed .first) refl));
-  all-refused = past-rows (pos 10) older (items (5 ∷ (chunk 0) ∷ []) (1 ∷ 0 ∷ []) (99 ∷ 99 ∷ []) false) older (8 ∷ 4 ∷ []) (computed .sound-older) refl refl (then-items (pos 10) false older 5 1 (Refused NotInside) older ((chunk 0) ∷ []) (0 ∷ []) older (4 ∷ []) (computed .nowhere) (then-items (pos 10) false older (chunk 0) 0 (Refused Zero) older [] [] older [] (computed .no-chunk) refl));
-  each-number = past-rows (pos 10) older (items ((chunk 0) ∷ (chunk 4) ∷ part ∷ (chunk 0) ∷ (chunk 2) ∷ []) (0 ∷ 1 ∷ 1 ∷ 5 ∷ 1 ∷ []) (99 ∷ 99 ∷ 99 ∷ 99 ∷ 99 ∷ []) false) (tableOf 1 7 2 20 stampIn0 Idle) (4 ∷ 8 ∷ 7 ∷ 9 ∷ 0 ∷ []) (computed .sound-older) refl refl (then-items (pos 10) false older (chunk 0) 0 (Refused Zero) older ((chunk 4) ∷ part ∷ (chunk 0) ∷ (chunk 2) ∷ []) (1 ∷ 1 ∷ 5 ∷ 1 ∷ []) (tableOf 1 7 2 20 stampIn0 Idle) (8 ∷ 7 ∷ 9 ∷ 0 ∷ []) (computed .no-chunk) (then-items (pos 10) false older (chunk 4) 1 (Refused NotInside) older (part ∷ (chunk 0) ∷ (chunk 2) ∷ []) (1 ∷ 5 ∷ 1 ∷ []) (tableOf 1 7 2 20 stampIn0 Idle) (7 ∷ 9 ∷ 0 ∷ []) (computed .behind) (then-items (pos 10) false older part 1 (Refused NotWhole) older ((chunk 0) ∷ (chunk 2) ∷ []) (5 ∷ 1 ∷ []) (tableOf 1 7 2 20 stampIn0 Idle) (9 ∷ 0 ∷ []) (computed .inside) (then-items (pos 10) false older (chunk 0) 5 (Refused PastEnd) older ((chunk 2) ∷ []) (1 ∷ []) (tableOf 1 7 2 20 stampIn0 Idle) (0 ∷ []) (computed .too-long) (then-items (pos 10) false older (chunk 2) 1 Released (tableOf 1 7 2 20 stampIn0 Idle) [] [] (tableOf 1 7 2 20 stampIn0 Idle) [] (computed .third-alone) refl)))));
-  twice = past-rows (pos 10) older (items ((chunk 0) ∷ (chunk 0) ∷ []) (1 ∷ 1 ∷ []) (99 ∷ 99 ∷ []) false) less (0 ∷ 0 ∷ []) (computed .sound-older) refl refl (then-items (pos 10) false older (chunk 0) 1 Released less ((chunk 0) ∷ []) (1 ∷ []) less (0 ∷ []) (computed .first) (then-items (pos 10) false less (chunk 0) 1 Released less [] [] less [] (computed .again) refl));
-  overlapping = past-rows (pos 10) older (items ((chunk 0) ∷ (chunk 1) ∷ []) (2 ∷ 3 ∷ []) (99 ∷ 99 ∷ []) false) (tableOf 0 7 2 20 stampIn0 Idle) (0 ∷ 0 ∷ []) (computed .sound-older) refl refl (then-items (pos 10) false older (chunk 0) 2 Released less ((chunk 1) ∷ []) (3 ∷ []) (tableOf 0 7 2 20 stampIn0 Idle) (0 ∷ []) (computed .first-two) (then-items (pos 10) false less (chunk 1) 3 Released (tableOf 0 7 2 20 stampIn0 Idle) [] [] (tableOf 0 7 2 20 stampIn0 Idle) [] (computed .last-three) refl));
-  both-arenas = past-rows (pos 10) (bothHeld 15 15) (items ((chunk 33) ∷ (chunk 0) ∷ []) (1 ∷ 2 ∷ []) (99 ∷ 99 ∷ []) false) (bothHeld 12 13) (0 ∷ 0 ∷ []) (computed .sound-both) refl refl (then-items (pos 10) false (bothHeld 15 15) (chunk 33) 1 Released (bothHeld 15 13) ((chunk 0) ∷ []) (2 ∷ []) (bothHeld 12 13) (0 ∷ []) (computed .in-second) (then-items (pos 10) false (bothHeld 15 13) (chunk 0) 2 Released (bothHeld 12 13) [] [] (bothHeld 12 13) [] (computed .in-first) refl));
-  pends = past-rows (pos 10) calmer (items ((chunk 0) ∷ (chunk 2) ∷ []) (1 ∷ 1 ∷ []) (99 ∷ 99 ∷ []) true) (tableOf 0 7 5 60 (50 ∷ 10 ∷ 50 ∷ replicate 32765 0) Idle) (0 ∷ 0 ∷ []) (computed .sound-calmer) refl refl (then-items (pos 10) true calmer (chunk 0) 1 Released pended ((chunk 2) ∷ []) (1 ∷ []) (tableOf 0 7 5 60 (50 ∷ 10 ∷ 50 ∷ replicate 32765 0) Idle) (0 ∷ []) (computed .pends-first) (then-items (pos 10) true pended (chunk 2) 1 Released (tableOf 0 7 5 60 (50 ∷ 10 ∷ 50 ∷ replicate 32765 0) Idle) [] [] (tableOf 0 7 5 60 (50 ∷ 10 ∷ 50 ∷ replicate 32765 0) Idle) [] (computed .pends-third) refl));
-  pends-never = past-rows (negsuc 0) calmer (items ((chunk 0) ∷ (chunk 2) ∷ []) (1 ∷ 1 ∷ []) (99 ∷ 99 ∷ []) true) (tableOf 0 7 0 0 stampIn0 Idle) (0 ∷ 0 ∷ []) (computed .sound-calmer) refl refl (then-items (negsuc 0) true calmer (chunk 0) 1 Released (tableOf 4 7 0 0 stampIn0 Idle) ((chunk 2) ∷ []) (1 ∷ []) (tableOf 0 7 0 0 stampIn0 Idle) (0 ∷ []) (computed .never-first) (then-items (negsuc 0) true (tableOf 4 7 0 0 stampIn0 Idle) (chunk 2) 1 Released (tableOf 0 7 0 0 stampIn0 Idle) [] [] (tableOf 0 7 0 0 stampIn0 Idle) [] (computed .never-third) refl));
-  empty-list = past-rows (pos 10) calmer (items [] [] [] true) calmer [] (computed .sound-calmer) refl refl refl;
+  closes = past-rows 50000000 (atDelay (pos 10)) older (items ((chunk 0) ∷ (chunk 2) ∷ []) (1 ∷ 1 ∷ []) (99 ∷ 99 ∷ []) false) (tableOf 0 7 2 20 stampIn0 Idle) (0 ∷ 0 ∷ []) (computed .sound-older) refl refl (then-items 50000000 (atDelay (pos 10)) false older (chunk 0) 1 Released less ((chunk 2) ∷ []) (1 ∷ []) (tableOf 0 7 2 20 stampIn0 Idle) (0 ∷ []) (computed .first) (then-items 50000000 (atDelay (pos 10)) false less (chunk 2) 1 Released (tableOf 0 7 2 20 stampIn0 Idle) [] [] (tableOf 0 7 2 20 stampIn0 Idle) [] (computed .third) refl));
+  passes-refused = past-rows 50000000 (atDelay (pos 10)) older (items ((chunk 0) ∷ 5 ∷ (chunk 2) ∷ []) (1 ∷ 1 ∷ 1 ∷ []) (99 ∷ 99 ∷ 99 ∷ []) false) (tableOf 0 7 2 20 stampIn0 Idle) (0 ∷ 8 ∷ 0 ∷ []) (computed .sound-older) refl refl (then-items 50000000 (atDelay (pos 10)) false older (chunk 0) 1 Released less (5 ∷ (chunk 2) ∷ []) (1 ∷ 1 ∷ []) (tableOf 0 7 2 20 stampIn0 Idle) (8 ∷ 0 ∷ []) (computed .first) (then-items 50000000 (atDelay (pos 10)) false less 5 1 (Refused NotInside) less ((chunk 2) ∷ []) (1 ∷ []) (tableOf 0 7 2 20 stampIn0 Idle) (0 ∷ []) (computed .nowhere-then) (then-items 50000000 (atDelay (pos 10)) false less (chunk 2) 1 Released (tableOf 0 7 2 20 stampIn0 Idle) [] [] (tableOf 0 7 2 20 stampIn0 Idle) [] (computed .third) refl)));
+  first-refused = past-rows 50000000 (atDelay (pos 10)) older (items (5 ∷ (chunk 0) ∷ []) (1 ∷ 1 ∷ []) (99 ∷ 99 ∷ []) false) less (8 ∷ 0 ∷ []) (computed .sound-older) refl refl (then-items 50000000 (atDelay (pos 10)) false older 5 1 (Refused NotInside) older ((chunk 0) ∷ []) (1 ∷ []) less (0 ∷ []) (computed .nowhere) (then-items 50000000 (atDelay (pos 10)) false older (chunk 0) 1 Released less [] [] less [] (computed .first) refl));
+  all-refused = past-rows 50000000 (atDelay (pos 10)) older (items (5 ∷ (chunk 0) ∷ []) (1 ∷ 0 ∷ []) (99 ∷ 99 ∷ []) false) older (8 ∷ 4 ∷ []) (computed .sound-older) refl refl (then-items 50000000 (atDelay (pos 10)) false older 5 1 (Refused NotInside) older ((chunk 0) ∷ []) (0 ∷ []) older (4 ∷ []) (computed .nowhere) (then-items 50000000 (atDelay (pos 10)) false older (chunk 0) 0 (Refused Zero) older [] [] older [] (computed .no-chunk) refl));
+  each-number = past-rows 50000000 (atDelay (pos 10)) older (items ((chunk 0) ∷ (chunk 4) ∷ part ∷ (chunk 0) ∷ (chunk 2) ∷ []) (0 ∷ 1 ∷ 1 ∷ 5 ∷ 1 ∷ []) (99 ∷ 99 ∷ 99 ∷ 99 ∷ 99 ∷ []) false) (tableOf 1 7 2 20 stampIn0 Idle) (4 ∷ 8 ∷ 7 ∷ 9 ∷ 0 ∷ []) (computed .sound-older) refl refl (then-items 50000000 (atDelay (pos 10)) false older (chunk 0) 0 (Refused Zero) older ((chunk 4) ∷ part ∷ (chunk 0) ∷ (chunk 2) ∷ []) (1 ∷ 1 ∷ 5 ∷ 1 ∷ []) (tableOf 1 7 2 20 stampIn0 Idle) (8 ∷ 7 ∷ 9 ∷ 0 ∷ []) (computed .no-chunk) (then-items 50000000 (atDelay (pos 10)) false older (chunk 4) 1 (Refused NotInside) older (part ∷ (chunk 0) ∷ (chunk 2) ∷ []) (1 ∷ 5 ∷ 1 ∷ []) (tableOf 1 7 2 20 stampIn0 Idle) (7 ∷ 9 ∷ 0 ∷ []) (computed .behind) (then-items 50000000 (atDelay (pos 10)) false older part 1 (Refused NotWhole) older ((chunk 0) ∷ (chunk 2) ∷ []) (5 ∷ 1 ∷ []) (tableOf 1 7 2 20 stampIn0 Idle) (9 ∷ 0 ∷ []) (computed .inside) (then-items 50000000 (atDelay (pos 10)) false older (chunk 0) 5 (Refused PastEnd) older ((chunk 2) ∷ []) (1 ∷ []) (tableOf 1 7 2 20 stampIn0 Idle) (0 ∷ []) (computed .too-long) (then-items 50000000 (atDelay (pos 10)) false older (chunk 2) 1 Released (tableOf 1 7 2 20 stampIn0 Idle) [] [] (tableOf 1 7 2 20 stampIn0 Idle) [] (computed .third-alone) refl)))));
+  twice = past-rows 50000000 (atDelay (pos 10)) older (items ((chunk 0) ∷ (chunk 0) ∷ []) (1 ∷ 1 ∷ []) (99 ∷ 99 ∷ []) false) less (0 ∷ 0 ∷ []) (computed .sound-older) refl refl (then-items 50000000 (atDelay (pos 10)) false older (chunk 0) 1 Released less ((chunk 0) ∷ []) (1 ∷ []) less (0 ∷ []) (computed .first) (then-items 50000000 (atDelay (pos 10)) false less (chunk 0) 1 Released less [] [] less [] (computed .again) refl));
+  overlapping = past-rows 50000000 (atDelay (pos 10)) older (items ((chunk 0) ∷ (chunk 1) ∷ []) (2 ∷ 3 ∷ []) (99 ∷ 99 ∷ []) false) (tableOf 0 7 2 20 stampIn0 Idle) (0 ∷ 0 ∷ []) (computed .sound-older) refl refl (then-items 50000000 (atDelay (pos 10)) false older (chunk 0) 2 Released less ((chunk 1) ∷ []) (3 ∷ []) (tableOf 0 7 2 20 stampIn0 Idle) (0 ∷ []) (computed .first-two) (then-items 50000000 (atDelay (pos 10)) false less (chunk 1) 3 Released (tableOf 0 7 2 20 stampIn0 Idle) [] [] (tableOf 0 7 2 20 stampIn0 Idle) [] (computed .last-three) refl));
+  both-arenas = past-rows 50000000 (atDelay (pos 10)) (bothHeld 15 15) (items ((chunk 33) ∷ (chunk 0) ∷ []) (1 ∷ 2 ∷ []) (99 ∷ 99 ∷ []) false) (bothHeld 12 13) (0 ∷ 0 ∷ []) (computed .sound-both) refl refl (then-items 50000000 (atDelay (pos 10)) false (bothHeld 15 15) (chunk 33) 1 Released (bothHeld 15 13) ((chunk 0) ∷ []) (2 ∷ []) (bothHeld 12 13) (0 ∷ []) (computed .in-second) (then-items 50000000 (atDelay (pos 10)) false (bothHeld 15 13) (chunk 0) 2 Released (bothHeld 12 13) [] [] (bothHeld 12 13) [] (computed .in-first) refl));
+  pends = past-rows 50000000 (atDelay (pos 10)) calmer (items ((chunk 0) ∷ (chunk 2) ∷ []) (1 ∷ 1 ∷ []) (99 ∷ 99 ∷ []) true) (tableOf 0 7 5 60 (50 ∷ 10 ∷ 50 ∷ replicate 32765 0) Idle) (0 ∷ 0 ∷ []) (computed .sound-calmer) refl refl (then-items 50000000 (atDelay (pos 10)) true calmer (chunk 0) 1 Released pended ((chunk 2) ∷ []) (1 ∷ []) (tableOf 0 7 5 60 (50 ∷ 10 ∷ 50 ∷ replicate 32765 0) Idle) (0 ∷ []) (computed .pends-first) (then-items 50000000 (atDelay (pos 10)) true pended (chunk 2) 1 Released (tableOf 0 7 5 60 (50 ∷ 10 ∷ 50 ∷ replicate 32765 0) Idle) [] [] (tableOf 0 7 5 60 (50 ∷ 10 ∷ 50 ∷ replicate 32765 0) Idle) [] (computed .pends-third) refl));
+  pends-never = past-rows 50000000 (atDelay (negsuc 0)) calmer (items ((chunk 0) ∷ (chunk 2) ∷ []) (1 ∷ 1 ∷ []) (99 ∷ 99 ∷ []) true) (tableOf 0 7 0 0 stampIn0 Idle) (0 ∷ 0 ∷ []) (computed .sound-calmer) refl refl (then-items 50000000 (atDelay (negsuc 0)) true calmer (chunk 0) 1 Released (tableOf 4 7 0 0 stampIn0 Idle) ((chunk 2) ∷ []) (1 ∷ []) (tableOf 0 7 0 0 stampIn0 Idle) (0 ∷ []) (computed .never-first) (then-items 50000000 (atDelay (negsuc 0)) true (tableOf 4 7 0 0 stampIn0 Idle) (chunk 2) 1 Released (tableOf 0 7 0 0 stampIn0 Idle) [] [] (tableOf 0 7 0 0 stampIn0 Idle) [] (computed .never-third) refl));
+  empty-list = past-rows 50000000 (atDelay (pos 10)) calmer (items [] [] [] true) calmer [] (computed .sound-calmer) refl refl refl;
   few-counts = as-a-whole .few-counts;
   few-answers = as-a-whole .few-answers;
   few-addresses = as-a-whole .few-addresses;

@@ -5,3 +5,4 @@ pub mod SwitchOver
 pub mod Joined
 pub mod Never
 pub mod Listed
+pub mod Ring

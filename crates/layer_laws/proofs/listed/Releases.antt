@@ -14,7 +14,10 @@ use Rattle.layer.proofs.Stepped.{passing-facts, passing-test}
 use Rattle.layer.proofs.Cases.{release-in-cases, release-cases}
 use Rattle.layer.proofs.Calls.{idle-is}
 use Rattle.layer.proofs.Lists.{Open, item-is, settled, still-open, each-keeps, each-granted, ListComes, turned-down, one-by-one, list-comes, broken-list}
-use Rattle.layer_laws.specs.listed.Releases.{Passes, OneLength, BrokenExactly, OpenExactly, NineteenExactly, GrantedElse, RefusedLeaves, Says, Singly, AsSingles, ReleasesNumber, OnlyReleases, LeavesCommitted, LeavesState, LeavesSound, ReleasesLists}
+use lib.Seq.{ext-getD}
+use Rattle.layer.specs.Step.{Call}
+use Rattle.layer.specs.History.{Layer}
+use Rattle.layer_laws.specs.listed.Releases.{Determined, single, Passes, OneLength, BrokenExactly, OpenExactly, NineteenExactly, GrantedElse, RefusedLeaves, Says, Singly, AsSingles, ReleasesNumber, OnlyReleases, LeavesCommitted, LeavesState, LeavesSound, ReleasesLists}
 
 -- two answers of other numbers
 differ : {A : Type 0} (a b : Answer) → a ≡ b → (itemNumber a ≡ itemNumber b → ⊥) → A
@@ -288,3 +291,76 @@ releases-lists = record {
   leaves-state = leaves-state;
   leaves-sound = leaves-sound;
 }
+
+-- ---- nothing is left open
+
+-- a number is that of one answer
+one-number : (r : Answer) (n m : ℕ) → Says r n → Says r m → n ≡ m
+one-number r n m (inl (e, f)) (inl (g, h)) = f ∙ sym h
+one-number r n m (inl (e, f)) (inr (why, g, h)) = not-both (sym e ∙ g)
+one-number r n m (inr (why, e, f)) (inl (g, h)) = not-both (sym g ∙ e)
+one-number r n m (inr (why, e, f)) (inr (why′, g, h)) = f ∙ ap itemNumber (sym e ∙ g) ∙ sym h
+
+module _ (L M : Layer) (alike : (w : World) (ns : ℕ) (settings : Settings) (c : Call) → L .does w ns settings c ≡ M .does w ns settings c) (a : ReleasesLists L) (b : ReleasesLists M)
+    (w : World) (ns : ℕ) (settings : Settings) (t : Items) where
+  -- refused as a whole by the same number
+  both-refuse : (why : Refusal) → L .lists w ns settings t .whole .answer ≡ Refused why → M .lists w ns settings t .whole .answer ≡ Refused why → L .lists w ns settings t ≡ M .lists w ns settings t
+  both-refuse why e f =
+      let x = a .refused-leaves w ns settings t why e in
+      let y = b .refused-leaves w ns settings t why f in
+      λ i. record { whole = record { answer = (e ∙ sym f) i; world = (x .0 ∙ sym (y .0)) i }; numbers = (x .1 ∙ sym (y .1)) i }
+
+  both-grant : L .lists w ns settings t .whole .answer ≡ Released → M .lists w ns settings t .whole .answer ≡ Released → L .lists w ns settings t ≡ M .lists w ns settings t
+  both-grant e f = λ i. record { whole = record { answer = (e ∙ sym f) i; world = worlds i }; numbers = numbers i }
+    where
+      x : Singly L ns settings t w (L .lists w ns settings t .whole .world)
+      x = a .as-singles w ns settings t e
+
+      y : Singly M ns settings t w (M .lists w ns settings t .whole .world)
+      y = b .as-singles w ns settings t f
+
+      -- the table before each item
+      same : (j : ℕ) → j ≤ length (t .addresses) → x .before j ≡ y .before j
+      same zero h = x .starts ∙ sym (y .starts)
+      same (suc j) h =
+          sym (x .leads j (omega (arith, h)))
+          ∙ ap (λ (o : Outcome). o .world) (alike (x .before j) ns settings _)
+          ∙ ap (λ (v : World). single M ns settings t v j .world) (same j (omega (arith, h)))
+          ∙ y .leads j (omega (arith, h))
+
+      worlds : L .lists w ns settings t .whole .world ≡ M .lists w ns settings t .whole .world
+      worlds = sym (x .ends) ∙ same (length (t .addresses)) (omega arith) ∙ y .ends
+
+      answer-same : (j : ℕ) → j < length (t .addresses) → single L ns settings t (x .before j) j .answer ≡ single M ns settings t (y .before j) j .answer
+      answer-same j h =
+          ap (λ (o : Outcome). o .answer) (alike (x .before j) ns settings _) ∙ ap (λ (v : World). single M ns settings t v j .answer) (same j (omega (arith, h)))
+
+      numbers : L .lists w ns settings t .numbers ≡ M .lists w ns settings t .numbers
+      numbers =
+          ext-getD 0 (L .lists w ns settings t .numbers) (M .lists w ns settings t .numbers) (x .as-many ∙ sym (y .as-many))
+          (λ j h. let u : j < length (t .addresses) = omega (arith, h, x .as-many) in
+          one-number _ _ _ (x .stands j u) (subst (λ (r : Answer). Says r (getD (M .lists w ns settings t .numbers) j 0)) (sym (answer-same j u)) (y .stands j u)))
+
+  same-list : L .lists w ns settings t ≡ M .lists w ns settings t
+  same-list = by-sound (sound (sizeOf (w .state)) w (settings .page)) refl
+    where
+      by-length : Passes w settings → w .state .question ≡ Idle → (q : Bool) → listFits t ≡ q → L .lists w ns settings t ≡ M .lists w ns settings t
+      by-length p idle true e = both-grant (a .granted-else w ns settings t p idle (fits-length t e)) (b .granted-else w ns settings t p idle (fits-length t e))
+      by-length p idle false e =
+          let none : OneLength t → ⊥ = λ l. true≢false (sym (length-fits t l) ∙ e) in
+          both-refuse ListLength (a .nineteen-exactly w ns settings t p idle .1 none) (b .nineteen-exactly w ns settings t p idle .1 none)
+
+      by-question : Passes w settings → (q : Bool) → isIdle (w .state .question) ≡ q → L .lists w ns settings t ≡ M .lists w ns settings t
+      by-question p true e = by-length p (idle-is (w .state .question) e) (listFits t) refl
+      by-question p false e =
+          let none : w .state .question ≡ Idle → ⊥ = λ i. true≢false (sym (ap isIdle i) ∙ e) in
+          both-refuse QuestionOpen (a .open-exactly w ns settings t p .1 none) (b .open-exactly w ns settings t p .1 none)
+
+      by-sound : (q : Bool) → sound (sizeOf (w .state)) w (settings .page) ≡ q → L .lists w ns settings t ≡ M .lists w ns settings t
+      by-sound true e = by-question e (isIdle (w .state .question)) refl
+      by-sound false e =
+          let none : Passes w settings → ⊥ = λ p. true≢false (sym p ∙ e) in
+          both-refuse Broken (a .broken-exactly w ns settings t .1 none) (b .broken-exactly w ns settings t .1 none)
+
+pub determined : Determined
+determined L M alike a b w ns settings t = same-list L M alike a b w ns settings t

@@ -16,7 +16,7 @@ use Rattle.layer.specs.declared.Answer.{Answer}
 use Rattle.layer.specs.declared.Answer.the-variants.{Refused, Released}
 use Rattle.layer.specs.World.{World, Outcome, sizeOf}
 use Rattle.layer.specs.Table.{at, sound}
-use Rattle.layer.specs.Step.{release, act}
+use Rattle.layer.specs.Step.{release, Call, act}
 use Rattle.layer.specs.Listing.{Items}
 use Rattle.layer.specs.History.{Layer}
 
@@ -122,3 +122,9 @@ pub record ReleasesLists (L : Layer) : Type 0 where
   pub leaves-committed : LeavesCommitted L
   pub leaves-state : LeavesState L
   pub leaves-sound : LeavesSound L
+
+-- These sentences leave nothing open: of two layers that answer single calls alike and keep them, the lists are one
+abbrev pub Determined : Type 0
+Determined =
+    (L M : Layer) → ((w : World) (ns : ℕ) (settings : Settings) (c : Call) → L .does w ns settings c ≡ M .does w ns settings c) → ReleasesLists L → ReleasesLists M
+    → (w : World) (ns : ℕ) (settings : Settings) (t : Items) → L .lists w ns settings t ≡ M .lists w ns settings t

@@ -7,3 +7,4 @@ pub mod Full
 pub mod Joins
 pub mod Wish
 pub mod Never
+pub mod Lists

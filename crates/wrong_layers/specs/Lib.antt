@@ -1,3 +1,4 @@
 pub mod Wrong
 pub mod Joins
 pub mod Never
+pub mod Lists

@@ -1,5 +1,5 @@
 -- The worked cases of wish 3 hold of the rules: each item is computed by itself, on the table that the item before it leaves. Assumes nothing.
-use Rattle.layer.proofs.Prelude.{refl, listFits, releaseList, bit, bitAt, within, asNumber, pack, writeRun, all, least, orOne, nowMs, delayMs, neverPurges, keeps, armed, isDue, pageSizeSound, takeRun, giveBackRun, commitRun, tellRun, pendRun, releaseRun, stampRun, sweepDue, disarm, young, toAsk, nextAsked, borrowChunk, unpendChunk, returnChunk, rearm, stampsOf, bytesOf, endOf, isInside, soundRange, clearPast, clearPastAll, soundArena, meets, overlaps, findArena, apart, soundQuestion, soundTable, soundLent, releaseOf, purgeReply, sweptReply, visit, sweepFrom, isFor, answerOf, rules, newArena, reservedArena, _≡_, ap, _∙_, Bool, true, false, not, List, [], _∷_, ℕ, _*_, _+_, ℤ, pos, negsuc, replicate, unless, World, Outcome, outcome, sound, isIdle, Items, listOutcome, itemNumber, releaseEach, releaseItem, ListOutcome}
+use Rattle.layer.proofs.Prelude.{refl, listFits, releaseList, bit, bitAt, within, asNumber, pack, writeRun, all, least, orOne, nowMs, delayMs, neverPurges, keeps, armed, isDue, pageSizeSound, takeRun, giveBackRun, commitRun, tellRun, pendRun, releaseRun, stampRun, sweepDue, disarm, young, toAsk, nextAsked, borrowChunk, unpendChunk, returnChunk, rearm, stampsOf, bytesOf, endOf, isInside, soundRange, clearPast, clearPastAll, soundArena, meets, overlaps, findArena, apart, soundQuestion, soundTable, soundLent, releaseOf, purgeReply, sweptReply, visit, sweepFrom, isFor, answerOf, rules, newArena, reservedArena, _≡_, Bool, true, false, [], _∷_, ℕ, ℤ, pos, negsuc, replicate, World, outcome, sound, releaseItem}
 use Rattle.refusals.specs.declared.Refusal.the-variants.{Broken, QuestionOpen, Zero, NotWhole, NotInside, PastEnd, ListLength}
 use Rattle.document_cases.specs.Refused.{short}
 use Rattle.layer.specs.declared.Question.the-variants.{Idle}

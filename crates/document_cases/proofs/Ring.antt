@@ -1,12 +1,11 @@
 -- The history of the ring meets the premises of demand 3, and program 7 is told what its share book says: computed. Assumes nothing.
-use Rattle.layer.proofs.Prelude.{_≡_, refl, true, false, [], _∷_, _+_, bit, bitAt, within, asNumber, pack, writeRun, all, least, lowestRun, orOne, nowMs, delayMs, neverPurges, keeps, armed, isDue, arenaAllowed, pageSizeSound, newArena, reservedArena, managedArena, adoptedArena, grownArena, findRun, runCommitted, runFresh, takeRun, giveBackRun, commitRun, dirtyRun, finishGrant, tellRun, pendRun, releaseRun, stampRun, sweepDue, disarm, young, toAsk, nextAsked, borrowChunk, unpendChunk, returnChunk, rearm, bytesOf, endOf, isInside, soundRange, clearPast, clearPastAll, soundArena, empty, meets, overlaps, badRange, findArena, apart, soundQuestion, soundTable, soundLent, chunksFor, tooLarge, bytesAsked, askMemory, reserveReply, badCount, noWholeChunk, grows, reserveOf, manageOf, adoptOf, eligible, serves, asksCommit, grantArena, grantReply, missReply, searchOf, claimOf, releaseOf, purgeReply, sweptReply, visit, sweepFrom, isFor, answerOf, rules, overwritten, outcome, JoinOutcome, joinOutcome, tablesOverlap, joinOn, joinRules, join, lowest, claims, releases as frees, granted, released, enter, sayAll, ofFirst, begin, joining, isBrokenJoin, start, inRange, bookOf, bothSound, byRules, listFits, releaseList, releaseEach, releaseItem, listOutcome, sound, isSoundList, isIdle, World, ℕ, ap, _∙_, Bool, _&&_, cond, isNone, feeds, entriesOfList, arith, ListOutcome}
+use Rattle.layer.proofs.Prelude.{_≡_, refl, true, false, [], _∷_, _+_, bit, bitAt, within, asNumber, pack, writeRun, all, least, lowestRun, orOne, nowMs, delayMs, neverPurges, keeps, armed, isDue, arenaAllowed, pageSizeSound, newArena, reservedArena, managedArena, adoptedArena, grownArena, findRun, runCommitted, runFresh, takeRun, giveBackRun, commitRun, dirtyRun, finishGrant, tellRun, pendRun, releaseRun, stampRun, sweepDue, disarm, young, toAsk, nextAsked, borrowChunk, unpendChunk, returnChunk, rearm, bytesOf, endOf, isInside, soundRange, clearPast, clearPastAll, soundArena, empty, meets, overlaps, badRange, findArena, apart, soundQuestion, soundTable, soundLent, chunksFor, tooLarge, bytesAsked, askMemory, reserveReply, badCount, noWholeChunk, grows, reserveOf, manageOf, adoptOf, eligible, serves, asksCommit, grantArena, grantReply, missReply, searchOf, claimOf, releaseOf, purgeReply, sweptReply, visit, sweepFrom, isFor, answerOf, rules, overwritten, outcome, tablesOverlap, joinOn, joinRules, join, lowest, claims, releases as frees, granted, released, enter, sayAll, inRange, bookOf, byRules, listFits, releaseList, releaseItem, listOutcome, sound, isSoundList, World, ℕ, ap, Bool, _&&_, cond, isNone, feeds, entriesOfList, arith}
 use Rattle.refusals.specs.declared.Refusal.the-variants.{NotInside, ListLength}
 use Rattle.layer.specs.declared.Question.the-variants.{Idle}
 use Rattle.layer.specs.declared.Answer.the-variants.{Refused, Claimed, Released}
-use Rattle.layer.specs.World.{sizeOf}
 use Rattle.document_cases.specs.Example.{S, base, elsewhere, plain, own, one, w₂, c₂, arena}
 use Rattle.document_cases.specs.Ring.{r₁, r₂, r₃, holds, closes, anothers, holdsAgain, history, feeding, telling, Ring}
-use Rattle.document_cases.proofs.Runs.{After, Made, MadeList, after-made, after-list, then-items, past-rows, own-call, own-list, others-list}
+use Rattle.document_cases.proofs.Runs.{After, Made, after-made, after-list, then-items, past-rows, own-call, own-list, others-list}
 use Rattle.document_cases.proofs.Example.{stand, begun, computed as example-calls}
 
 -- after the first item

@@ -1,7 +1,7 @@
 -- Wish 3 of document 02, worked by hand: the smallest lists that tell its readings apart, over the rules. Each case is an equation of the answer, of all that is left, and of the list of answers.
 -- Assumes nothing.
 use mathlib.Core.Path.{_≡_}
-use mathlib.Core.Bool.{Bool, true, false}
+use mathlib.Core.Bool.{true, false}
 use mathlib.Core.List.{List, [], _∷_}
 use Prim.Native.Nat.{ℕ, _*_, _+_}
 use lib.IntN.{ℤ, pos, negsuc}

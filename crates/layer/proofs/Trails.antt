@@ -1,5 +1,5 @@
 -- The rules' own run of a history: its table stays sound and its open question is of the call that put it; and the rules, lent as they left it, go that way. Assumes nothing.
-use Rattle.layer.proofs.Prelude.{_≡_, refl, sym, ap, ap₂, _∙_, subst, Bool, true, false, cond, not, ℕ, arith, length, length-replicate, when, unless, World, Outcome, empty, stepOn, step, JoinOutcome, join, Marked, MarkedJoin, Side, ofFirst, ofSecond, History, begin, next, joining, isSound, bothSound, byRules, outcomeBy, joinBy, isBroken, isBrokenJoin, sideOf, left, Lent, Trail, openAt, isIdle, follow, followJoin, joinOf, leaving, start, ruled, by-cond, Question, Idle, sound, ListOutcome, releaseList, MarkedList, isSoundList, listBy, listing, listOf, followList}
+use Rattle.layer.proofs.Prelude.{_≡_, refl, sym, ap, ap₂, _∙_, subst, Bool, true, false, cond, not, ℕ, arith, length-replicate, when, unless, World, Outcome, empty, stepOn, step, JoinOutcome, join, Marked, MarkedJoin, Side, ofFirst, ofSecond, History, begin, next, joining, isSound, bothSound, byRules, outcomeBy, joinBy, isBroken, isBrokenJoin, sideOf, left, Lent, Trail, openAt, isIdle, follow, followJoin, joinOf, leaving, start, ruled, by-cond, Question, Idle, sound, ListOutcome, releaseList, MarkedList, isSoundList, listBy, listing, listOf, followList}
 use Rattle.layer.specs.World.{sizeOf}
 use Rattle.layer.specs.declared.State.{State}
 use Rattle.layer.specs.History.{bytesIn}

@@ -1,5 +1,5 @@
 -- A list turn by turn, and its rows. Assumes nothing.
-use Rattle.layer.proofs.Prelude.{_≡_, refl, sym, ap, ap₂, _∙_, subst, Bool, true, false, not, _&&_, List, [], _∷_, _++_, append-assoc, append-nil, ℕ, suc, _+_, _<_, _≤_, arith, eqb-true, eqb, leb, length, getD, set, take, drop, when, unless, and-both, Broken, QuestionOpen, ListLength, nowMs, delayMs, Arena, Untold, World, Outcome, worldOf, reply, calm, turnDown, sound, releaseOf, staysPending, isIdle, ListOutcome, itemNumber, releaseEach, releaseItem, listFits, releaseList}
+use Rattle.layer.proofs.Prelude.{_≡_, refl, sym, ap, ap₂, _∙_, subst, Bool, true, false, not, _&&_, List, [], _∷_, _++_, append-assoc, append-nil, ℕ, suc, _+_, _<_, arith, eqb-true, eqb, leb, length, getD, set, take, drop, when, unless, and-both, Broken, QuestionOpen, ListLength, nowMs, delayMs, Arena, Untold, World, Outcome, worldOf, reply, calm, turnDown, sound, releaseOf, staysPending, isIdle, ListOutcome, itemNumber, releaseEach, releaseItem, listFits, releaseList}
 use lib.Seq.{drop-cons, drop-length, take-length, take-suc-set}
 use Rattle.layer.specs.declared.State.{State}
 use Rattle.layer.specs.declared.Settings.{Settings}

@@ -1,10 +1,8 @@
 -- Wrong lists of releases, each on a list that it does not answer, or whose items it does not release, as the rules do. Assumes nothing.
-use Rattle.layer.proofs.Prelude.{_≡_, refl, Bool, true, false, List, [], _∷_, ℕ, arith, lit<, pos, negsuc, replicate, bit, bitAt, within, asNumber, pack, writeRun, all, least, lowestRun, orOne, nowMs, delayMs, neverPurges, keeps, armed, isDue, arenaAllowed, pageSizeSound, Arena, newArena, reservedArena, managedArena, adoptedArena, grownArena, findRun, runCommitted, runFresh, takeRun, giveBackRun, commitRun, dirtyRun, finishGrant, tellRun, pendRun, releaseRun, stampRun, sweepDue, disarm, young, toAsk, nextAsked, borrowChunk, unpendChunk, returnChunk, rearm, bytesOf, endOf, isInside, soundRange, clearPast, clearPastAll, soundArena, World, blank, stateWith, worldOf, outcome, empty, meets, overlaps, badRange, findArena, apart, soundQuestion, soundTable, soundLent, chunksFor, tooLarge, bytesAsked, askMemory, reserveReply, badCount, noWholeChunk, grows, reserveOf, manageOf, adoptOf, eligible, serves, asksCommit, grantArena, grantReply, missReply, searchOf, claimOf, releaseOf, purgeReply, sweptReply, visit, sweepFrom, isFor, answerOf, manage, claim, act, rules, step, lowest, claims, Say, refused, granted, enter, sayAll, Marked, begin, next, isSound, Layer, Trail, start, Place, inRange, OpensAt, bookOf, sym, ap, _∙_, not, true≢false, length, getD, length-replicate, when, unless, Outcome, at, sound, byRules, join, Items, ListOutcome, listOutcome, itemNumber, releaseEach, releaseItem, listFits, releaseList, MarkedList, isSoundList, Demand3, releases as frees, released, _≤_, leb, ltb, eqb, isIdle, _&&_, eq-eqb, le-leb, lt-leb, ltb-true, ltb-false, never, ap₂, listing, isBroken, hears, entriesOfList, saidOfList, cond, firstOf}
+use Rattle.layer.proofs.Prelude.{_≡_, refl, Bool, true, false, List, [], _∷_, ℕ, arith, negsuc, replicate, bit, bitAt, within, asNumber, pack, writeRun, all, least, lowestRun, orOne, nowMs, delayMs, neverPurges, keeps, armed, isDue, arenaAllowed, pageSizeSound, newArena, reservedArena, managedArena, adoptedArena, grownArena, findRun, runCommitted, runFresh, takeRun, giveBackRun, commitRun, dirtyRun, finishGrant, tellRun, pendRun, releaseRun, stampRun, sweepDue, disarm, young, toAsk, nextAsked, borrowChunk, unpendChunk, returnChunk, rearm, bytesOf, endOf, isInside, soundRange, clearPast, clearPastAll, soundArena, World, blank, stateWith, worldOf, outcome, empty, meets, overlaps, badRange, findArena, apart, soundQuestion, soundTable, soundLent, chunksFor, tooLarge, bytesAsked, askMemory, reserveReply, badCount, noWholeChunk, grows, reserveOf, manageOf, adoptOf, eligible, serves, asksCommit, grantArena, grantReply, missReply, searchOf, claimOf, releaseOf, purgeReply, sweptReply, visit, sweepFrom, isFor, answerOf, rules, step, lowest, claims, Say, refused, granted, enter, sayAll, begin, next, isSound, Trail, inRange, bookOf, sym, ap, _∙_, not, true≢false, length, getD, length-replicate, unless, at, sound, byRules, Items, ListOutcome, listOutcome, itemNumber, listFits, releaseList, MarkedList, isSoundList, Demand3, releases as frees, released, _≤_, ltb, eqb, _&&_, eq-eqb, ap₂, listing, isBroken, hears, entriesOfList, saidOfList, cond, firstOf}
 use Rattle.refusals.specs.declared.Refusal.the-variants.{Broken, ListLength, NoRun}
-use Rattle.layer.specs.declared.Settings.{Settings}
 use Rattle.layer.specs.declared.Question.the-variants.{Idle, Committing}
-use Rattle.layer.specs.declared.Answer.{Answer}
-use Rattle.layer.specs.declared.Answer.the-variants.{Refused, Released, Claimed, Registered}
+use Rattle.layer.specs.declared.Answer.the-variants.{Refused, Released, Claimed}
 use Rattle.layer.specs.World.{sizeOf}
 use Rattle.layer.specs.Listing.{items}
 use Rattle.layer.proofs.Lists.{each-granted}
@@ -12,8 +10,6 @@ use Rattle.layer_laws.specs.listed.Releases.{ReleasesLists, OneLength}
 use Rattle.layer_laws.proofs.listed.Releases.{releases-lists, determined}
 use Rattle.document_cases.specs.Example.{S, plain, by, row}
 use Rattle.document_cases.specs.Refused.{short}
-use Rattle.document_cases.specs.Never.{tableOf, calmer, purgeAt}
-use Rattle.document_cases.specs.Joined.{stampIn0}
 use Rattle.document_cases.proofs.Runs.{After, after-made, after-list, by-book, own-call, own-list}
 use Rattle.wrong_layers.proofs.Ground.{stand, own, clear, held, manages, claimsOn, arena, ground, opened, opens}
 use Rattle.wrong_layers.specs.Lists.{Listing, butLists, one, two, nineteen, rightItems, nineteenBeforeTwo, nineteenBeforeOne, limitRefused, noLimit, answersUnlooked, answersAreOne, emptyIsFour, alwaysNineteen, nineteenWritten, movesRefused, stopsAtRefusal, allOrNothing, lastSkipped, uncommits, commits, pendsNone, pendsAll, lastCounts, saysOnly, answersLeft, refusedByItem, Fails, ListsFail}

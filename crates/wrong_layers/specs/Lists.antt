@@ -5,18 +5,16 @@ use mathlib.Core.List.{List, [], _∷_, _++_, map}
 use Prim.Native.Nat.{ℕ, _-_}
 use lib.Dec.{eqb, leb, ltb}
 use lib.ListN.{length, take, drop}
-use Rattle.refusals.specs.declared.Refusal.{Refusal}
 use Rattle.refusals.specs.declared.Refusal.the-variants.{Broken, QuestionOpen, Zero, ListLength}
 use Rattle.arena.specs.declared.Commitment.{Commitment}
-use Rattle.arena.specs.declared.Commitment.the-variants.{Untold, Committed, Uncommitted}
+use Rattle.arena.specs.declared.Commitment.the-variants.{Committed, Uncommitted}
 use Rattle.layer.specs.declared.Settings.{Settings}
-use Rattle.layer.specs.declared.Answer.{Answer}
 use Rattle.layer.specs.declared.Answer.the-variants.{Refused, Released}
-use Rattle.layer.specs.World.{World, Outcome, outcome, sizeOf, Row, row, firstOf}
+use Rattle.layer.specs.World.{World, outcome, sizeOf, Row, row, firstOf}
 use Rattle.layer.specs.Table.{sound}
 use Rattle.layer.specs.Answering.{isIdle}
 use Rattle.layer.specs.Step.{release, act, step}
-use Rattle.layer.specs.Listing.{Items, ListOutcome, listOutcome, refuseList, itemNumber, releaseItem, releaseEach, listFits, releaseList}
+use Rattle.layer.specs.Listing.{Items, ListOutcome, listOutcome, refuseList, itemNumber, releaseItem, releaseEach, listFits}
 use Rattle.layer.specs.Joining.{join}
 use Rattle.layer.specs.History.{Layer}
 use Rattle.layer.specs.Demand.{Demand3}

@@ -1,10 +1,8 @@
 -- Wish 3 of the rules' list: the order of its refusals, that it is single releases in list order, and what follows of these. Assumes nothing.
-use Rattle.layer.proofs.Prelude.{_≡_, refl, sym, ap, ap₂, _∙_, subst, Bool, true, false, not, _&&_, true≢false, List, [], _∷_, _⊎_, inl, inr, _↔_, ℕ, zero, suc, _<_, _≤_, arith, ℕ-discrete, eq-eqb, eqb-true, leb-true, le-leb, eqb, leb, length, getD, set, when, unless, and-both, Refusal, Broken, QuestionOpen, Zero, NotWhole, PastEnd, ListLength, pageSizeSound, nowMs, delayMs, Arena, Untold, releaseRun, pendRun, tellRun, giveBackRun, World, Outcome, at, sound, releaseOf, staysPending, byRules, isIdle, isBroken, Items, ListOutcome, itemNumber, releaseEach, releaseItem, listFits, releaseList}
+use Rattle.layer.proofs.Prelude.{_≡_, refl, sym, ap, ap₂, _∙_, subst, Bool, true, false, not, _&&_, true≢false, List, [], _∷_, _⊎_, inl, inr, ℕ, zero, suc, _<_, _≤_, arith, ℕ-discrete, eq-eqb, eqb-true, leb-true, le-leb, eqb, length, getD, set, when, unless, and-both, Refusal, Broken, QuestionOpen, Zero, NotWhole, PastEnd, ListLength, nowMs, delayMs, Arena, Untold, releaseRun, pendRun, tellRun, giveBackRun, World, Outcome, at, sound, staysPending, byRules, isIdle, isBroken, Items, ListOutcome, itemNumber, releaseEach, releaseItem, listFits, releaseList}
 use Rattle.refusals.specs.declared.Refusal.the-variants.{NotInside}
 use Rattle.refusals.specs.Number.{number}
 use Rattle.layer.specs.declared.Settings.{Settings}
-use Rattle.layer.specs.declared.State.{State}
-use Rattle.layer.specs.declared.Question.{Question}
 use Rattle.layer.specs.declared.Question.the-variants.{Idle}
 use Rattle.layer.specs.declared.Answer.{Answer}
 use Rattle.layer.specs.declared.Answer.the-variants.{Refused, Asks, Registered, Claimed, Released, Swept, Owns, Area}

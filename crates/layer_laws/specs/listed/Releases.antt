@@ -1,7 +1,7 @@
 -- What wish 3 of document 02 says of a list of releases, of any layer: when it is turned down, by which number, and what it leaves; and that else it is single releases
 -- of that layer in list order. On every lent table and every lent list. Assumes nothing.
 use mathlib.Core.Path.{_≡_}
-use mathlib.Core.Bool.{Bool, true}
+use mathlib.Core.Bool.{true}
 use mathlib.Core.Logic.{_⊎_, _↔_}
 use Prim.Native.Nat.{ℕ, suc, _<_, _≤_}
 use lib.ListN.{length, getD}

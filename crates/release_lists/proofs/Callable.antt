@@ -1,4 +1,4 @@
--- Functions of `release_lists` that a walk calls, each in one step: address-at-pass, as-number-step, chunk-release-list-as-mmssm, count-at-pass, fits-step, number-of-step, put-number-step, release-each-as-mmssm, release-item-step, released-step. Written by tools/walks.
+-- Functions of `release_lists` that a walk calls, each in one step: address-at-pass, as-number-step, chunk-release-list-as-mmssm, count-at-pass, fits-step, number-of-step, put-number-step, release-each-as-mmssm, release-item-step, untold-step. Written by tools/walks.
 -- Assumes `Given`, the callee's theorem, and that the table of calls is monotone under a frame.
 use Rattle.walks.proofs.Walking.{_≡_, refl, sym, _∙_, ap, subst, Bool, ℕ, _<_, _^_, List, [], _∷_, eqb, leb, length, getD, set, w32, w64, Operand, Val, vint, vbool, URA, SProp, emp, id⊢, Memory, Routine, Heap, Env, Calls, Atoms, Given, Item, Goal, Seq, ‵, _⊛_, Opds, Fun, factI, bool, u32, u64, usize, yes, Is, Ises, owns-make, Nothing, uint-makes, bool-tells, bool-makes, plain, only, tripleOf, Contract, Triple, Loan, lent, shared, sliceOf, Site, plain-call, mut-call, pass-call, mut2-call}
 use Rattle.layer.proofs.State as T-State
@@ -9,15 +9,17 @@ use Rattle.layer.proofs.Settings.Laws as L-Settings
 use Rattle.arena.proofs.Arena as T-Arena
 use Rattle.layer.proofs.Reply as T-Reply
 use Rattle.layer.proofs.Reply.Laws as L-Reply
+use Rattle.arena.proofs.Commitment as T-Commitment
 use Rattle.layer.specs.declared.State.{State}
 use Rattle.layer.specs.declared.Settings.{Settings}
 use Rattle.arena.specs.declared.Arena.{Arena}
 use Rattle.layer.specs.declared.Reply.{Reply}
-use Rattle.layer.specs.World.{worldOf, reply, calm}
+use Rattle.layer.specs.World.{worldOf}
 use Rattle.layer.specs.Listing.{items, releaseList, LeavesList, itemNumber, releaseEach, releaseItem}
 use mathlib.Core.Bool.{_&&_}
 use Rattle.release_lists.specs.Passed.{Passed, LeavesItem}
-use Rattle.layer.specs.declared.Answer.the-variants.{Released}
+use Rattle.arena.specs.declared.Commitment.{Commitment}
+use Rattle.arena.specs.declared.Commitment.the-variants.{Untold}
 use Rattle.release_lists.proofs.address_at as address-at′
 use Rattle.release_lists.proofs.address_at.Symbol.{name as #release-lists·address-at}
 use Rattle.release_lists.proofs.as_number as as-number′
@@ -36,8 +38,8 @@ use Rattle.release_lists.proofs.release_each as release-each′
 use Rattle.release_lists.proofs.release_each.Symbol.{name as #release-lists·release-each}
 use Rattle.release_lists.proofs.release_item as release-item′
 use Rattle.release_lists.proofs.release_item.Symbol.{name as #release-lists·release-item}
-use Rattle.release_lists.proofs.released as released′
-use Rattle.release_lists.proofs.released.Symbol.{name as #release-lists·released}
+use Rattle.release_lists.proofs.untold as untold′
+use Rattle.release_lists.proofs.untold.Symbol.{name as #release-lists·untold}
 use Rattle.walks.proofs.ShapeMmssm.{mmssm-call}
 
 -- the contracts that a walk cites
@@ -69,8 +71,8 @@ module _ {M : Type 1} (𝓤 : URA M) (H : Heap 𝓤) (A : Atoms 𝓤) (mem : Mem
   abbrev pub ReleaseItemSpec : Contract 𝓤
   ReleaseItemSpec = tripleOf 𝓤 H A release-item′.signature (release-item′.spec 𝓤 H A mem run)
 
-  abbrev pub ReleasedSpec : Contract 𝓤
-  ReleasedSpec = tripleOf 𝓤 H A released′.signature (released′.spec 𝓤 H A mem run)
+  abbrev pub UntoldSpec : Contract 𝓤
+  UntoldSpec = tripleOf 𝓤 H A untold′.signature (untold′.spec 𝓤 H A mem run)
 
 module _ {M : Type 1} {𝓤 : URA M} {H : Heap 𝓤} {A : Atoms 𝓤} {K : Type 0} {W : Given 𝓤 H A} {Γ : List (Item 𝓤)} {C : Calls 𝓤 H} {E : Env 𝓤 H} {xs : List Operand} {G : Goal 𝓤 H} {after : Val → Goal 𝓤 H} {more : Item 𝓤} where
   pub address-at-pass : K → Site K W Γ C E #release-lists·address-at xs G after → (mem : Memory → SProp 𝓤) (run : Routine → Fun 𝓤) → Triple 𝓤 (C #release-lists·address-at) (AddressAtSpec 𝓤 H A mem run)
@@ -163,12 +165,11 @@ module _ {M : Type 1} {𝓤 : URA M} {H : Heap 𝓤} {A : Atoms 𝓤} {K : Type 
       (λ _. owns-make 𝓤 H A (T-State.the-row ∷ u64 ∷ T-Settings.the-row ∷ u64 ∷ u32 ∷ bool ∷ []) (Ises (T-State.the-row ∷ u64 ∷ T-Settings.the-row ∷ u64 ∷ u32 ∷ bool ∷ [])) (LL.makes T-State.the-type L-State.the-plain 𝓤 H A, (uint-makes 𝓤 H A W w64, (LL.makes T-Settings.the-type L-Settings.the-plain 𝓤 H A, (uint-makes 𝓤 H A W w64, (uint-makes 𝓤 H A W w32, (bool-makes 𝓤 H A W, tt)))))) (state, (ns, (settings, (address, (count, (pending, tt)))))) (v-state ∷ [], (vint w64 ns ∷ [], (v-settings ∷ [], (vint w64 address ∷ [], (vint w32 count ∷ [], (vbool pending ∷ [], tt)))))) (g-state, ((refl, f-ns), (g-settings, ((refl, f-address), ((refl, f-count), (refl, tt))))))) (λ _ _ _. tt) (λ _ _ _. factI 𝓤 _ (emp 𝓤) need)
       (λ out records-exit stamps-exit. LeavesItem (releaseItem ns settings pending (worldOf records stamps state) address count) out records-exit stamps-exit) (λ _ _ _ out ws. id⊢ 𝓤 _) (λ hd′ _. ops hd′) (λ val′ out records-exit stamps-exit rel′ eq′ l-records l-stamps. subst (λ (new′ : Val). Seq K W ((‵ (lent T-Arena.the-row L-records records-exit) ⊛ (‵ (lent u32 L-stamps stamps-exit) ⊛ more)) ∷ Γ) (after new′)) (sym (ap only (rel′ .0))) (then′ out records-exit stamps-exit (rel′ .1) eq′ l-records l-stamps))
 
-  pub released-step : K → Site K W Γ C E #release-lists·released xs G after → (mem : Memory → SProp 𝓤) (run : Routine → Fun 𝓤) → Triple 𝓤 (C #release-lists·released) (ReleasedSpec 𝓤 H A mem run)
-      → (state : State) (v-state : Val) → Is T-State.the-row state (v-state ∷ [])
-      → ((hd′ : Item 𝓤) → Opds K W (hd′ ∷ Γ) E xs (v-state ∷ []))
-      → ((val′ : Val) → Is T-Reply.the-row (reply Released (calm (state .count) (state .mark))) (val′ ∷ []) → Seq K W (more ∷ Γ) (after val′))
+  pub untold-step : K → Site K W Γ C E #release-lists·untold xs G after → (mem : Memory → SProp 𝓤) (run : Routine → Fun 𝓤) → Triple 𝓤 (C #release-lists·untold) (UntoldSpec 𝓤 H A mem run)
+      → ((hd′ : Item 𝓤) → Opds K W (hd′ ∷ Γ) E xs ([]))
+      → ((val′ : Val) → Is T-Commitment.the-row Untold (val′ ∷ []) → Seq K W (more ∷ Γ) (after val′))
       → Seq K W (more ∷ Γ) G
-  released-step bang site mem run known state v-state g-state ops then′ =
-      plain-call bang site T-Reply.the-row (plain (λ _. T-State.the-row) ∷ []) (yes, tt) (released′.clauses 𝓤 H A mem run) known (state, tt) (v-state ∷ [], tt)
-      (owns-make 𝓤 H A (T-State.the-row ∷ []) (Ises (T-State.the-row ∷ [])) (LL.makes T-State.the-type L-State.the-plain 𝓤 H A, tt) (state, tt) (v-state ∷ [], tt) (g-state, tt)) tt (id⊢ 𝓤 _)
-      (λ out. out ≡ reply Released (calm (state .count) (state .mark))) (λ out ws. id⊢ 𝓤 _) ops (λ val′ out rel′ eq′. then′ val′ (subst (λ (obj′ : Reply). Is T-Reply.the-row obj′ (val′ ∷ [])) eq′ rel′))
+  untold-step bang site mem run known ops then′ =
+      plain-call bang site T-Commitment.the-row ([]) tt (untold′.clauses 𝓤 H A mem run) known tt tt
+      (id⊢ 𝓤 _) tt (id⊢ 𝓤 _)
+      (λ out. out ≡ Untold) (λ out ws. id⊢ 𝓤 _) ops (λ val′ out rel′ eq′. then′ val′ (subst (λ (obj′ : Commitment). Is T-Commitment.the-row obj′ (val′ ∷ [])) eq′ rel′))

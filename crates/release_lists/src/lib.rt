@@ -7,8 +7,8 @@ ghost use mathlib.Core.Bool.{_&&_};
 ghost use Prim.Native.Nat.{_<_, _≤_};
 ghost use lib.Dec.{eqb, leb};
 ghost use lib.ListN.{length, getD, set};
-ghost use Rattle.layer.specs.declared.Answer.the-variants.{Released};
-ghost use Rattle.layer.specs.World.{worldOf, reply, calm};
+ghost use Rattle.arena.specs.declared.Commitment.the-variants.{Untold};
+ghost use Rattle.layer.specs.World.{worldOf};
 ghost use Rattle.layer.specs.Listing.{items, itemNumber, releaseItem, releaseEach, releaseList, LeavesList};
 ghost use Rattle.release_lists.specs.Passed.{Passed, LeavesItem};
 use arena::Arena;
@@ -81,6 +81,13 @@ fn number_of(r: Reply) -> u32
     }
 }
 
+// "it says nothing of commitment"
+fn untold() -> Commitment
+    ensures { λ r. ⌜ r ≡ Untold ⌝ }
+{
+    Commitment::Untold
+}
+
 // The item's release, not told, by the core; its number.
 fn release_item(
     records: &mut [Arena],
@@ -95,7 +102,7 @@ fn release_item(
     requires { ⌜ Passed (now records) (now stamps) state settings ⌝ }
     ensures { λ r. ⌜ LeavesItem (releaseItem ns settings «pending» (worldOf (now (records .entry)) (now (stamps .entry)) state) address count) r (now (records .exit)) (now (stamps .exit)) ⌝ }
 {
-    let told = Commitment::Untold;
+    let told = untold();
     let n = as_number(count);
     let r = releasing::release(
         records,
@@ -149,12 +156,6 @@ fn release_each(
     }
 }
 
-fn released(state: State) -> Reply
-    ensures { λ r. ⌜ r ≡ reply Released (calm (state .count) (state .mark)) ⌝ }
-{
-    state::settled(Answer::Released, state.count, state.mark)
-}
-
 // ---- the entry point
 
 // Releases in list order, each answered at its place; all pending, or none. It says nothing of commitment.
@@ -194,5 +195,5 @@ pub fn chunk_release_list(
         settings,
         pending,
     );
-    released(state)
+    releasing::released(state)
 }

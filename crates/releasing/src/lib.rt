@@ -83,7 +83,8 @@ fn stays_pending(settings: Settings, pending: bool) -> bool
     pending && !clock::never_purges(settings.delay)
 }
 
-fn released(state: State) -> Reply
+// The run is released, and no question is open.
+pub fn released(state: State) -> Reply
     ensures { λ r. ⌜ r ≡ reply Released (calm (state .count) (state .mark)) ⌝ }
 {
     state::settled(Answer::Released, state.count, state.mark)

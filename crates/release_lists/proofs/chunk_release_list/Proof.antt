@@ -44,12 +44,13 @@ use Rattle.release_lists.proofs.fits.Met as fits-thm
 use Rattle.release_lists.proofs.release_each.Symbol as release-each-def
 use Rattle.release_lists.proofs.release_each.Symbol.{name as #release-lists·release-each}
 use Rattle.release_lists.proofs.release_each.Met as release-each-thm
-use Rattle.release_lists.proofs.released.Symbol as released-def
-use Rattle.release_lists.proofs.released.Symbol.{name as #release-lists·released}
-use Rattle.release_lists.proofs.released.Met as released-thm
+use Rattle.releasing.proofs.released.Symbol as released-def
+use Rattle.releasing.proofs.released.Symbol.{name as #releasing·released}
+use Rattle.releasing.proofs.released.Met as released-thm
 use Rattle.state.proofs.Callable.{ChunkSizeSpec, RefuseSpec, IsIdleSpec, chunk-size-step, refuse-step, is-idle-step}
 use Rattle.table.proofs.Callable.{RowOneSpec, row-one-step}
-use Rattle.release_lists.proofs.Callable.{FitsSpec, ReleaseEachSpec, ReleasedSpec, fits-step, release-each-as-mmssm, released-step}
+use Rattle.release_lists.proofs.Callable.{FitsSpec, ReleaseEachSpec, fits-step, release-each-as-mmssm}
+use Rattle.releasing.proofs.Callable.{ReleasedSpec, released-step}
 use Rattle.release_lists.proofs.chunk_release_list.Key.{name as #release-lists·chunk-release-list}
 use Rattle.release_lists.proofs.chunk_release_list as chunk-release-list′
 use Rattle.release_lists.proofs.chunk_release_list.Statement as stated
@@ -62,7 +63,7 @@ module _ {M : Type 1} (𝓤 : URA M) (H : Heap 𝓤) (A : Atoms 𝓤) (W : Given
     (known-is-idle : Triple 𝓤 (𝓣 .C #state·is-idle) (IsIdleSpec 𝓤 H A mem run))
     (known-fits : Triple 𝓤 (𝓣 .C #release-lists·fits) (FitsSpec 𝓤 H A mem run))
     (known-release-each : Triple 𝓤 (𝓣 .C #release-lists·release-each) (ReleaseEachSpec 𝓤 H A mem run))
-    (known-released : Triple 𝓤 (𝓣 .C #release-lists·released) (ReleasedSpec 𝓤 H A mem run)) where
+    (known-released : Triple 𝓤 (𝓣 .C #releasing·released) (ReleasedSpec 𝓤 H A mem run)) where
   module _ (κ-records κ-stamps κ-addresses κ-counts κ-answers : Lft) (q-records q-stamps q-addresses q-counts q-answers : Share) (γ-records γ-stamps γ-addresses γ-counts γ-answers : GName) (b-records b-stamps b-addresses b-counts b-answers : ℕ) (o-records o-stamps o-addresses o-counts o-answers : ℕ) (records : List Arena) (stamps : List ℕ) (addresses : List ℕ) (counts : List ℕ) (answers : List ℕ) (state : State) (ns : ℕ) (settings : Settings) (pending : Bool) where
     abbrev L-records : Loan
     L-records = record { κ = κ-records; q = q-records; γ = γ-records; b = b-records; o = o-records; n = length records }
@@ -209,4 +210,4 @@ chunk-release-list-spec 𝓤 H 𝓜 𝓖 𝓡 =
     (cited 𝓤 H (IsIdleSpec 𝓤 H (𝓖 .A) (𝓜 .mem) (𝓡 .run)) 𝓜 𝓡 code.env #state·is-idle is-idle-def.routine code.calls-state·is-idle (is-idle-thm.met 𝓤 H 𝓜 𝓖 𝓡))
     (cited 𝓤 H (FitsSpec 𝓤 H (𝓖 .A) (𝓜 .mem) (𝓡 .run)) 𝓜 𝓡 code.env #release-lists·fits fits-def.routine code.calls-release-lists·fits (fits-thm.met 𝓤 H 𝓜 𝓖 𝓡))
     (cited 𝓤 H (ReleaseEachSpec 𝓤 H (𝓖 .A) (𝓜 .mem) (𝓡 .run)) 𝓜 𝓡 code.env #release-lists·release-each release-each-def.routine code.calls-release-lists·release-each (release-each-thm.met 𝓤 H 𝓜 𝓖 𝓡))
-    (cited 𝓤 H (ReleasedSpec 𝓤 H (𝓖 .A) (𝓜 .mem) (𝓡 .run)) 𝓜 𝓡 code.env #release-lists·released released-def.routine code.calls-release-lists·released (released-thm.met 𝓤 H 𝓜 𝓖 𝓡)))
+    (cited 𝓤 H (ReleasedSpec 𝓤 H (𝓖 .A) (𝓜 .mem) (𝓡 .run)) 𝓜 𝓡 code.env #releasing·released released-def.routine code.calls-releasing·released (released-thm.met 𝓤 H 𝓜 𝓖 𝓡)))

@@ -518,6 +518,180 @@ static void joining_again(void)
     check("  the mark stood in both", state.count == 32 && state.mark == 1 && other.mark == 0);
 }
 
+/* ---- a list of releases */
+
+/* A run that is given back, and the number that is to stand at its place. */
+struct expected {
+    uint64_t address;
+    uint32_t n;
+    uint32_t number;
+};
+
+static uint64_t addresses[SIRQOBAL_LIST + 1];
+static uint32_t counts[SIRQOBAL_LIST + 1], answers[SIRQOBAL_LIST + 1], as_lent[SIRQOBAL_LIST + 1];
+
+/* The call with these lengths. */
+static struct sirqobal_reply list(size_t address_count, size_t count_count, size_t answer_count, bool pending)
+{
+    return sirqobal_chunk_release_list(records, SIRQOBAL_RECORDS, stamps, SIRQOBAL_STAMPS, addresses, address_count,
+                                       counts, count_count, answers, answer_count, state, ns, settings, pending);
+}
+
+/* Arena 0 of 40 chunks and arena 1 of 4, all of them held but one, which is pending since 5 ms ago. */
+static void held_but_one(void)
+{
+    memset(records, 0, sizeof records);
+    memset(stamps, 0, sizeof stamps);
+    memset(&state, 0, sizeof state);
+    settings.delay = 10;
+    state = sirqobal_adopt_os_block(LENT, 4 * S, 40 * S).state;
+    state = sirqobal_adopt_os_block(LENT, 64 * S, 4 * S).state;
+    state = sirqobal_chunk_alloc_n(LENT, 0, 40).state;
+    state = sirqobal_chunk_alloc_n(LENT, 1, 4).state;
+    state = sirqobal_chunk_release(LENT, 5 * S, 1, SIRQOBAL_TOLD_NOTHING, true).state;
+    check("  44 chunks, one of them pending", state.count == 2 && records[0].used[0] == 0xfffffffd &&
+                                                  records[0].used[1] == 255 && records[1].used[0] == 15 &&
+                                                  records[0].pending[0] == 2);
+    ns += 5000000;
+}
+
+/* Puts the items into the lists. What stands in the answers is no number of an answer. */
+static void put(const struct expected *items, size_t n)
+{
+    for (size_t i = 0; i < n; i++) {
+        addresses[i] = items[i].address;
+        counts[i] = items[i].n;
+    }
+    memset(answers, 0xa5, sizeof answers);
+    memset(as_lent, 0xa5, sizeof as_lent);
+}
+
+/* The same releases one by one, on a copy of the table as it is kept: the same numbers, and the same is left. */
+static void as_single(size_t n, bool pending, struct sirqobal_state was)
+{
+    int alike = 1;
+    memcpy(other_records, before, sizeof before);
+    memcpy(other_stamps, stamped, sizeof stamped);
+    other = was;
+    for (size_t i = 0; i < n; i++) {
+        struct sirqobal_reply r =
+            sirqobal_chunk_release(OTHER, addresses[i], counts[i], SIRQOBAL_TOLD_NOTHING, pending);
+        other = r.state;
+        alike = alike && r.number == answers[i];
+    }
+    check("  the numbers of single releases", alike);
+    check("  and the table that they leave", memcmp(records, other_records, sizeof records) == 0 &&
+                                                 memcmp(stamps, other_stamps, sizeof stamps) == 0 &&
+                                                 same(&state, &other));
+    check("  no answer but the list's", memcmp(&answers[n], &as_lent[n], sizeof answers - n * sizeof answers[0]) == 0);
+}
+
+static void taken(const char *what, size_t n, bool pending)
+{
+    struct sirqobal_state idle = state;
+    keep_lent();
+    step(what, list(n, n, n, pending), 0, 0, 0, 0);
+    as_single(n, pending, idle);
+}
+
+/* Granted and refused items, of both arenas, some twice and some overlapping. */
+static void mixed(const char *what, int64_t delay, bool pending)
+{
+    static const struct expected items[] = {
+        {4 * S, 2, 0},  {4 * S, 0, SIRQOBAL_ZERO},           {3 * S, 1, SIRQOBAL_NOT_INSIDE},
+        {64 * S, 3, 0}, {4 * S + 1, 1, SIRQOBAL_NOT_WHOLE},  {43 * S, 2, SIRQOBAL_PAST_END},
+        {34 * S, 5, 0}, {0, 0, SIRQOBAL_ZERO},               {UINT64_MAX, 9, SIRQOBAL_NOT_INSIDE},
+        {36 * S, 8, 0}, {44 * S - 1, 9, SIRQOBAL_NOT_WHOLE}, {4 * S, UINT32_MAX, SIRQOBAL_PAST_END},
+        {4 * S, 2, 0},  {68 * S, 1, SIRQOBAL_NOT_INSIDE},    {67 * S, 1, 0},
+    };
+    const size_t n = sizeof items / sizeof items[0];
+    held_but_one();
+    settings.delay = delay;
+    put(items, n);
+    taken(what, n, pending);
+    for (size_t i = 0; i < n; i++)
+        check("  its number at its place", answers[i] == items[i].number);
+    check("  what was given back", records[0].used[0] == 0x3ffffffc && records[0].used[1] == 0 &&
+                                       records[1].used[0] == 0);
+    check("  nothing is said of commitment",
+          records[0].committed[0] == UINT32_MAX && records[0].committed[1] == 255 && records[1].committed[0] == 15);
+    if (pending && delay >= 0)
+        check("  all of it is to be purged", records[0].pending[0] == 0xc0000003 && records[0].pending[1] == 255 &&
+                                                 records[1].pending[0] == 15 && stamps[1] == sirqobal_now_ms(ns));
+    else
+        check("  what was pending is left, and nothing more", records[0].pending[0] == 2 &&
+                                                                  records[1].pending[0] == 0 &&
+                                                                  memcmp(stamps, stamped, sizeof stamps) == 0);
+}
+
+/* The list is refused as a whole: table, state and answers are left. */
+static void list_left(const char *what, struct sirqobal_reply r, uint32_t number, struct sirqobal_state was)
+{
+    left(what, r, number, was);
+    check("  the answers are left", memcmp(answers, as_lent, sizeof answers) == 0);
+}
+
+/* 19 for each of the three lengths; before it 2, and before that 1. */
+static void list_refused(void)
+{
+    static const struct expected two[] = {{4 * S, 1, 0}, {6 * S, 1, 0}};
+    held_but_one();
+    put(two, 2);
+    struct sirqobal_state idle = state;
+    keep_lent();
+    list_left("list: an address too few", list(1, 2, 2, true), SIRQOBAL_LIST_LENGTH, idle);
+    list_left("list: a count too few", list(2, 1, 2, true), SIRQOBAL_LIST_LENGTH, idle);
+    list_left("list: an answer too few", list(2, 2, 1, true), SIRQOBAL_LIST_LENGTH, idle);
+    list_left("list: no answer", list(2, 2, 0, true), SIRQOBAL_LIST_LENGTH, idle);
+    list_left("list: answers alone", list(0, 0, 2, true), SIRQOBAL_LIST_LENGTH, idle);
+    list_left("list: nothing is to be given back", list(0, 0, 0, true), 0, idle);
+    settings.page = 5000;
+    list_left("list: no page size", list(2, 2, 1, true), SIRQOBAL_BROKEN, idle);
+    list_left("list: the same, nothing", list(0, 0, 0, true), SIRQOBAL_BROKEN, idle);
+    settings.page = 4096;
+
+    step("a forced sweep", sirqobal_purge_due(LENT, true), 255, SIRQOBAL_PURGE, 5 * S, S);
+    struct sirqobal_state asking = state;
+    keep_lent();
+    list_left("list: meanwhile", list(2, 2, 2, true), SIRQOBAL_QUESTION_OPEN, asking);
+    list_left("list: 2 before 19", list(2, 1, 2, true), SIRQOBAL_QUESTION_OPEN, asking);
+    state.mark = 2;
+    list_left("list: 1 before 2", list(2, 1, 2, true), SIRQOBAL_BROKEN, state);
+    state = asking;
+    step("purged; the sweep ends", sirqobal_answer(LENT, SIRQOBAL_PURGE, true, 0), 0, 0, 0, 0);
+    taken("and the list is taken", 2, true);
+}
+
+/* 32,768 items are a list, and one more is none. */
+static void longest_list(void)
+{
+    held_but_one();
+    put(NULL, 0);
+    for (size_t i = 0; i <= SIRQOBAL_LIST; i++) {
+        addresses[i] = (4 + i % 41) * S; /* one of 41 is past the arena */
+        counts[i] = 1 + (i % 2 != 0);    /* and some runs pass its end */
+    }
+    struct sirqobal_state idle = state;
+    keep_lent();
+    const size_t more = SIRQOBAL_LIST + 1;
+    list_left("list: 32,769", list(more, more, more, true), SIRQOBAL_LIST_LENGTH, idle);
+    taken("list: 32,768", SIRQOBAL_LIST, true);
+    check("  the last ones, too", answers[SIRQOBAL_LIST - 1] == 0 && answers[40] == SIRQOBAL_NOT_INSIDE &&
+                                      answers[39] == SIRQOBAL_PAST_END);
+    check("  arena 0 is free", records[0].used[0] == 0 && records[0].used[1] == 0 && records[1].used[0] == 15);
+}
+
+static void listing(void)
+{
+    mixed("list: not pending", 10, false);
+    mixed("list: pending", 10, true);
+    mixed("list: pending, delay 0", 0, true);
+    mixed("list: pending, never", SIRQOBAL_NEVER, true);
+    mixed("list: pending, never by another number", INT64_MIN, true);
+    list_refused();
+    longest_list();
+}
+
 int main(void)
 {
     registering();
@@ -534,6 +708,7 @@ int main(void)
     joining();
     after_joining();
     joining_again();
+    listing();
     printf("%d wrong\n", failures);
     return failures != 0;
 }

@@ -1,6 +1,7 @@
 /* The headers used wrongly, and at their edges: each refusal with document 01's example and what it leaves, NULL,
- * delays that mean never, joins of what cannot be joined, hosts that answer nonsense, broken tables drawn, products of
- * many chunks. It prints what is not as it should be, and exits with 0 only if nothing is. It is C and C++ at once:
+ * delays that mean never, joins of what cannot be joined, lists of any lengths and of anything, hosts that answer
+ * nonsense, broken tables drawn, products of many chunks. It prints what is not as it should be, and exits with 0 only
+ * if nothing is. It is C and C++ at once:
  *
  *     gcc -std=c11 -Wall -Wextra -Wpedantic -Werror -Iinclude c/misuse.c build/lib/libsirqobal.a -o misuse
  *     g++ -x c++ -std=c++17 -Iinclude c/misuse.c -x none build/lib/libsirqobal.a -o misuse */
@@ -95,10 +96,10 @@ static void example(void)
 
 static void texts(void)
 {
-    for (uint32_t i = 0; i <= 19; i++) {
-        uint32_t number = i == 19 ? SIRQOBAL_QUESTION : i;
+    for (uint32_t i = 0; i <= 20; i++) {
+        uint32_t number = i == 20 ? SIRQOBAL_QUESTION : i;
         check("a number has a text", strlen(sirqobal_refusal_text(number)) > 5);
-        check("it is no other's", strcmp(sirqobal_refusal_text(number), sirqobal_refusal_text(19)) != 0);
+        check("it is no other's", strcmp(sirqobal_refusal_text(number), sirqobal_refusal_text(20)) != 0);
         for (uint32_t j = 0; j < i; j++)
             check("two numbers have two texts", strcmp(sirqobal_refusal_text(number), sirqobal_refusal_text(j)) != 0);
     }
@@ -675,6 +676,151 @@ static void joins(void)
     check("and is joined again", r.rise == 2 && table.records[2].base == 7 * BASE && second.state.count == 0);
 }
 
+/* ---- lists of releases */
+
+#define LONGER (SIRQOBAL_LIST + 1)
+
+static uint64_t addresses[LONGER];
+static uint32_t counts[LONGER], answers[LONGER], as_lent[LONGER];
+
+/* What stands in the answers is no number of an answer. */
+static void lend_answers(void)
+{
+    memset(answers, 0xa5, sizeof answers);
+    memset(as_lent, 0xa5, sizeof as_lent);
+    before = table;
+}
+
+/* Lists of these lengths, NULL where it is 0. */
+static struct sirqobal_reply list(size_t address_count, size_t count_count, size_t answer_count)
+{
+    struct sirqobal_reply r = sirqobal_chunk_release_list(
+        table.records, SIRQOBAL_RECORDS, table.stamps, SIRQOBAL_STAMPS, address_count == 0 ? NULL : addresses,
+        address_count, count_count == 0 ? NULL : counts, count_count, answer_count == 0 ? NULL : answers, answer_count,
+        table.state, 1, table.settings, true);
+    sirqobal_table_put_back(&table, &r);
+    return r;
+}
+
+/* Turned down as a whole, or empty: the answers are left, too. */
+static void list_left(const char *what, struct sirqobal_reply r, uint32_t number)
+{
+    left(what, r, number);
+    check("the answers are left", memcmp(answers, as_lent, sizeof answers) == 0);
+}
+
+static void list_lengths(void)
+{
+    static const size_t lengths[] = {0, 1, 2, SIRQOBAL_LIST - 1, SIRQOBAL_LIST, LONGER};
+    const size_t n = sizeof lengths / sizeof lengths[0];
+    example();
+    memset(addresses, 0, sizeof addresses);
+    memset(counts, 0, sizeof counts);
+    for (size_t i = 0; i < n * n * n; i++) {
+        size_t a = lengths[i % n], b = lengths[i / n % n], c = lengths[i / n / n];
+        bool fits = a == b && b == c && a <= SIRQOBAL_LIST;
+        lend_answers();
+        if (!fits || a == 0) {
+            list_left("19 for lengths that differ or pass", list(a, b, c), fits ? 0 : SIRQOBAL_LIST_LENGTH);
+            continue;
+        }
+        left("lists of one length", list(a, b, c), SIRQOBAL_GRANTED);
+        check("4 at each place", answers[0] == SIRQOBAL_ZERO && answers[a - 1] == SIRQOBAL_ZERO);
+        check("and at no other", memcmp(&answers[a], &as_lent[a], (LONGER - a) * sizeof answers[0]) == 0);
+    }
+}
+
+/* 1 before 19, whatever is broken, and 2 before it, whatever is asked. */
+static void list_refusals(void)
+{
+    example();
+    lend_answers();
+    list_left("1: no table", sirqobal_chunk_release_list(NULL, 0, NULL, 0, addresses, 1, counts, 1, answers, 1,
+                                                         table.state, 1, table.settings, true), SIRQOBAL_BROKEN);
+    table.settings.page = 5000;
+    list_left("1: no page size", list(1, 1, 1), SIRQOBAL_BROKEN);
+    list_left("1: the same, and an empty list", list(0, 0, 0), SIRQOBAL_BROKEN);
+    example();
+    table.records[0].used[31] = 1;
+    lend_answers();
+    list_left("1 before 19: a bit past the last chunk", list(1, 2, 3), SIRQOBAL_BROKEN);
+    for (uint32_t kind = SIRQOBAL_COMMIT; kind <= SIRQOBAL_GIVE_BACK; kind++) {
+        open_question(&table, kind, BASE);
+        lend_answers();
+        list_left("2: a question is open", list(1, 1, 1), SIRQOBAL_QUESTION_OPEN);
+        list_left("2: an empty list", list(0, 0, 0), SIRQOBAL_QUESTION_OPEN);
+        list_left("2 before 19", list(LONGER, LONGER, LONGER), SIRQOBAL_QUESTION_OPEN);
+        check("the question is still there", table.asked.kind == kind);
+        table.state.mark = 2;
+        lend_answers();
+        list_left("1 before 2", list(LONGER, 1, 0), SIRQOBAL_BROKEN);
+    }
+    memset(&table, 0xff, sizeof table);
+    lend_answers();
+    list_left("1: ones everywhere", list(3, 3, 3), SIRQOBAL_BROKEN);
+}
+
+static uint64_t drawn_number(uint64_t below)
+{
+    static uint64_t seed = 20261117;
+    seed = seed * UINT64_C(6364136223846793005) + UINT64_C(1442695040888963407);
+    return (seed >> 33) % below;
+}
+
+/* At, about and past the ends of both arenas; zeros, ones and anything. */
+static void draw_item(size_t i)
+{
+    static const uint64_t edges[] = {0, 1, BASE - 1, BASE - S, BASE + 4 * S, 0 - S, UINT64_MAX, UINT64_MAX - S};
+    static const uint32_t numbers[] = {0, 4, 5, 32, 33, 1024, 1025, INT32_MAX, UINT32_MAX};
+    uint64_t chunk = drawn_number(2) == 0 ? BASE + drawn_number(5) * S : (0 - 1025 * S) + drawn_number(1026) * S;
+    switch (drawn_number(8)) {
+    case 0: addresses[i] = edges[drawn_number(sizeof edges / sizeof edges[0])]; break;
+    case 1: addresses[i] = chunk + drawn_number(S); break;
+    case 2: addresses[i] = drawn_number(UINT64_C(1) << 31) << drawn_number(34); break;
+    default: addresses[i] = chunk;
+    }
+    counts[i] = drawn_number(4) == 0 ? numbers[drawn_number(sizeof numbers / sizeof numbers[0])]
+                                     : 1 + (uint32_t)drawn_number(4);
+}
+
+/* A list is what its items are one by one, on a copy of the table. */
+static void as_single(size_t n, uint64_t ns, bool pending, unsigned seen[])
+{
+    second = table;
+    memset(answers, 0xa5, sizeof answers);
+    grants("a list of anything", sirqobal_table_release_list(&table, ns, addresses, counts, answers, n, pending));
+    for (size_t i = 0; i < n; i++) {
+        uint32_t number =
+            sirqobal_table_release(&second, ns, addresses[i], counts[i], SIRQOBAL_TOLD_NOTHING, pending).number;
+        check("the number of the single release", number <= 9 && answers[i] == number);
+        seen[number <= 9 ? number : 1]++;
+    }
+    check("the table of single releases", same_lent(&table, &second) && same_state(&table.state, &second.state));
+    check("with no answer more", memcmp(&answers[n], as_lent, sizeof answers[0]) == 0);
+}
+
+static void lists_of_anything(void)
+{
+    static const int64_t delays[] = {10, 0, SIRQOBAL_NEVER, INT64_MAX, INT64_MIN};
+    unsigned seen[10] = {0};
+    lend_answers();
+    for (uint64_t round = 0; round < 300; round++) {
+        if (round % 30 == 0) {
+            example();
+            grants("1,024 chunks at the top", sirqobal_table_adopt(&table, 0 - 1025 * S, 1024 * S));
+        }
+        table.settings.delay = delays[drawn_number(5)];
+        uint32_t claimed = sirqobal_table_claim(&table, 1, 1 + drawn_number(300)).number;
+        check("some are held", claimed == SIRQOBAL_GRANTED || claimed == SIRQOBAL_NO_RUN);
+        size_t n = drawn_number(40);
+        for (size_t i = 0; i < n; i++)
+            draw_item(i);
+        as_single(n, round * 3000000, drawn_number(3) != 0, seen);
+    }
+    check("each number stood there", seen[0] > 500 && seen[4] > 50 && seen[7] > 50 && seen[8] > 50 && seen[9] > 50);
+    check("and no other", seen[1] + seen[2] + seen[3] + seen[5] + seen[6] == 0);
+}
+
 /* ---- the host over the real OS */
 
 /* A page that somebody else mapped: whatever is asked about it, the host answers no and leaves it. */
@@ -820,6 +966,33 @@ static void never_in_memory(int64_t delay)
     memory.table.settings.delay = delay;
     check("it is left", sirqobal_memory_sweep(&memory, false).count == 0 && is_open(at) && is_full_of(bytes, 7));
     check("until a forced sweep", sirqobal_memory_sweep(&memory, true).count == 1 && !is_open(at));
+    check("the end", sirqobal_memory_end(&memory));
+}
+
+/* A ring of three runs, the second of which stays; in the list stands a run of nobody. */
+static void list_in_memory(int64_t delay)
+{
+    sirqobal_memory_init(&memory);
+    memory.table.settings.delay = delay;
+    check("an arena", sirqobal_memory_reserve(&memory, 4 * S, true).number == SIRQOBAL_GRANTED);
+    for (size_t i = 0; i < 3; i++) {
+        addresses[i] = sirqobal_memory_claim(&memory, 0, 1).address;
+        memset(sirqobal_at(addresses[i]), 7, S);
+        counts[i] = 1;
+    }
+    uint64_t kept = addresses[1];
+    addresses[1] = addresses[0] + 4 * S;
+    struct sirqobal_reply r = sirqobal_memory_release_list(&memory, addresses, counts, answers, 3);
+    check("closed by one call", r.number == SIRQOBAL_GRANTED && same_state(&r.state, &memory.table.state));
+    check("but for the run of nobody", answers[0] == 0 && answers[1] == SIRQOBAL_NOT_INSIDE && answers[2] == 0);
+    size_t purged = delay < 0 ? 0 : 2;
+    check("the two are purged, or stay", sirqobal_memory_sweep(&memory, true).count == purged);
+    check("the OS says the same", is_open(addresses[0]) == (purged == 0) && is_open(addresses[2]) == (purged == 0));
+    check("the one that is held is left", is_open(kept) && is_full_of((unsigned char *)sirqobal_at(kept), 7));
+    r = sirqobal_memory_claim(&memory, 0, 1);
+    check("the lowest is claimed again", r.address == addresses[0] && !r.fresh &&
+                                             is_full_of((unsigned char *)sirqobal_at(r.address), purged == 0 ? 7 : 0));
+    check("an empty list", sirqobal_memory_release_list(&memory, NULL, NULL, NULL, 0).number == SIRQOBAL_GRANTED);
     check("the end", sirqobal_memory_end(&memory));
 }
 
@@ -986,10 +1159,15 @@ int main(void)
     joins_of_the_same_range();
     joins_of_many();
     joins_of_marks();
+    list_lengths();
+    list_refusals();
+    lists_of_anything();
     not_its_own();
     linux_host();
     real_memory();
     each_negative(never_in_memory);
+    list_in_memory(10);
+    each_negative(list_in_memory);
     joined_memory(true);
     joined_memory(false);
     unjoined_memory();

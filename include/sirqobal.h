@@ -3,9 +3,11 @@
  *
  * Each function takes every number, and every array of the length that is passed with it; it ends, and does
  * nothing undefined. Bad input is turned down by the number of a refusal. What the caller has to keep:
- * - A pointer points to as many elements as the length beside it says, aligned as their type asks (records 8,
- *   words and stamps 4). NULL goes only with length 0, which is then refused with 1.
- * - The arrays of one call do not overlap; neither do those of the two tables that are joined.
+ * - A pointer points to as many elements as the length beside it says, aligned as their type asks (records and
+ *   addresses 8, words, stamps, counts and answers 4). NULL goes only with length 0. Of records, stamps and words
+ *   that length is refused with 1; of the three lists of a list of releases it is that of an empty list.
+ * - The arrays of one call do not overlap in memory: the three of a list neither each other nor the table; neither do
+ *   those of the two tables that are joined.
  * - One thread at a time on one table. The library keeps nothing of its own between calls, so two threads may
  *   use two tables.
  * - The reply brings the state that the next call is lent: a reply thrown away loses it. `struct sirqobal_table`
@@ -26,9 +28,9 @@
 #endif
 
 #define SIRQOBAL_VERSION_MAJOR 0
-#define SIRQOBAL_VERSION_MINOR 3
+#define SIRQOBAL_VERSION_MINOR 4
 #define SIRQOBAL_VERSION_PATCH 0
-#define SIRQOBAL_VERSION "0.3.0"
+#define SIRQOBAL_VERSION "0.4.0"
 
 /* Whoever throws the answer away is warned. */
 #if defined(__GNUC__)
@@ -48,6 +50,7 @@ extern "C" {
 #define SIRQOBAL_MAX_CHUNKS UINT64_C(1024)  /* chunks of an arena, at most */
 #define SIRQOBAL_RECORDS UINT64_C(32)       /* records that are lent: arenas, at most */
 #define SIRQOBAL_STAMPS UINT64_C(32768)     /* stamps that are lent: SIRQOBAL_MAX_CHUNKS for each record */
+#define SIRQOBAL_LIST UINT64_C(32768)       /* items of a list of releases, at most */
 #define SIRQOBAL_SLICE UINT64_C(65536)      /* bytes of a slice */
 #define SIRQOBAL_SLICES UINT64_C(65536)     /* slices of a pool */
 #define SIRQOBAL_SLICE_WORDS UINT64_C(2048) /* words that are lent for a pool */
@@ -72,7 +75,8 @@ enum sirqobal_refusal {
     SIRQOBAL_NO_WHOLE_CHUNK = 15,  /* start 0, a sum past 2^64 - 1, no whole chunk */
     SIRQOBAL_HOST_REFUSED = 16,    /* in the segment map already, or not reserved */
     SIRQOBAL_TABLES_OVERLAP = 17,  /* a join: an arena of one table and one of the other share an address */
-    SIRQOBAL_TOO_MANY_ARENAS = 18  /* a join: the two tables have more than 32 arenas */
+    SIRQOBAL_TOO_MANY_ARENAS = 18, /* a join: the two tables have more than 32 arenas */
+    SIRQOBAL_LIST_LENGTH = 19      /* a list: its three lengths differ, or pass 32,768 */
 };
 
 /* `number` of a reply that is a question: neither a grant nor a refusal. */
@@ -102,6 +106,7 @@ static inline const char *sirqobal_refusal_text(uint32_t number)
     case SIRQOBAL_HOST_REFUSED: return "the range is mapped already or not reserved";
     case SIRQOBAL_TABLES_OVERLAP: return "a range of one table overlaps a range of the other";
     case SIRQOBAL_TOO_MANY_ARENAS: return "the two tables have more than 32 arenas";
+    case SIRQOBAL_LIST_LENGTH: return "the list's lengths differ or pass 32,768";
     case SIRQOBAL_QUESTION: return "the host is asked";
     default: return "no number of a reply";
     }
@@ -220,7 +225,7 @@ struct sirqobal_state {
 /* What each call carries beside the clock. A flag is on unless it is 0. */
 struct sirqobal_settings {
     int64_t delay;      /* the purge delay in milliseconds (option 15); above 1,073,741,823 it counts as that.
-                         * Negative: never (SIRQOBAL_NEVER). Only a release and a sweep read it. */
+                         * Negative: never (SIRQOBAL_NEVER). Only releases and a sweep read it. */
     uint32_t decommits; /* a purge decommits (option 5) */
     uint32_t off;       /* arenas serve only claims that name them (option 27) */
     uint64_t reserve;   /* what a claim that finds nothing reserves, in bytes (option 23); below a chunk: nothing.
@@ -417,6 +422,32 @@ struct sirqobal_reply sirqobal_chunk_release(struct sirqobal_arena *records,
                                              int32_t told,
                                              bool pending);
 
+/* A list of releases: item i is counts[i] chunks from addresses[i] on. The three lists have one length, at most
+ * SIRQOBAL_LIST; addresses and counts are only read. It leaves what single releases in list order leave, at this clock
+ * and these settings, that say nothing of commitment (SIRQOBAL_TOLD_NOTHING), all `pending` or none; with a negative
+ * settings.delay what they leave then. Each item finds what the items before it left: a run may stand in the list
+ * twice, runs may overlap and lie in several arenas.
+ * answers[i] is then 0 if item i was granted, else its refusal: 4, 8, 7, 9, in this order. A refused item leaves
+ * everything and does not stop the list, and the call itself is granted: look at the answers. The empty list is granted
+ * and changes nothing.
+ * Refusals of the list as a whole, in this order: 1; 2; 19, where the three lengths differ or pass SIRQOBAL_LIST, the
+ * length of the answers included. They leave records, stamps, state and answers. It never asks. */
+SIRQOBAL_USE
+struct sirqobal_reply sirqobal_chunk_release_list(struct sirqobal_arena *records,
+                                                  size_t record_count,
+                                                  uint32_t *stamps,
+                                                  size_t stamp_count,
+                                                  const uint64_t *addresses,
+                                                  size_t address_count,
+                                                  const uint32_t *counts,
+                                                  size_t count_count,
+                                                  uint32_t *answers,
+                                                  size_t answer_count,
+                                                  struct sirqobal_state state,
+                                                  uint64_t ns,
+                                                  struct sirqobal_settings settings,
+                                                  bool pending);
+
 /* Sweeps the arenas whose deadline has come; all that are armed, if forced. Nobody holds a chunk that it asks
  * about, and none is granted it while the question is open. The end answers `count`, the yes answers.
  * With a negative settings.delay it asks nothing and changes nothing, deadlines that have come included: `count` is 0.
@@ -515,7 +546,7 @@ static inline int32_t sirqobal_risen(const struct sirqobal_join_reply *joined,
 
 /* ---- a table: what is lent, in one place
  *
- * The functions below make the calls above on a table and put the reply's state back. Only a release and a sweep
+ * The functions below make the calls above on a table and put the reply's state back. Only releases and a sweep
  * read the clock, so only they are handed it. The table is about 150 KB: static or allocated, not on a small stack.
  * A table that the functions have not begun (sirqobal_table_init) has page size 0: 1 to every call. */
 
@@ -631,6 +662,23 @@ static inline struct sirqobal_reply sirqobal_table_release(struct sirqobal_table
 {
     struct sirqobal_reply reply = sirqobal_chunk_release(SIRQOBAL_LENT(table), ns, table->settings, address, n, told,
                                                          pending);
+    sirqobal_table_put_back(table, &reply);
+    return reply;
+}
+
+/* sirqobal_chunk_release_list, with lists of n items each */
+SIRQOBAL_USE
+static inline struct sirqobal_reply sirqobal_table_release_list(struct sirqobal_table *table,
+                                                                uint64_t ns,
+                                                                const uint64_t *addresses,
+                                                                const uint32_t *counts,
+                                                                uint32_t *answers,
+                                                                size_t n,
+                                                                bool pending)
+{
+    struct sirqobal_reply reply = sirqobal_chunk_release_list(table->records, SIRQOBAL_RECORDS, table->stamps,
+                                                              SIRQOBAL_STAMPS, addresses, n, counts, n, answers, n,
+                                                              table->state, ns, table->settings, pending);
     sirqobal_table_put_back(table, &reply);
     return reply;
 }

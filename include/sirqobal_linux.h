@@ -256,6 +256,19 @@ static inline struct sirqobal_reply sirqobal_memory_release(struct sirqobal_memo
     return sirqobal_table_release(&memory->table, sirqobal_linux_now(), address, n, SIRQOBAL_TOLD_NOTHING, true);
 }
 
+/* Releases the n runs of a list (sirqobal_chunk_release_list) that the caller holds, each as sirqobal_memory_release
+ * does: run i is counts[i] chunks from addresses[i] on, and answers[i] its number, 0 if it was released. At most
+ * SIRQOBAL_LIST runs. A run that is turned down does not stop the list: the call is granted, and the answers tell. */
+SIRQOBAL_USE
+static inline struct sirqobal_reply sirqobal_memory_release_list(struct sirqobal_memory *memory,
+                                                                 const uint64_t *addresses,
+                                                                 const uint32_t *counts,
+                                                                 uint32_t *answers,
+                                                                 size_t n)
+{
+    return sirqobal_table_release_list(&memory->table, sirqobal_linux_now(), addresses, counts, answers, n, true);
+}
+
 /* Purges what was released long enough ago, or all of it: `count` chunks.
  * With a negative settings.delay (SIRQOBAL_NEVER) none; forced, what was released while the delay was not negative. */
 SIRQOBAL_USE

@@ -146,13 +146,13 @@ mod tests {
     use super::*;
 
     #[test]
-    fn numbers_run_from_1_to_18() {
+    fn numbers_run_from_1_to_19() {
         for (n, &refusal) in (1..).zip(Refusal::ALL) {
             assert_eq!(refusal.number(), n);
             assert_eq!(Refusal::from_number(n), Some(refusal));
         }
-        assert_eq!(Refusal::ALL.len(), 18);
-        assert_eq!(Refusal::from_number(19), None);
+        assert_eq!(Refusal::ALL.len(), 19);
+        assert_eq!(Refusal::from_number(20), None);
         assert_eq!(Refusal::from_number(u32::MAX), None);
     }
 }

@@ -1,6 +1,6 @@
 //! The crate and include/sirqobal.h say the same: the texts of the refusals, and the constants.
 
-use sirqobal::lent::{QUESTION, RECORDS, STAMPS};
+use sirqobal::lent::{LIST, QUESTION, RECORDS, STAMPS};
 use sirqobal::{Refusal, ANY, CHUNK, NEVER};
 
 const HEADER: &str = include_str!("../../../include/sirqobal.h");
@@ -38,7 +38,7 @@ fn each_refusal_has_the_same_text() {
         assert_eq!(refusal.to_string(), format!("{text} (refusal {number})"));
         seen += 1;
     }
-    assert_eq!(seen, 18);
+    assert_eq!(seen, Refusal::ALL.len());
 }
 
 #[test]
@@ -46,6 +46,7 @@ fn the_constants_are_the_same() {
     assert_eq!(constant("SIRQOBAL_CHUNK"), CHUNK);
     assert_eq!(constant("SIRQOBAL_RECORDS"), RECORDS as u64);
     assert_eq!(constant("SIRQOBAL_STAMPS"), STAMPS as u64);
+    assert_eq!(constant("SIRQOBAL_LIST"), LIST as u64);
     assert!(HEADER.contains(&format!("#define SIRQOBAL_QUESTION {QUESTION}\n")));
     assert!(HEADER.contains(&format!("#define SIRQOBAL_ANY ({ANY})\n")));
     assert!(HEADER.contains(&format!("#define SIRQOBAL_NEVER ({NEVER})\n")));

@@ -57,6 +57,9 @@
 //!
 //! With a purge delay of [`NEVER`] what is released keeps its memory, and its bytes.
 //!
+//! Hundreds of runs are given back by one call, each with its own answer:
+//! [`linux::Memory::release_list`], [`Layer::chunk_release_list`].
+//!
 //! [`Picture`] shows who holds what, [`saved`] is a table in a file, and [`lent`] has the calls over
 //! tables that the program keeps itself, as C has them.
 #![warn(missing_docs)]
@@ -77,7 +80,7 @@ pub mod saved;
 mod slice_pool;
 
 pub use host::Host;
-pub use layer::{Layer, Managed, Moment, Rise, Run, ANY, CHUNK, NEVER};
+pub use layer::{Layer, Managed, Moment, Rise, Run, Span, ANY, CHUNK, NEVER};
 pub use numbers::{arm, delay_ms, is_aligned_to, is_due, now_ms, page_align_up};
 pub use picture::Picture;
 pub use question::{

@@ -1,5 +1,5 @@
 use super::{Layer, Moment};
-use crate::lent::{self, Table};
+use crate::lent;
 use crate::Refusal;
 use std::ops::Range;
 
@@ -106,14 +106,6 @@ impl Layer {
                 by: reply.rise,
                 arenas,
             }),
-        }
-    }
-
-    fn lend(&mut self) -> Table<'_> {
-        Table {
-            records: &mut self.records[..],
-            stamps: &mut self.stamps[..],
-            state: self.state,
         }
     }
 }

@@ -1,11 +1,12 @@
 //! The layer that owns its table: what it is and what is read of it; its calls stand by kind.
 
-use crate::lent::{self, Arena, Call, Reply, State, RECORDS, STAMPS};
+use crate::lent::{self, Arena, Call, Reply, State, Table, RECORDS, STAMPS};
 use crate::{Ask, Open, Outcome, Picture, Question, Refusal};
 use std::fmt;
 
 mod claiming;
 mod joining;
+mod listing;
 mod moment;
 mod queries;
 mod registering;
@@ -13,6 +14,7 @@ mod releasing;
 
 pub use claiming::Run;
 pub use joining::Rise;
+pub use listing::Span;
 pub use moment::Moment;
 pub use registering::Managed;
 
@@ -98,7 +100,7 @@ impl Layer {
         }
     }
 
-    /// Makes any call on this table alone, and answers as the C surface does.
+    /// Makes any call of numbers on this table alone, and answers as the C surface does.
     ///
     /// ```
     /// use sirqobal::{lent::Call, Layer, Moment};
@@ -116,12 +118,25 @@ impl Layer {
             settings,
             call,
         );
+        self.take_back(&reply);
+        reply
+    }
+
+    fn lend(&mut self) -> Table<'_> {
+        Table {
+            records: &mut self.records[..],
+            stamps: &mut self.stamps[..],
+            state: self.state,
+        }
+    }
+
+    /// The state that a call has left, and the question that is open then.
+    fn take_back(&mut self, reply: &Reply) {
         self.state = reply.state;
         self.asked = match self.state.question {
             0 => None,
-            _ => Ask::of(&reply).or(self.asked),
+            _ => Ask::of(reply).or(self.asked),
         };
-        reply
     }
 
     fn outcome<T>(&mut self, moment: Moment, call: Call, grant: fn(&Reply) -> T) -> Outcome<'_, T> {

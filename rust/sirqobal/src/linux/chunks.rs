@@ -1,5 +1,5 @@
 use super::mapping::Mapping;
-use crate::CHUNK;
+use crate::{Span, CHUNK};
 use std::fmt;
 use std::ops::{Deref, DerefMut, Range};
 use std::slice;
@@ -7,8 +7,9 @@ use std::sync::Arc;
 
 /// Claimed chunks: their bytes, and the right to release them. Made by
 /// [`Memory::claim`](super::Memory::claim) alone and ended by
-/// [`Memory::release`](super::Memory::release), in the memory that has their arena then: a
-/// [join](super::Memory::join) takes the arena to another. Dropped unreleased they stay claimed,
+/// [`Memory::release`](super::Memory::release) or
+/// [`Memory::release_list`](super::Memory::release_list), in the memory that has their arena then:
+/// a [join](super::Memory::join) takes the arena to another. Dropped unreleased they stay claimed,
 /// which is a leak of the arena's chunks and nothing worse.
 ///
 /// They may go to another thread, and may outlive the `Memory`: the arena stays mapped until they
@@ -93,6 +94,14 @@ impl Chunks {
     /// ```
     pub fn is_fresh(&self) -> bool {
         self.fresh
+    }
+
+    /// What a list of releases says of them: a claim grants at most 1,024.
+    pub(super) fn span(&self) -> Span {
+        Span {
+            address: self.address(),
+            n: self.n as u32,
+        }
     }
 
     fn bytes(&self) -> usize {

@@ -1,6 +1,6 @@
 use super::mapping::Mapping;
 use super::{now, page_size, Chunks, Error, Options, Os, Unreleased};
-use crate::{Layer, Managed, Moment, Outcome, Refusal, Rise, CHUNK};
+use crate::{Layer, Managed, Moment, Outcome, Refusal, Rise, Span, CHUNK};
 use std::io;
 use std::ptr::NonNull;
 use std::sync::Arc;
@@ -159,7 +159,7 @@ impl Memory {
         let found = self.os.find(run.address, n as u64 * CHUNK);
         let (mapping, offset) = found.ok_or(Refusal::Broken)?;
         // SAFETY: inside the mapping, by `find`; `chunk_alloc_n` grants what is committed and what
-        // nobody holds, and neither grants nor purges it before `release` says so.
+        // nobody holds, and neither grants nor purges it before a release says so.
         Ok(unsafe { Chunks::new(Arc::clone(mapping), offset, n, run.fresh) })
     }
 
@@ -196,6 +196,59 @@ impl Memory {
             error: refusal.into(),
             chunks,
         })
+    }
+
+    /// Releases many at once, each as [`release`](Memory::release) does, and answers those that
+    /// were refused, in their order and with the reason. One that is refused does not stop the
+    /// others.
+    ///
+    /// Chunks of another memory are refused with [`Refusal::NotInside`]; there is no other refusal
+    /// that a program can bring about. A memory has at most 32,768 chunks, so that all that are
+    /// claimed of it fit into one list.
+    ///
+    /// It takes all of them before it releases the first, and allocates for them and for the lists
+    /// that the layer is lent. If the iterator panics, what it has given by then is dropped, and
+    /// stays claimed.
+    ///
+    /// ```
+    /// use sirqobal::{linux::Memory, Refusal, CHUNK};
+    ///
+    /// let (mut memory, mut other) = (Memory::new(), Memory::new());
+    /// let (id, theirs) = (memory.reserve(3 * CHUNK, true)?, other.reserve(CHUNK, true)?);
+    /// let ring = vec![memory.claim(id, 1)?, other.claim(theirs, 1)?, memory.claim(id, 2)?];
+    ///
+    /// let mut refused = memory.release_list(ring);
+    /// assert_eq!(memory.claim(id, 3)?.count(), 3);
+    /// let unreleased = refused.pop().unwrap();
+    /// assert_eq!(unreleased.error, Refusal::NotInside);
+    /// assert!(refused.is_empty() && other.release_list([unreleased.chunks]).is_empty());
+    /// # Ok::<(), sirqobal::linux::Error>(())
+    /// ```
+    #[must_use = "those that come back stay claimed"]
+    pub fn release_list(&mut self, chunks: impl IntoIterator<Item = Chunks>) -> Vec<Unreleased> {
+        let given: Vec<Chunks> = chunks.into_iter().collect();
+        self.os.begin();
+        let is_own = |chunks: &Chunks| self.os.has(chunks.mapping());
+        let own = given.iter().filter(|chunks| is_own(chunks));
+        let spans: Vec<Span> = own.map(Chunks::span).collect();
+        let moment = self.moment();
+        let released = self.layer.chunk_release_list(moment, &spans, true);
+        // Refused as a whole, it comes back whole.
+        let answers = released.unwrap_or_else(|refusal| vec![Err(refusal); spans.len()]);
+        let mut answers = answers.into_iter();
+        let refused = |chunks: Chunks| {
+            // What is granted ends here, and so would what has no answer: no handle lives on unless
+            // the layer has refused it.
+            let refusal = match is_own(&chunks) {
+                true => answers.next()?.err()?,
+                false => Refusal::NotInside,
+            };
+            Some(Unreleased {
+                error: refusal.into(),
+                chunks,
+            })
+        };
+        given.into_iter().filter_map(refused).collect()
     }
 
     /// Purges what was released long enough ago, or all of it, and answers how many chunks. Where

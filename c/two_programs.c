@@ -129,6 +129,33 @@ static void claims(int32_t guidance)
     show();
 }
 
+/* One list gives back the runs of a ring; a run of another layer, which stands among them, stays held. */
+static void close_spare_ring(int32_t guidance)
+{
+    static struct sirqobal_memory elsewhere;
+    sirqobal_memory_init(&elsewhere);
+    uint64_t held[3];
+    const uint32_t counts[3] = {1, 1, 1};
+    uint32_t answers[3];
+    say("A spare ring's 2 runs go back by one call. A run of another layer is turned down.");
+    granted(sirqobal_memory_reserve(&elsewhere, SIRQOBAL_CHUNK, true));
+    held[0] = written(GUIDANCE, guidance, 1, 's').address;
+    held[1] = granted(sirqobal_memory_claim(&elsewhere, 0, 1)).address;
+    held[2] = written(GUIDANCE, guidance, 1, 's').address;
+    granted(sirqobal_memory_release_list(&memory, held, counts, answers, 3));
+    for (size_t i = 0; i < 3; i++)
+        if (answers[i] != SIRQOBAL_GRANTED)
+            printf("  not released: %s (refusal %u)\n", sirqobal_refusal_text(answers[i]), answers[i]);
+    compare("2 are released, 1 is not, by 8", answers[0] == SIRQOBAL_GRANTED && answers[1] == SIRQOBAL_NOT_INSIDE &&
+                                                  answers[2] == SIRQOBAL_GRANTED);
+    size_t purged = granted(sirqobal_memory_sweep(&memory, true)).count;
+    printf("  %zu chunks purged\n", purged);
+    compare("2 chunks are purged", purged == 2);
+    compare("the other run stays held", elsewhere.table.records[0].used[0] == 1);
+    compare("it is given back", sirqobal_memory_end(&elsewhere));
+    show();
+}
+
 /* Closed while the delay means never, ring 1 comes back as it was. */
 static void keep_ring(int32_t guidance)
 {
@@ -242,6 +269,7 @@ int main(int argc, char **argv)
     int32_t guidance = (int32_t)granted(sirqobal_memory_reserve(&memory, 6 * SIRQOBAL_CHUNK, true)).id;
     show();
     claims(guidance);
+    close_spare_ring(guidance);
     keep_ring(guidance);
     release_and_sweep();
     refusal_and_grant(guidance);

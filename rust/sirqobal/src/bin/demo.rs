@@ -62,6 +62,7 @@ impl Drive {
         let guidance = self.memory.reserve(6 * CHUNK, true)?;
         self.show();
         self.rings(guidance)?;
+        self.close_spare_ring(guidance)?;
         self.keep_ring(guidance)?;
         let closed = self.close_ring()?;
         self.sweep()?;
@@ -80,6 +81,35 @@ impl Drive {
         let telemetry = self.claim('R', "telemetry", ANY, 3, b't')?;
         let fresh = telemetry.is_fresh();
         self.compare("its chunks are fresh", fresh);
+        self.show();
+        Ok(())
+    }
+
+    /// One list gives back the runs of a ring; a run of another layer, which stands among them,
+    /// comes back.
+    fn close_spare_ring(&mut self, guidance: i32) -> Ended {
+        say("A spare ring's 2 runs go back by one call. A run of another layer is turned down.");
+        let mut elsewhere = Memory::new();
+        let other = elsewhere.reserve(CHUNK, true)?;
+        let mut ring = vec![self.memory.claim(guidance, 1)?];
+        ring.push(elsewhere.claim(other, 1)?);
+        ring.push(self.memory.claim(guidance, 1)?);
+        for chunks in &mut ring {
+            pages(chunks).for_each(|page| chunks[page] = b's');
+        }
+        let refused = self.memory.release_list(ring);
+        for unreleased in &refused {
+            println!("  {unreleased}");
+        }
+        let by_8 = matches!(&refused[..], [one] if one.error == Refusal::NotInside);
+        self.compare("2 are released, 1 is not, by 8", by_8);
+        let purged = self.memory.sweep(true)?;
+        println!("  {purged} chunks purged");
+        self.compare("2 chunks are purged", purged == 2);
+        let back = refused.into_iter().map(|unreleased| unreleased.chunks);
+        let is_back = elsewhere.release_list(back).is_empty();
+        self.compare("the other layer takes its own", is_back);
+        drop(elsewhere);
         self.show();
         Ok(())
     }

@@ -69,6 +69,18 @@ impl Program {
         panic!("{chunks:?} is in no memory");
     }
 
+    /// Releases all runs but the first ones, by a list in each memory.
+    fn close(&mut self, memories: &mut [&mut Memory], kept: usize) {
+        let kept = kept.min(self.held.len());
+        let runs = self.held.drain(kept..);
+        let mut list: Vec<_> = runs.map(|(_, chunks)| chunks).collect();
+        for memory in memories {
+            let refused = memory.release_list(list).into_iter();
+            list = refused.map(|unreleased| unreleased.chunks).collect();
+        }
+        assert!(list.is_empty(), "{list:?} are in no memory");
+    }
+
     fn check(&self) {
         for (claim, chunks) in &self.held {
             let own = |place: usize| chunks[place..][..8] == mark(self.name, *claim, place);
@@ -154,10 +166,13 @@ fn nobody_overwrites_the_other_with_delays_that_mean_never() {
 }
 
 /// Each has a layer of its own with an exclusive arena; the recorder's is joined to guidance's, and
-/// later again what it has begun there since.
-#[test]
-fn nobody_overwrites_the_other_across_joins() {
+/// later again what it has begun there since. How many runs were granted, and how many chunks
+/// purged.
+fn joined(release: fn(&mut Program, &mut [&mut Memory], usize)) -> (usize, usize) {
     let (mut first, mut second) = (Memory::new(), Memory::new());
+    // What is released is due at once, however fast the machine is.
+    first.options_mut().delay = 0;
+    second.options_mut().delay = 0;
     let mut guidance = Program::new(1, first.reserve(4 * CHUNK, true).unwrap());
     let mut recorder = Program::new(2, second.reserve(3 * CHUNK, true).unwrap());
     let mut spool = Program::new(3, ANY);
@@ -177,15 +192,31 @@ fn nobody_overwrites_the_other_across_joins() {
             0..=2 => granted += usize::from(guidance.claim(&mut first, 1 + n % 3)),
             3..=5 => granted += usize::from(recorder.claim(of_recorder, 1 + n % 2)),
             6..=7 => granted += usize::from(spool.claim(&mut second, 1)),
-            8 => guidance.release(&mut [&mut first], which),
-            9..=10 => recorder.release(&mut [of_recorder], which),
-            11 => spool.release(&mut [&mut first, &mut second], which),
+            8 => release(&mut guidance, &mut [&mut first], which),
+            9..=10 => release(&mut recorder, &mut [of_recorder], which),
+            11 => release(&mut spool, &mut [&mut first, &mut second], which),
             _ => purged += first.sweep(choice == 15).unwrap() + second.sweep(choice == 15).unwrap(),
         }
         for program in [&guidance, &recorder, &spool] {
             program.check();
         }
     }
+    (granted, purged)
+}
+
+#[test]
+fn nobody_overwrites_the_other_across_joins() {
+    let (granted, purged) = joined(Program::release);
+    assert!(
+        granted > 30 && purged > 10,
+        "{granted} granted, {purged} purged"
+    );
+}
+
+/// A list has runs of one memory, or of both.
+#[test]
+fn nobody_overwrites_the_other_with_lists_across_joins() {
+    let (granted, purged) = joined(|program, memories, which| program.close(memories, which % 3));
     assert!(
         granted > 30 && purged > 10,
         "{granted} granted, {purged} purged"

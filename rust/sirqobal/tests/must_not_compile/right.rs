@@ -20,7 +20,9 @@ fn main() -> Result<(), Error> {
     let other = second.reserve(CHUNK, true)?;
     let rise = memory.join(&mut second)?;
     let chunk = memory.claim(rise.id(other).unwrap(), 1)?;
-    memory.release(chunk)?;
+    // Chunks of both go by one call.
+    let ring = memory.claim(arena, 2)?;
+    assert!(memory.release_list([ring, chunk]).is_empty());
     // A copy of the book is joined to another book.
     assert_eq!(Layer::new().join_tables(Moment::default(), &mut copy)?.ids(), 0..1);
     Ok(())

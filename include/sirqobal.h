@@ -4,9 +4,9 @@
  * Each function takes every number, and every array of the length that is passed with it; it ends, and does
  * nothing undefined. Bad input is turned down by the number of a refusal. What the caller has to keep:
  * - A pointer points to as many elements as the length beside it says, aligned as their type asks (records and
- *   addresses 8, words, stamps, counts and answers 4). NULL goes only with length 0. Of records, stamps and words
- *   that length is refused with 1; of the three lists of a list of releases it is that of an empty list.
- * - The arrays of one call do not overlap in memory: the three of a list neither each other nor the table; neither do
+ *   addresses 8, words, stamps, counts and answers 4). NULL goes only with length 0. No records, no stamps and no
+ *   words are refused with 1; no addresses, no counts and no answers are an empty list.
+ * - The arrays of one call do not overlap in memory: neither those of a list with each other or with the table, nor
  *   those of the two tables that are joined.
  * - One thread at a time on one table. The library keeps nothing of its own between calls, so two threads may
  *   use two tables.
@@ -423,15 +423,14 @@ struct sirqobal_reply sirqobal_chunk_release(struct sirqobal_arena *records,
                                              bool pending);
 
 /* A list of releases: item i is counts[i] chunks from addresses[i] on. The three lists have one length, at most
- * SIRQOBAL_LIST; addresses and counts are only read. It leaves what single releases in list order leave, at this clock
- * and these settings, that say nothing of commitment (SIRQOBAL_TOLD_NOTHING), all `pending` or none; with a negative
- * settings.delay what they leave then. Each item finds what the items before it left: a run may stand in the list
- * twice, runs may overlap and lie in several arenas.
- * answers[i] is then 0 if item i was granted, else its refusal: 4, 8, 7, 9, in this order. A refused item leaves
- * everything and does not stop the list, and the call itself is granted: look at the answers. The empty list is granted
- * and changes nothing.
- * Refusals of the list as a whole, in this order: 1; 2; 19, where the three lengths differ or pass SIRQOBAL_LIST, the
- * length of the answers included. They leave records, stamps, state and answers. It never asks. */
+ * SIRQOBAL_LIST; addresses and counts are only read. The items are released in list order, each as by
+ * sirqobal_chunk_release at this clock and with these settings, SIRQOBAL_TOLD_NOTHING and `pending`, and finds what the
+ * items before it left: a run may stand in the list twice, runs may overlap, and lie in several arenas.
+ * answers[i] is then 0 if item i was granted, else its refusal: 4, 8, 7, 9, in this order. A refused item changes
+ * nothing but its answer and does not stop the list. The call itself is granted: look at the answers. An empty list is
+ * granted and changes nothing.
+ * Refusals of the list as a whole: 1, 2; 19, where the three lengths differ or pass SIRQOBAL_LIST. They leave all that
+ * is lent, the answers too. It never asks. */
 SIRQOBAL_USE
 struct sirqobal_reply sirqobal_chunk_release_list(struct sirqobal_arena *records,
                                                   size_t record_count,

@@ -257,8 +257,8 @@ static inline struct sirqobal_reply sirqobal_memory_release(struct sirqobal_memo
 }
 
 /* Releases the n runs of a list (sirqobal_chunk_release_list) that the caller holds, each as sirqobal_memory_release
- * does: run i is counts[i] chunks from addresses[i] on, and answers[i] its number, 0 if it was released. At most
- * SIRQOBAL_LIST runs. A run that is turned down does not stop the list: the call is granted, and the answers tell. */
+ * does: run i is counts[i] chunks from addresses[i] on, and answers[i] its number, 0 if it was released. A run that is
+ * turned down does not stop the list: the call is granted, and the answers tell. More than SIRQOBAL_LIST runs: 19. */
 SIRQOBAL_USE
 static inline struct sirqobal_reply sirqobal_memory_release_list(struct sirqobal_memory *memory,
                                                                  const uint64_t *addresses,

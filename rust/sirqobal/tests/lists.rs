@@ -2,7 +2,7 @@
 //! order; what turns it down as a whole leaves everything. Over lent lists, on a layer and over
 //! real memory.
 
-use sirqobal::lent::{Arena, Items, State, LIST};
+use sirqobal::lent::{chunk_release_list, Arena, Items, Settings, State, Table, LIST};
 use sirqobal::{arm, Layer, Moment, Open, Outcome, Question, Refusal, Span, CHUNK, NEVER};
 
 const BASE: u64 = 1 << 30;
@@ -55,14 +55,16 @@ fn one_by_one(
     spans: &[Span],
     pending: bool,
 ) -> Vec<Result<(), Refusal>> {
-    let release =
-        |span: &Span| layer.chunk_release(moment, span.address, span.n as usize, None, pending);
-    spans.iter().map(release).collect()
+    let single = |span: &Span| {
+        let n = span.n as usize;
+        layer.chunk_release(moment, span.address, n, None, pending)
+    };
+    spans.iter().map(single).collect()
 }
 
 /// Releases the spans by one list, and answers as each was answered; it is as if one by one.
 #[track_caller]
-fn released(
+fn by_list(
     layer: &mut Layer,
     moment: Moment,
     spans: &[Span],
@@ -118,7 +120,7 @@ fn a_list_is_its_items_one_by_one() {
             let moment = at(5 + round + 20 * step, DELAYS[random.below(5) as usize]);
             let spans: Vec<_> = (0..random.below(50)).map(|_| random.span()).collect();
             let pending = random.below(3) != 0;
-            for answer in released(&mut layer, moment, &spans, pending) {
+            for answer in by_list(&mut layer, moment, &spans, pending) {
                 seen[answer.map_or_else(|refusal| refusal.number() as usize, |()| 0)] += 1;
             }
             // The next list finds other chunks held; the claim may find no run.
@@ -145,7 +147,7 @@ fn each_item_finds_what_the_earlier_ones_left() {
     ];
     let mut layer = busy();
     let before = layer.clone();
-    let answers = released(&mut layer, at(7, 10), &spans, true);
+    let answers = by_list(&mut layer, at(7, 10), &spans, true);
     assert_eq!(
         answers,
         [
@@ -179,10 +181,7 @@ fn nothing_is_told_of_commitment() {
     for pending in [false, true] {
         let mut layer = Layer::from_table(&records, &stamps, busy().state());
         let spans = [span(BASE, 16), span(BASE + 8 * CHUNK, 32)];
-        assert_eq!(
-            released(&mut layer, at(7, 10), &spans, pending),
-            [Ok(()); 2]
-        );
+        assert_eq!(by_list(&mut layer, at(7, 10), &spans, pending), [Ok(()); 2]);
         assert_eq!(layer.records()[0].committed, records[0].committed);
         assert_eq!(layer.records()[0].used, [0; 32]);
     }
@@ -193,8 +192,8 @@ fn a_pending_list_with_a_negative_delay_is_one_that_is_not() {
     let spans = [span(BASE, 3), span(TOP, 9), span(BASE + CHUNK, 4)];
     for delay in [NEVER, -2, i64::MIN] {
         let (mut pending, mut not) = (busy(), busy());
-        released(&mut pending, at(7, delay), &spans, true);
-        released(&mut not, at(7, delay), &spans, false);
+        by_list(&mut pending, at(7, delay), &spans, true);
+        by_list(&mut not, at(7, delay), &spans, false);
         assert!(same(&pending, &not));
         assert_eq!(pending.records()[0].pending[0], 0b0010);
         assert_eq!(pending.stamps(), busy().stamps());
@@ -206,7 +205,7 @@ fn an_empty_list_changes_nothing() {
     for delay in DELAYS {
         for pending in [false, true] {
             let mut layer = busy();
-            assert_eq!(released(&mut layer, at(100, delay), &[], pending), []);
+            assert_eq!(by_list(&mut layer, at(100, delay), &[], pending), []);
             assert!(same(&layer, &busy()));
         }
     }
@@ -263,6 +262,40 @@ fn a_list_refused_as_a_whole_leaves_everything() {
     }
 }
 
+/// A table of other lengths is refused with 1, whatever the lists are.
+#[test]
+fn the_table_comes_before_the_lists() {
+    let layer = busy();
+    for (records, stamps) in [
+        (31, 32_768),
+        (33, 32_768),
+        (32, 32_767),
+        (32, 32_769),
+        (0, 0),
+    ] {
+        for answers in [0, 1, LIST + 1] {
+            let mut lent = (layer.records().to_vec(), layer.stamps().to_vec());
+            lent.0.resize(records, Arena::EMPTY);
+            lent.1.resize(stamps, 5);
+            let (before, mut answers) = (lent.clone(), vec![99; answers]);
+            let table = Table {
+                records: &mut lent.0,
+                stamps: &mut lent.1,
+                state: layer.state(),
+            };
+            let items = Items {
+                addresses: &[BASE],
+                counts: &[1],
+                answers: &mut answers,
+            };
+            let settings = Settings::default();
+            let reply = chunk_release_list(table, items, 1, settings, true);
+            assert_eq!((reply.number, reply.state), (1, layer.state()));
+            assert!(lent == before && answers.iter().all(|answer| *answer == 99));
+        }
+    }
+}
+
 /// A layer whose one arena is none.
 fn broken() -> Layer {
     let state = State {
@@ -286,7 +319,7 @@ fn lists_of_32_768_items_and_no_more() {
         assert!(same(&layer, &busy()));
     }
     let mut layer = busy();
-    let answers = released(&mut layer, at(7, 10), &spans[..LIST], true);
+    let answers = by_list(&mut layer, at(7, 10), &spans[..LIST], true);
     assert!(answers.len() == LIST && answers.iter().all(Result::is_ok));
     assert_eq!(layer.records()[0].used, [0; 32]);
 }

@@ -1,7 +1,8 @@
 //! Layers that read a negative delay otherwise than document 02: the comparison finds each of them out, by calls
 //! as `sequences` draws them. All in one test, since the original's state is static.
 
-use compare_common::layer::draw::{turn, Player};
+use compare_common::layer::draw::{turn, Player, Tried};
+use compare_common::layer::lists::by_ours;
 use compare_common::layer::never::speaks_of;
 use compare_common::layer::pair::{Make, Pair};
 use compare_common::layer::plain::Table;
@@ -233,9 +234,9 @@ fn found_out(make: Make, sequences: u64) -> Option<String> {
         let mut rng = Rng::new(SEED.wrapping_add(n));
         let mut player = Player::new(&mut rng);
         let start = player.table(&mut rng);
-        let mut pair = Pair::made_by(&start, make);
+        let mut pair = Pair::made_by(&start, make, by_ours);
         for _ in 0..300 {
-            let (_, agreed) = turn(&mut player, &mut rng, &mut pair, &[]);
+            let (_, agreed) = turn(&mut player, &mut rng, &mut pair, Tried::default());
             if let Err(difference) = agreed {
                 return Some(difference);
             }

@@ -35,7 +35,7 @@
 //! the open question; for each arena the low and the high half of its base, chunks, exclusive 1 and
 //! owned 2, node, deadline, the used, dirty, committed and pending words, its 1,024 stamps.
 
-use compare_common::layer::draw::{turn, Player};
+use compare_common::layer::draw::{turn, Player, Tried};
 use compare_common::layer::pair::Pair;
 use compare_common::layer::{Given, Moment, CHUNK, QUIET};
 use compare_common::rng::Rng;
@@ -161,7 +161,7 @@ fn agreed(rng: &mut Rng, calls: u64) -> Vec<(Moment, Call)> {
     let mut pair = Pair::holding(&Layer::new());
     let mut made = Vec::new();
     for _ in 0..calls {
-        let (_, agreed) = turn(&mut player, rng, &mut pair, &[]);
+        let (_, agreed) = turn(&mut player, rng, &mut pair, Tried::default());
         made.extend(agreed.expect("no difference").made);
     }
     made

@@ -10,11 +10,15 @@
 //! Up to three layers stand side by side and are joined now and then. The original has no join: each is
 //! compared with a model written from document 02, all of both tables, and the joined layer goes on
 //! beside an original with the same arenas.
+//!
+//! Lists of releases come between the calls. The original has none: it is given the single
+//! releases, one by one, and each answer, and what a list refused as a whole leaves, is compared
+//! with a model written from document 02.
 
 use compare_common::layer::beside::Beside;
 use compare_common::layer::counts::Counts;
-use compare_common::layer::join_cases;
 use compare_common::layer::table::{self, Cases};
+use compare_common::layer::{join_cases, list_cases};
 use compare_common::rng::Rng;
 use compare_common::{args, SEED};
 use std::process::ExitCode;
@@ -29,6 +33,7 @@ fn main() -> ExitCode {
     let mut counts = Counts::default();
     let mut differences = show("table of refusals 1, 2, 3 and 6", table::run());
     differences += show("table of joins", join_cases::run());
+    differences += show("table of lists", list_cases::run());
     for n in 0..sequences {
         // Each sequence has a seed of its own, so that one alone can be run again.
         let mut rng = Rng::new(seed.wrapping_add(n));
@@ -49,10 +54,13 @@ fn main() -> ExitCode {
         calls,
         questions,
         joins,
+        lists,
+        items,
         ..
     } = counts;
     println!(
-        "compared: {calls} calls, {questions} questions, {joins} joins, {differences} differences"
+        "compared: {calls} calls, {questions} questions, {joins} joins, {lists} lists with {items} items, \
+         {differences} differences"
     );
     let failed = differences != 0 || (sequences >= ENOUGH && !missing.is_empty());
     ExitCode::from(u8::from(failed))

@@ -1,14 +1,16 @@
-//! Layers side by side, each beside an original of its own, which are joined now and then. A join is held
-//! against document 02 (`joined`); the joined layer goes on beside an original that got the same, and
-//! the emptied one beside an empty original.
+//! Layers side by side, each beside an original of its own, which are joined now and then. A join
+//! is held against document 02 (`joined`); the joined layer goes on beside an original that got the
+//! same, and the emptied one beside an empty original. Between the calls come lists of releases,
+//! which the original is given one by one.
 
 use super::counts::Counts;
-use super::draw::{turn, Player};
+use super::draw::{turn, Player, Tried};
 use super::joined::{self, Joined, Said};
+use super::lists::{self, List};
 use super::pair::Pair;
 use super::plain::Table;
 use super::smallest::{smallest, smallest_join};
-use super::{edges, join_states, never, Moment, Step};
+use super::{edges, join_states, list_states, never, Made, Moment};
 use crate::rng::Rng;
 use oracle::layer as rust;
 use sirqobal::lent::Call;
@@ -28,15 +30,20 @@ struct One {
     pair: Pair,
     /// Its original, while another's stands in the statics.
     aside: rust::Aside,
-    /// The calls since it began, or was joined last.
-    steps: Vec<Step>,
+    /// What was made since it began, or was joined last.
+    made: Vec<Made>,
     /// Of each arena, whether it came by a join.
     came: Vec<bool>,
     /// Joins have emptied it.
     emptied: bool,
     /// A pending release with a negative delay was granted in it, or in one that it was joined from.
     never: bool,
+    /// Items that its last list was granted, some of them.
+    given_back: Vec<(u64, u32)>,
 }
+
+/// So many items of a list are remembered.
+const REMEMBERED: usize = 20;
 
 impl One {
     /// A new layer at this clock, or at any. Its original stands in the statics then.
@@ -48,15 +55,22 @@ impl One {
             pair: Pair::holding(&start),
             player,
             aside: rust::Aside::default(),
-            steps: Vec::new(),
+            made: Vec::new(),
             came: vec![false; start.state().count],
             emptied: false,
             never: false,
+            given_back: Vec::new(),
         }
     }
 
     fn ours(&self) -> &Layer {
         &self.pair.ours
+    }
+
+    /// A difference, and as little as still shows one.
+    fn told(&self, difference: String) -> String {
+        let smallest = smallest(&self.pair.start(), &self.made);
+        format!("{difference}\n{smallest}")
     }
 
     /// Nothing past its arenas was written.
@@ -101,6 +115,8 @@ impl Beside {
         match rng.below(100) {
             0..=5 if several => self.join(rng, counts),
             6 if several => self.join_copies(rng, counts),
+            7..=8 => self.list(rng, counts),
+            9 if rng.percent(40) => self.list_on_copy(rng, counts),
             _ => Ok(()),
         }
     }
@@ -110,22 +126,69 @@ impl Beside {
         let (one, after) = rest.split_first_mut().expect("it stands");
         let others: Vec<&Layer> = before.iter().chain(&*after).map(One::ours).collect();
         one.player.go_on(self.ns, &others);
-        let (step, agreed) = turn(&mut one.player, rng, &mut one.pair, &others);
+        let tried = Tried {
+            joins: &others,
+            lists: true,
+        };
+        let (step, agreed) = turn(&mut one.player, rng, &mut one.pair, tried);
         let (moment, call) = (step.moment, step.call);
-        one.steps.push(step);
-        let agreed = agreed.map_err(|difference| {
-            let smallest = smallest(&one.pair.start(), &one.steps);
-            format!("{difference}\n{smallest}")
-        })?;
+        one.made.push(Made::Step(step));
+        let agreed = agreed.map_err(|difference| one.told(difference))?;
         counts.note(self.ns, &moment, &call, &agreed, &one.pair.ours);
         counts.note_moved(&call, &agreed, &one.pair.ours, &one.came);
         if one.never {
             counts.note_never(&moment, &call, &agreed);
         }
+        if !one.given_back.is_empty() {
+            counts.note_reached(&list_states::afterwards(&call, &agreed, &one.given_back));
+        }
         let releases = matches!(call, Call::ChunkRelease { .. }) && agreed.reply.number == 0;
         one.never |= releases && never::speaks_of(moment.delay, &call);
         one.came.resize(one.pair.ours.state().count, false);
         self.ns = moment.ns;
+        Ok(())
+    }
+
+    /// A list of releases on the layer that stands.
+    fn list(&mut self, rng: &mut Rng, counts: &mut Counts) -> Result<(), String> {
+        let moment = self.moment(rng, self.at);
+        let one = &mut self.layers[self.at];
+        let list = one.player.list(rng, &one.pair.ours);
+        one.made.push(Made::List(moment, list.clone()));
+        let made = one.pair.list(moment, &list);
+        let (said, reached) = made.map_err(|difference| one.told(difference))?;
+        counts.note_list("list", &said, &reached);
+        if !one.given_back.is_empty() {
+            counts.note_reached(&["after a list: another"]);
+        }
+        if let lists::Said::Answered(numbers) = &said {
+            let items = list.items.iter().zip(numbers);
+            let granted = items.filter(|(_, number)| **number == 0);
+            let granted = granted.map(|(item, _)| *item).take(REMEMBERED);
+            one.given_back = granted.collect();
+            one.never |= list.pending && moment.delay < 0 && !one.given_back.is_empty();
+        }
+        Ok(())
+    }
+
+    /// A list of releases on a copy of some layer that is broken or asks.
+    fn list_on_copy(&mut self, rng: &mut Rng, counts: &mut Counts) -> Result<(), String> {
+        let moment = self.moment(rng, self.at);
+        let one = &self.layers[self.at];
+        let list: List = one.player.list(rng, one.ours());
+        let mut copy = Table::of(one.ours());
+        if rng.percent(60) {
+            edges::ask(rng, &mut copy);
+        }
+        if rng.percent(50) {
+            edges::damage(rng, &mut copy);
+        }
+        let said = lists::make_on_copy(lists::by_ours, &copy, moment, &list);
+        let said = said.map_err(|difference| {
+            format!("{difference}\n  {list:?} at {moment:?}\n  on {copy:?}")
+        })?;
+        let reached = list_states::reached(&copy, &moment, &list, &said);
+        counts.note_list("list on a changed copy", &said, &reached);
         Ok(())
     }
 
@@ -182,6 +245,10 @@ impl Beside {
                 "joined: the second itself joined before",
                 other.came.contains(&true),
             ),
+            (
+                "after a list: the layer is joined",
+                !one.given_back.is_empty() || !other.given_back.is_empty(),
+            ),
         ];
         let reached = states.into_iter().filter(|(_, holds)| *holds);
         reached.map(|(state, _)| state).collect()
@@ -197,6 +264,9 @@ impl Beside {
         self.layers[second].emptied = true;
         let never = std::mem::take(&mut self.layers[second].never);
         self.layers[first].never |= never;
+        let given_back = std::mem::take(&mut self.layers[second].given_back);
+        self.layers[first].given_back.extend(given_back);
+        self.layers[first].given_back.truncate(2 * REMEMBERED);
         for (at, left) in [(first, joined.first), (second, joined.second)] {
             self.stand(at);
             let layer = &mut self.layers[at];
@@ -204,7 +274,7 @@ impl Beside {
             layer.pair.go_on(left);
             let same = layer.pair.is_same();
             same.map_err(|difference| format!("after a join: {difference}"))?;
-            layer.steps.clear();
+            layer.made.clear();
         }
         Ok(())
     }

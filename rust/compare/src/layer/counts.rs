@@ -1,8 +1,9 @@
 //! What a run reached.
 
 use super::document::{arenas, has_run};
+use super::lists::Said;
 use super::pair::{claims, ones, Agreed};
-use super::{join_states, never_states, Moment, CHUNK, PAGES};
+use super::{join_states, list_states, never_states, Moment, CHUNK, PAGES};
 use crate::NUMBERS;
 use sirqobal::lent::Call;
 use sirqobal::{Ask, Layer};
@@ -14,6 +15,9 @@ pub struct Counts {
     pub calls: u64,
     pub questions: u64,
     pub joins: u64,
+    pub lists: u64,
+    /// Of the lists that were not refused.
+    pub items: u64,
     answers: BTreeMap<&'static str, [u64; NUMBERS]>,
     asked: BTreeMap<String, u64>,
     reached: BTreeMap<&'static str, u64>,
@@ -23,7 +27,7 @@ pub struct Counts {
 fn wanted() -> impl Iterator<Item = (&'static str, u64)> {
     let calls = WANTED.iter().map(|what| (*what, 1));
     let joins = join_states::WANTED.iter();
-    let others = joins.chain(never_states::WANTED);
+    let others = joins.chain(never_states::WANTED).chain(list_states::WANTED);
     calls.chain(others.copied())
 }
 
@@ -94,9 +98,7 @@ impl Counts {
             self.claim(id, n, agreed, layer);
         }
         self.sweep(agreed, layer);
-        for state in &agreed.never {
-            self.reach(state, true);
-        }
+        self.note_reached(&agreed.never);
     }
 
     /// Notes what a call reached on a layer on which a negative delay left nothing pending before.
@@ -114,15 +116,41 @@ impl Counts {
         for (number, reached) in &agreed.joins {
             self.note_join("join while a question is open", *number, reached);
         }
+        for (number, reached) in &agreed.lists {
+            self.note_list(
+                "list while a question is open",
+                &Said::Refused(*number),
+                reached,
+            );
+        }
+    }
+
+    /// Notes a list on which ours, document 02 and the original's single releases agreed.
+    pub fn note_list(&mut self, how: &'static str, said: &Said, reached: &[&'static str]) {
+        self.lists += 1;
+        self.answers.entry(how).or_default()[said.number() as usize] += 1;
+        if let Said::Answered(numbers) = said {
+            self.items += numbers.len() as u64;
+            let items = self.answers.entry("list, its items").or_default();
+            numbers
+                .iter()
+                .for_each(|number| items[*number as usize] += 1);
+        }
+        self.note_reached(reached);
+    }
+
+    /// Notes states that something reached.
+    pub fn note_reached(&mut self, reached: &[&'static str]) {
+        for state in reached {
+            self.reach(state, true);
+        }
     }
 
     /// Notes a join on which ours and document 02 agreed.
     pub fn note_join(&mut self, how: &'static str, number: u32, reached: &[&'static str]) {
         self.joins += 1;
         self.answers.entry(how).or_default()[number as usize] += 1;
-        for state in reached {
-            self.reach(state, true);
-        }
+        self.note_reached(reached);
     }
 
     /// Notes what a call did in arenas that came by a join. `came` says it of each.
@@ -225,7 +253,7 @@ impl Counts {
     }
 
     pub fn print(&self) {
-        println!("{:<29}   0 is granted, 1 to 18 are the refusals", "call");
+        println!("{:<29}   0 is granted, 1 to 19 are the refusals", "call");
         for (name, counts) in &self.answers {
             println!("{name:<29}   {}", crate::by_number(counts));
         }

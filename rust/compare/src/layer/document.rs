@@ -38,7 +38,7 @@ fn of_its_own(layer: &Layer, moment: &Moment, call: &Call) -> Option<u32> {
         Call::ChunkAlloc { id } | Call::ChunkClaim { id } | Call::ChunkAllocN { id, .. } => {
             (moment.off && id < 0).then_some(5)
         }
-        Call::ChunkRelease { address, n, .. } => release(layer, address, n),
+        Call::ChunkRelease { address, n, .. } => cannot_release(arenas(layer), address, n),
         _ => None,
     }
 }
@@ -89,12 +89,12 @@ fn adopt(layer: &Layer, address: u64, size: u64) -> Option<u32> {
 }
 
 /// Release: 4, 8, 7, 9.
-fn release(layer: &Layer, address: u64, n: usize) -> Option<u32> {
+pub fn cannot_release(arenas: &[Arena], address: u64, n: usize) -> Option<u32> {
     let inside = |arena: &&Arena| arena.base <= address && u128::from(address) < end(arena);
     if n == 0 {
         return Some(4);
     }
-    let Some(arena) = arenas(layer).iter().find(inside) else {
+    let Some(arena) = arenas.iter().find(inside) else {
         return Some(8);
     };
     let run_end = u128::from(address) + n as u128 * u128::from(CHUNK);

@@ -335,7 +335,7 @@ impl Player {
         }
     }
 
-    fn release(&self, rng: &mut Rng, layer: &Layer) -> Call {
+    pub(super) fn release(&self, rng: &mut Rng, layer: &Layer) -> Call {
         let address = some_address(rng, layer);
         let n = match rng.below(20) {
             0 => 0,
@@ -472,19 +472,27 @@ impl Player {
     }
 }
 
-/// Draws one call and makes it on both sides, with drawn answers to what it asks. While it asks, joins
-/// with the others are tried.
+/// What is tried while a call asks, beside other calls.
+#[derive(Clone, Copy, Default)]
+pub struct Tried<'a> {
+    /// Joins with these.
+    pub joins: &'a [&'a Layer],
+    /// Lists of releases.
+    pub lists: bool,
+}
+
+/// Draws one call and makes it on both sides, with drawn answers to what it asks.
 pub fn turn(
     player: &mut Player,
     rng: &mut Rng,
     pair: &mut Pair,
-    others: &[&Layer],
+    tried: Tried<'_>,
 ) -> (Step, Result<Agreed, String>) {
     let (moment, call) = player.call(rng, &pair.ours);
     let mut drawn = Drawn {
         player,
         rng,
-        others,
+        tried,
         given: Vec::new(),
     };
     let agreed = pair.call(moment, call, &mut drawn);
@@ -500,29 +508,47 @@ pub fn turn(
 struct Drawn<'a> {
     player: &'a mut Player,
     rng: &'a mut Rng,
-    others: &'a [&'a Layer],
+    tried: Tried<'a>,
     given: Vec<Given>,
 }
 
 impl Drawn<'_> {
-    /// A join with another layer, which asks nothing. Purges are asked most often by far.
-    fn join(&mut self, ask: Ask) -> Option<Meanwhile> {
+    /// Whether a join or a list is tried here. Purges are asked most often by far.
+    fn tries(&mut self, ask: Ask) -> bool {
         let one_of = match ask {
             Ask::Purge { .. } => 1_000,
             _ => 100,
         };
-        if self.others.is_empty() || self.rng.below(one_of) != 0 {
+        self.rng.below(one_of) == 0
+    }
+
+    /// A join with another layer, which asks nothing.
+    fn join(&mut self, ask: Ask) -> Option<Meanwhile> {
+        if self.tried.joins.is_empty() || !self.tries(ask) {
             return None;
         }
         let other = Other {
-            table: Table::of(self.rng.pick(self.others)),
+            table: Table::of(self.rng.pick(self.tried.joins)),
             is_first: self.rng.percent(50),
         };
+        let moment = self.moment();
+        Some(Meanwhile::Join(moment, Box::new(other)))
+    }
+
+    fn list(&mut self, layer: &Layer, ask: Ask) -> Option<Meanwhile> {
+        if !self.tried.lists || !self.tries(ask) {
+            return None;
+        }
+        let moment = self.moment();
+        Some(Meanwhile::List(moment, self.player.list(self.rng, layer)))
+    }
+
+    fn moment(&mut self) -> Moment {
         let mut moment = self.player.any_moment(self.rng);
         if self.rng.percent(10) {
             moment.page = 4_095;
         }
-        Some(Meanwhile::Join(moment, Box::new(other)))
+        moment
     }
 }
 
@@ -530,6 +556,7 @@ impl Source for Drawn<'_> {
     fn give(&mut self, layer: &Layer, ask: Ask) -> Given {
         let mut given = self.player.given(self.rng, layer, ask);
         given.before.extend(self.join(ask));
+        given.before.extend(self.list(layer, ask));
         self.given.push(given.clone());
         given
     }
@@ -612,7 +639,7 @@ fn some_arena<'a>(rng: &mut Rng, layer: &'a Layer) -> Option<&'a Arena> {
 }
 
 /// A chunk of some arena, more often one that is used.
-fn some_address(rng: &mut Rng, layer: &Layer) -> u64 {
+pub(super) fn some_address(rng: &mut Rng, layer: &Layer) -> u64 {
     let Some(arena) = some_arena(rng, layer) else {
         return CHUNK * rng.below(100);
     };

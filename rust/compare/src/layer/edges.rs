@@ -1,5 +1,5 @@
 //! Joins at their edges: copies of two tables, changed so that ranges meet, that arenas are just too
-//! many, that a table asks or is broken.
+//! many, that a table asks or is broken. Lists too are made on tables that ask or are broken.
 
 use super::draw::any_arena;
 use super::plain::Table;
@@ -107,7 +107,7 @@ fn some_id(rng: &mut Rng, table: &Table) -> Option<usize> {
 }
 
 /// A question of any kind is open, as a call leaves it.
-fn ask(rng: &mut Rng, table: &mut Table) {
+pub(super) fn ask(rng: &mut Rng, table: &mut Table) {
     let idle = State {
         count: table.state.count,
         mark: table.state.mark,
@@ -146,7 +146,7 @@ fn asks_for_memory(rng: &mut Rng, mut state: State) -> State {
 }
 
 /// Something of row 1.
-fn damage(rng: &mut Rng, table: &mut Table) {
+pub(super) fn damage(rng: &mut Rng, table: &mut Table) {
     let id = some_id(rng, table).unwrap_or(0);
     let record = &mut table.records[id];
     match rng.below(12) {

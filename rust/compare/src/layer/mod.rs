@@ -8,6 +8,10 @@ pub mod edges;
 pub mod join_cases;
 pub mod join_states;
 pub mod joined;
+pub mod list_cases;
+pub mod list_draw;
+pub mod list_states;
+pub mod lists;
 pub mod never;
 pub mod never_states;
 pub mod pair;
@@ -18,6 +22,7 @@ pub mod table;
 
 pub use sirqobal::{Moment, CHUNK};
 
+use lists::List;
 use plain::Table;
 use sirqobal::lent::Call;
 
@@ -31,6 +36,13 @@ pub fn inside(chunks: usize, word: usize) -> u32 {
 
 /// The page sizes that row 1 lets pass.
 pub const PAGES: [u64; 5] = [4_096, 8_192, 16_384, 32_768, 65_536];
+
+/// What was made on both sides.
+#[derive(Clone, Debug)]
+pub enum Made {
+    Step(Step),
+    List(Moment, List),
+}
 
 /// One call with all that the host says.
 #[derive(Clone, Debug)]
@@ -56,6 +68,7 @@ pub struct Given {
 pub enum Meanwhile {
     Call(Moment, Call),
     Join(Moment, Box<Other>),
+    List(Moment, List),
 }
 
 /// The other table of a join with a layer that asks.

@@ -2,9 +2,10 @@
 //! middle of its call. There the two are compared, ours is answered and goes on, and then the
 //! original gets the same answer.
 
+use super::lists::{self, List, MakeList};
 use super::plain::Table;
-use super::{document, join_states, joined, never, never_states};
-use super::{Given, Meanwhile, Other, Step};
+use super::{document, join_states, joined, list_states, never, never_states};
+use super::{Given, Made, Meanwhile, Other};
 use oracle::layer as rust;
 use sirqobal::lent::{Call, Reply, State};
 use sirqobal::{Ask, Layer, Moment};
@@ -33,6 +34,8 @@ pub struct Agreed {
     pub while_open: Vec<u32>,
     /// Of the joins tried meanwhile, the numbers and what they reached.
     pub joins: Vec<(u32, Vec<&'static str>)>,
+    /// The same of the lists.
+    pub lists: Vec<(u32, Vec<&'static str>)>,
     /// All that was called on ours: the call, calls while it asks, and the answers.
     pub made: Vec<(Moment, Call)>,
     /// Arenas whose deadline was 1 before.
@@ -54,6 +57,7 @@ pub type Make = fn(&mut Layer, Moment, Call) -> Reply;
 pub struct Pair {
     pub ours: Layer,
     make: Make,
+    make_list: MakeList,
     /// As it was lent first, or left by the last join: what lies past the arenas that stand is not
     /// written by any other call.
     start: Table,
@@ -62,16 +66,17 @@ pub struct Pair {
 impl Pair {
     /// Both in this state, whose table is sound and in which no question is open.
     pub fn holding(layer: &Layer) -> Pair {
-        Pair::made_by(layer, Layer::call)
+        Pair::made_by(layer, Layer::call, lists::by_ours)
     }
 
-    /// The same, with calls on ours made by another: a wrong one is to be found out.
-    pub fn made_by(layer: &Layer, make: Make) -> Pair {
+    /// The same, with calls or lists on ours made by another: a wrong one is to be found out.
+    pub fn made_by(layer: &Layer, make: Make, make_list: MakeList) -> Pair {
         let records: Vec<rust::Record> = document::arenas(layer).iter().map(record).collect();
         rust::load(layer.state().mark == 1, &records, layer.stamps());
         Pair {
             ours: layer.clone(),
             make,
+            make_list,
             start: Table::of(layer),
         }
     }
@@ -117,7 +122,8 @@ impl Pair {
         if reply != expected {
             return Err(format!("expected {expected:?}, ours {reply:?}"));
         }
-        self.is_right_after(&call, reply.number)?;
+        self.is_right_after()?;
+        self.has_no_run_after(&call, reply.number)?;
         reached.extend(never_states::swept(&agreed));
         Ok(Agreed {
             before,
@@ -127,18 +133,45 @@ impl Pair {
         })
     }
 
-    /// What every call leaves: the same on both sides, flags as they were, and after 10 no such run.
-    fn is_right_after(&self, call: &Call, number: u32) -> Result<(), String> {
+    /// What every call leaves: the same on both sides, and flags as they were.
+    fn is_right_after(&self) -> Result<(), String> {
         same_state(&self.ours)?;
-        if !self.flags_are_kept() {
-            return Err("a flag of a record was written, or is not 0 or 1".into());
+        match self.flags_are_kept() {
+            true => Ok(()),
+            false => Err("a flag of a record was written, or is not 0 or 1".into()),
         }
-        if let (10, Some((id, n))) = (number, claims(call)) {
-            if document::has_run(&self.ours, id, n) {
-                return Err("both refused with 10, and there is such a run".into());
+    }
+
+    fn has_no_run_after(&self, call: &Call, number: u32) -> Result<(), String> {
+        match (number, claims(call)) {
+            (10, Some((id, n))) if document::has_run(&self.ours, id, n) => {
+                Err("both refused with 10, and there is such a run".into())
             }
+            _ => Ok(()),
         }
-        Ok(())
+    }
+
+    /// Makes a list on ours, and on the original as many releases; an error says what differs. What
+    /// the paper says of it, and what it reached.
+    pub fn list(
+        &mut self,
+        moment: Moment,
+        list: &List,
+    ) -> Result<(lists::Said, Vec<&'static str>), String> {
+        let before = Table::of(&self.ours);
+        let said = lists::said(&before, moment.page, list);
+        let mut after = before.clone();
+        let (reply, answers) = lists::make(self.make_list, &mut after, moment, list)?;
+        said.is(before.state, &reply, &answers)?;
+        match &said {
+            lists::Said::Answered(numbers) => original_list(&moment, list, numbers)?,
+            lists::Said::Refused(_) if after == before => {}
+            lists::Said::Refused(_) => return Err("list: refused, and the table moved".into()),
+        }
+        self.ours = after.layer();
+        self.is_right_after()?;
+        let reached = list_states::reached(&before, &moment, list, &said);
+        Ok((said, reached))
     }
 
     /// Makes the call on both sides. What the original answers, and what happened on ours.
@@ -154,6 +187,7 @@ impl Pair {
         let mut bridge = Bridge {
             ours: &mut self.ours,
             make: self.make,
+            make_list: self.make_list,
             source,
             agreed: Agreed {
                 reply,
@@ -193,12 +227,18 @@ impl Pair {
             && self.ours.stamps()[1_024 * count..] == self.start.stamps[1_024 * count..]
     }
 
-    /// Makes the calls of a list; an error says which call differs, and how.
-    pub fn play(&mut self, steps: &[Step]) -> Result<(), (usize, String)> {
-        for (n, step) in steps.iter().enumerate() {
-            let mut source = step.given.clone().into_iter();
-            let agreed = self.call(step.moment, step.call, &mut source);
-            agreed.map_err(|difference| (n, difference))?;
+    /// Makes all this; an error says which of it differs, and how.
+    pub fn play(&mut self, history: &[Made]) -> Result<(), (usize, String)> {
+        for (n, made) in history.iter().enumerate() {
+            let same = match made {
+                Made::Step(step) => {
+                    let mut source = step.given.clone().into_iter();
+                    let agreed = self.call(step.moment, step.call, &mut source);
+                    agreed.map(|_| ())
+                }
+                Made::List(moment, list) => self.list(*moment, list).map(|_| ()),
+            };
+            same.map_err(|difference| (n, difference))?;
         }
         Ok(())
     }
@@ -211,6 +251,35 @@ pub fn claims(call: &Call) -> Option<(i32, usize)> {
         Call::ChunkAllocN { id, n } => Some((id, n)),
         _ => None,
     }
+}
+
+/// The original makes the releases of a list in its order, and refuses those that have a number.
+/// With a negative delay it is given them as single releases are.
+fn original_list(moment: &Moment, list: &List, numbers: &[u32]) -> Result<(), String> {
+    for (place, (item, number)) in list.items.iter().zip(numbers).enumerate() {
+        let release = list.release(*item);
+        if place == 0 {
+            carry(moment, &release);
+        }
+        let call = never::for_original(moment.delay, release);
+        let Some(Call::ChunkRelease {
+            address,
+            n,
+            pending,
+            ..
+        }) = call
+        else {
+            unreachable!("a release stays one");
+        };
+        let granted = rust::chunk_release(address, n, None, pending);
+        if granted != (*number == 0) {
+            let rust = if granted { "grants" } else { "refuses" };
+            return Err(format!(
+                "item {place}: document {number}, the Rust {rust} it"
+            ));
+        }
+    }
+    Ok(())
 }
 
 /// The original's answer with the number that the document gives a refusal.
@@ -260,6 +329,7 @@ fn carry(moment: &Moment, call: &Call) {
 struct Bridge<'a> {
     ours: &'a mut Layer,
     make: Make,
+    make_list: MakeList,
     source: &'a mut dyn Source,
     /// What happened; its reply is our last.
     agreed: Agreed,
@@ -383,6 +453,7 @@ impl Bridge<'_> {
                     self.agreed.made.push((*moment, *call));
                 }
                 Meanwhile::Join(moment, other) => self.join_meanwhile(*moment, other)?,
+                Meanwhile::List(moment, list) => self.list_meanwhile(*moment, list)?,
             }
         }
         match tried {
@@ -424,6 +495,15 @@ impl Bridge<'_> {
         let said = joined::make(first, second, moment)?;
         let reached = join_states::reached(first, second, &said, moment.page);
         self.agreed.joins.push((said.number(), reached));
+        Ok(())
+    }
+
+    /// A list on ours while a question is open, on a copy: it is refused.
+    fn list_meanwhile(&mut self, moment: Moment, list: &List) -> Result<(), String> {
+        let asking = Table::of(self.ours);
+        let said = lists::make_on_copy(self.make_list, &asking, moment, list)?;
+        let reached = list_states::reached(&asking, &moment, list, &said);
+        self.agreed.lists.push((said.number(), reached));
         Ok(())
     }
 }

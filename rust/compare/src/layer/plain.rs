@@ -57,7 +57,8 @@ impl Table {
         reply
     }
 
-    fn lend(&mut self) -> lent::Table<'_> {
+    /// What is lent of it.
+    pub fn lend(&mut self) -> lent::Table<'_> {
         lent::Table {
             records: &mut self.records,
             stamps: &mut self.stamps,

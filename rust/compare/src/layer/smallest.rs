@@ -1,56 +1,109 @@
 //! A difference is told by as few calls, and a join's by as few arenas, as still show it.
 
 use super::joined;
+use super::lists::List;
 use super::pair::Pair;
 use super::plain::Table;
-use super::{Moment, Step};
+use super::{Made, Moment};
 use sirqobal::lent::Arena;
 use sirqobal::Layer;
 
-/// Leaves out one call after the other, and what was done while questions were open, as long as the
-/// two still differ. Tells what is left, and the difference.
-pub fn smallest(start: &Layer, steps: &[Step]) -> String {
-    let differs = |steps: &[Step]| Pair::holding(start).play(steps).err();
-    let mut steps = steps.to_vec();
+/// What is left of this if as little is made as still shows a difference, and the difference.
+pub fn smallest(start: &Layer, history: &[Made]) -> String {
+    let differs = |history: &[Made]| Pair::holding(start).play(history).err();
+    let history = shrunk(history.to_vec(), differs);
+    let difference = differs(&history).map_or("none".into(), |(_, difference)| difference);
+    let made: String = history.iter().map(told).collect();
+    format!("from {start:?}\n{made}  {difference}")
+}
+
+/// Leaves out one call after the other, items of lists, and what was done while questions were
+/// open, as long as the two still differ. `differs` says at which place, and how.
+fn shrunk(
+    mut history: Vec<Made>,
+    differs: impl Fn(&[Made]) -> Option<(usize, String)>,
+) -> Vec<Made> {
     loop {
-        let before = steps.len();
-        let mut place = steps.len();
+        let before = history.len();
+        let mut place = history.len();
         while place > 0 {
             place -= 1;
-            let step = steps.remove(place);
-            match differs(&steps) {
-                Some((last, _)) => steps.truncate(last + 1),
-                None => steps.insert(place, step),
+            let made = history.remove(place);
+            match differs(&history) {
+                Some((last, _)) => history.truncate(last + 1),
+                None => history.insert(place, made),
             }
-            place = place.min(steps.len());
+            place = place.min(history.len());
         }
-        if steps.len() == before {
+        if history.len() == before {
             break;
         }
     }
-    for place in 0..steps.len() {
-        let mut quiet = steps.clone();
-        for given in &mut quiet[place].given {
-            given.before.clear();
-        }
-        if differs(&quiet).is_some() {
-            steps = quiet;
-        }
-    }
-    let difference = differs(&steps).map_or("none".into(), |(_, difference)| difference);
-    let mut text = format!("from {:?}\n", start);
-    for Step {
-        moment,
-        call,
-        given,
-    } in &steps
-    {
-        text += &format!("  {call:?} at {moment:?}\n");
-        for given in given {
-            text += &format!("    {given:?}\n");
+    for place in 0..history.len() {
+        loop {
+            let less = with_less_done(&history, place).find(|less| differs(less).is_some());
+            match less {
+                Some(less) => history = less,
+                None => break,
+            }
         }
     }
-    text + "  " + &difference
+    history
+}
+
+/// What was made, with less of it at this place: a call without what was done while it asked, or a
+/// list without some of its items.
+fn with_less_done(history: &[Made], place: usize) -> impl Iterator<Item = Vec<Made>> + '_ {
+    let less = match &history[place] {
+        Made::Step(step) if step.given.iter().all(|given| given.before.is_empty()) => Vec::new(),
+        Made::Step(step) => {
+            let mut quiet = step.clone();
+            quiet
+                .given
+                .iter_mut()
+                .for_each(|given| given.before.clear());
+            vec![Made::Step(quiet)]
+        }
+        Made::List(moment, list) => {
+            let shorter = with_less_items(list).into_iter();
+            shorter.map(|list| Made::List(*moment, list)).collect()
+        }
+    };
+    less.into_iter().map(move |less| {
+        let mut history = history.to_vec();
+        history[place] = less;
+        history
+    })
+}
+
+/// The list without one item after the other; a long one without an eighth of it, since it would
+/// be copied too often.
+fn with_less_items(list: &List) -> Vec<List> {
+    let [length, ..] = list.lengths;
+    if !list.agrees() || length == 0 {
+        return Vec::new();
+    }
+    let step = if length > 64 { length.div_ceil(8) } else { 1 };
+    let starts = (0..length).step_by(step);
+    let without = |start: usize| {
+        let mut less = list.clone();
+        let end = length.min(start + step);
+        less.items.drain(start..end);
+        less.lengths = [length - (end - start); 3];
+        less
+    };
+    starts.map(without).collect()
+}
+
+fn told(made: &Made) -> String {
+    match made {
+        Made::List(moment, list) => format!("  {list:?} at {moment:?}\n"),
+        Made::Step(step) => {
+            let given = step.given.iter().map(|given| format!("    {given:?}\n"));
+            let given: String = given.collect();
+            format!("  {:?} at {:?}\n{given}", step.call, step.moment)
+        }
+    }
 }
 
 /// Takes arenas out of both tables and makes blank what can be, as long as ours and the paper still differ.
@@ -106,5 +159,45 @@ fn take_out(table: &mut Table, way: usize) {
             }
         }
         _ => {}
+    }
+}
+
+#[cfg(test)]
+mod tests {
+    use super::*;
+    use crate::layer::{Step, QUIET};
+    use sirqobal::lent::Call;
+
+    // Of two calls and two lists, the one item that shows a difference is left.
+    #[test]
+    fn one_item_is_left() {
+        let list = |items: std::ops::Range<u64>| List {
+            lengths: [items.clone().count(); 3],
+            items: items.chain([7, 7]).map(|address| (address, 1)).collect(),
+            pending: true,
+        };
+        let step = Made::Step(Step {
+            moment: QUIET,
+            call: Call::PurgeDue { force: true },
+            given: Vec::new(),
+        });
+        let history = vec![
+            step.clone(),
+            Made::List(QUIET, list(10..20)),
+            Made::List(QUIET, list(0..300)),
+            step,
+        ];
+        let has_seven = |made: &Made| match made {
+            Made::List(_, list) => list.items[..list.lengths[0]].contains(&(7, 1)),
+            Made::Step(_) => false,
+        };
+        let differs = |history: &[Made]| {
+            let place = history.iter().position(has_seven);
+            place.map(|place| (place, String::new()))
+        };
+        match &shrunk(history, differs)[..] {
+            [Made::List(_, left)] => assert_eq!(*left, list(7..8)),
+            other => panic!("{other:?}"),
+        }
     }
 }

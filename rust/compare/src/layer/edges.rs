@@ -107,7 +107,7 @@ fn some_id(rng: &mut Rng, table: &Table) -> Option<usize> {
 }
 
 /// A question of any kind is open, as a call leaves it.
-pub(super) fn ask(rng: &mut Rng, table: &mut Table) {
+pub fn ask(rng: &mut Rng, table: &mut Table) {
     let idle = State {
         count: table.state.count,
         mark: table.state.mark,

@@ -86,9 +86,9 @@ impl Player {
 /// Mostly few, since every item is compared; now and then as many as there may be, or one more.
 fn any_length(rng: &mut Rng) -> usize {
     match rng.below(2_000) {
-        0 => 32_768,
-        1 => 32_769,
-        2..=39 => rng.between(100, 400) as usize,
+        0 | 1 => 32_768,
+        2 => 32_769,
+        3..=39 => rng.between(100, 400) as usize,
         40..=99 => 0,
         100..=299 => 1,
         300..=499 => rng.between(9, 40) as usize,

@@ -1,15 +1,18 @@
 //! Lends random and damaged tables, states and numbers to every exported function. Nothing may
-//! crash; what lies around the lent slices stays; refusal 1 comes exactly where document 01 says and
-//! leaves every byte; other refusals leave what they should; sound tables stay sound; a record's flag,
-//! which may be any number, is on unless it is 0. A join, and a call with a negative delay, does what document
-//! 02 says, whatever the tables are.
+//! crash; what lies around the lent slices stays; refusal 1 comes exactly where document 01 says
+//! and leaves every byte; other refusals leave what they should; sound tables stay sound; a
+//! record's flag, which may be any number, is on unless it is 0. A join, a list, and a call with a
+//! negative delay, does what document 02 says, whatever the tables are; the lists' slices end, or
+//! begin, where no memory is.
 //!
 //! Run it under valgrind by
 //! `cargo build --release --bin fuzz && valgrind --error-exitcode=1 target/release/fuzz --calls 3000`.
 
 mod fenced;
 mod join;
+mod list;
 mod never;
+mod pages;
 mod wild;
 
 use compare_common::functions::FUNCTIONS;
@@ -31,12 +34,14 @@ fn main() -> ExitCode {
     println!("seed {seed}");
     let mut rng = Rng::new(seed);
     let mut join_rng = Rng::new(seed);
+    let mut list_rng = Rng::new(seed);
     let mut fuzz = Fuzz::default();
     for n in 0..calls {
         fuzz.layer(&mut rng);
         if n % 8 == 0 {
             fuzz.pool(&mut rng);
             fuzz.join(&mut join_rng);
+            fuzz.list(&mut list_rng);
         }
         fuzz.numbers(&mut rng);
     }
@@ -45,10 +50,12 @@ fn main() -> ExitCode {
     println!("layer calls with a flag above 1: {}", fuzz.above_one);
     fuzz.never.print();
     println!("joins by number: {}", by_number(&fuzz.joins));
+    fuzz.lists.print();
     println!(
-        "fuzzed: {} layer calls, {} joins, {} pool calls, {} calls on numbers, {} faults",
+        "fuzzed: {} layer calls, {} joins, {} lists, {} pool calls, {} calls on numbers, {} faults",
         fuzz.asked + fuzz.numbers.iter().sum::<u64>(),
         fuzz.joins.iter().sum::<u64>(),
+        fuzz.lists.made(),
         fuzz.pool_calls,
         fuzz.number_calls,
         fuzz.faults
@@ -67,6 +74,7 @@ struct Fuzz {
     /// Two sound tables without a question, for the next join.
     both: Option<[plain::Table; 2]>,
     joins: [u64; NUMBERS],
+    lists: list::Lists,
     pool_calls: u64,
     number_calls: u64,
     faults: u64,

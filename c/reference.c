@@ -327,33 +327,67 @@ struct sirqobal_reply reference_chunk_alloc_n(LENT, int32_t id, size_t n)
 
 /* ---- releases */
 
+/* A release behind rows 1 and 2: its number, 0 if it is granted. It is inlined, so that a single release does not cost a
+ * call more because a list shares it. */
+__attribute__((always_inline)) static inline uint32_t release(struct sirqobal_arena *records, uint32_t *stamps,
+                                                              size_t count, uint64_t ns, int64_t delay,
+                                                              uint64_t address, size_t n, int32_t told, bool pending)
+{
+    if (n == 0)
+        return SIRQOBAL_ZERO;
+    size_t id = find_arena(records, count, address);
+    if (id == NONE)
+        return SIRQOBAL_NOT_INSIDE;
+    struct sirqobal_arena *arena = &records[id];
+    if ((address - arena->base) % S != 0)
+        return SIRQOBAL_NOT_WHOLE;
+    size_t start = (address - arena->base) / S;
+    if (n > arena->chunks - start)
+        return SIRQOBAL_PAST_END;
+
+    write_run(arena->used, start, n, false);
+    if (told >= 0)
+        write_run(arena->committed, start, n, told > 0);
+    if (pending && !never_purges(delay)) {
+        uint32_t now = now_ms(ns);
+        for (size_t j = 0; j < n; j++)
+            stamps[MAX_CHUNKS * id + start + j] = now;
+        write_run(arena->pending, start, n, true);
+        arm(arena, now + delay_ms(delay));
+    }
+    return SIRQOBAL_GRANTED;
+}
+
 struct sirqobal_reply reference_chunk_release(LENT, uint64_t address, size_t n, int32_t told, bool pending)
 {
     uint32_t number = turned_down(records, record_count, stamp_count, &state, settings.page);
     if (number != 0)
         return refuse(number, state);
-    if (n == 0)
-        return refuse(SIRQOBAL_ZERO, state);
-    size_t id = find_arena(records, state.count, address);
-    if (id == NONE)
-        return refuse(SIRQOBAL_NOT_INSIDE, state);
-    struct sirqobal_arena *arena = &records[id];
-    if ((address - arena->base) % S != 0)
-        return refuse(SIRQOBAL_NOT_WHOLE, state);
-    size_t start = (address - arena->base) / S;
-    if (n > arena->chunks - start)
-        return refuse(SIRQOBAL_PAST_END, state);
+    number = release(records, stamps, state.count, ns, settings.delay, address, n, told, pending);
+    if (number != 0)
+        return refuse(number, state);
+    return (struct sirqobal_reply){.state = state};
+}
 
-    write_run(arena->used, start, n, false);
-    if (told >= 0)
-        write_run(arena->committed, start, n, told > 0);
-    if (pending && !never_purges(settings.delay)) {
-        uint32_t now = now_ms(ns);
-        for (size_t j = 0; j < n; j++)
-            stamps[MAX_CHUNKS * id + start + j] = now;
-        write_run(arena->pending, start, n, true);
-        arm(arena, now + delay_ms(settings.delay));
-    }
+/* ---- a list of releases: 1 and 2, then "19 when the three lengths differ or pass 32,768", then release after release.
+ * Row 1 is looked at once: a release keeps a sound table sound. */
+
+#define LIST_LENGTH 19
+#define LONGEST_LIST 32768
+
+struct sirqobal_reply reference_chunk_release_list(struct sirqobal_arena *records, size_t record_count, uint32_t *stamps,
+                                                   size_t stamp_count, const uint64_t *addresses, size_t address_count,
+                                                   const uint32_t *counts, size_t count_count, uint32_t *answers,
+                                                   size_t answer_count, struct sirqobal_state state, uint64_t ns,
+                                                   struct sirqobal_settings settings, bool pending)
+{
+    uint32_t number = turned_down(records, record_count, stamp_count, &state, settings.page);
+    if (number != 0)
+        return refuse(number, state);
+    if (count_count != address_count || answer_count != address_count || address_count > LONGEST_LIST)
+        return refuse(LIST_LENGTH, state);
+    for (size_t i = 0; i < address_count; i++)
+        answers[i] = release(records, stamps, state.count, ns, settings.delay, addresses[i], counts[i], -1, pending);
     return (struct sirqobal_reply){.state = state};
 }
 

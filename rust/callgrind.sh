@@ -1,7 +1,8 @@
 #!/usr/bin/env bash
 # Instructions per operation of each row of `bench`, on each side, as callgrind counts them: the difference of
 # two runs with another number of operations, so that what is done once cancels out.
-# Usage: rust/callgrind.sh [TABLE [SEED]]    (table 1: slice pool, 2: arena layer, the default, 3: joins, 4: never)
+# Usage: rust/callgrind.sh [TABLE [SEED]]
+# (table 1: slice pool, 2: arena layer, the default, 3: joins, 4: never, 5: lists)
 set -euo pipefail
 cd "$(dirname "$0")"
 cargo build --offline --release --quiet --bin bench
@@ -10,6 +11,7 @@ seed=${2:-20261115}
 names=(ours Rust C)
 [ "$table" != 1 ] || names=(ours Rust) # the reference in C has no slice pool
 [ "$table" != 4 ] || names=(ours C)    # the original has no such sweep
+[ "$table" != 5 ] || names=(ours each Rust C)
 only=()
 # The original has no join. Setting the tables back before each is not counted; every step of a repeated string
 # instruction, as memset uses it, is.

@@ -3,7 +3,7 @@
 
 use super::plain::Table;
 use super::Moment;
-use sirqobal::lent::{Arena, Call, JoinReply, Reply, Settings, State};
+use sirqobal::lent::{self, Arena, Call, Items, JoinReply, Reply, Settings, State};
 
 /// Declares calls of the reference, all of which begin with what is lent and carried.
 macro_rules! calls {
@@ -49,6 +49,46 @@ extern "C" {
         ns: u64,
         settings: Settings,
     ) -> JoinReply;
+    fn reference_chunk_release_list(
+        records: *mut Arena,
+        record_count: usize,
+        stamps: *mut u32,
+        stamp_count: usize,
+        addresses: *const u64,
+        address_count: usize,
+        counts: *const u32,
+        count_count: usize,
+        answers: *mut u32,
+        answer_count: usize,
+        state: State,
+        ns: u64,
+        settings: Settings,
+        pending: bool,
+    ) -> Reply;
+}
+
+/// Makes a list of releases, as `lists::by_ours` does by ours.
+pub fn list(table: lent::Table<'_>, items: Items<'_>, moment: Moment, pending: bool) -> Reply {
+    // SAFETY: pointers and lengths are those of five slices, lent for the call; with other lengths
+    // than a table's, or lists of several lengths, the reference looks at nothing of them.
+    unsafe {
+        reference_chunk_release_list(
+            table.records.as_mut_ptr(),
+            table.records.len(),
+            table.stamps.as_mut_ptr(),
+            table.stamps.len(),
+            items.addresses.as_ptr(),
+            items.addresses.len(),
+            items.counts.as_ptr(),
+            items.counts.len(),
+            items.answers.as_mut_ptr(),
+            items.answers.len(),
+            table.state,
+            moment.ns,
+            moment.settings(),
+            pending,
+        )
+    }
 }
 
 /// Joins two tables, as `Table::join` does by ours.
@@ -137,11 +177,12 @@ pub fn call(
 mod tests {
     use super::*;
     use crate::layer::draw::Player;
+    use crate::layer::lists;
     use crate::layer::never::speaks_of;
     use crate::layer::{edges, inside, CHUNK};
     use crate::rng::Rng;
     use crate::SEED;
-    use sirqobal::lent::{self, RECORDS};
+    use sirqobal::lent::RECORDS;
     use sirqobal::Layer;
     use std::collections::BTreeSet;
 
@@ -280,5 +321,35 @@ mod tests {
             numbers.insert(c.0.number);
         }
         assert_eq!(numbers, BTreeSet::from([0, 1, 2, 17, 18]));
+    }
+
+    #[test]
+    fn lists_as_ours_does() {
+        let mut rng = Rng::new(SEED);
+        let mut numbers = BTreeSet::new();
+        for _ in 0..1_000 {
+            let mut player = Player::new(&mut rng);
+            let mut moment = player.next_moment(&mut rng);
+            let layer = start(&mut rng, &player);
+            let list = player.list(&mut rng, &layer);
+            let mut lent = Table::of(&layer);
+            match rng.below(10) {
+                0 => lent.damage(&mut rng),
+                1 => edges::ask(&mut rng, &mut lent),
+                2 => moment.delay = -1,
+                _ => {}
+            }
+            let [c, ours] = [super::list, lists::by_ours].map(|side| {
+                let mut table = lent.clone();
+                let made = lists::make(side, &mut table, moment, &list);
+                (made.expect("nothing beside it"), table)
+            });
+            assert_eq!(c.0, ours.0);
+            assert!(c.1 == ours.1, "the tables differ after {list:?}");
+            numbers.insert(c.0 .0.number);
+            numbers.extend(c.0 .1);
+        }
+        let all = [0, 1, 2, 4, 7, 8, 9, 19, lists::UNWRITTEN];
+        assert_eq!(numbers, BTreeSet::from(all));
     }
 }

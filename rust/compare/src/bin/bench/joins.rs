@@ -51,7 +51,7 @@ impl Case for Row {
         let make = match side {
             Side::Ours => OURS,
             Side::C => C,
-            Side::Rust => unreachable!("the original has no join"),
+            Side::Rust | Side::Each => unreachable!("nobody else has a join"),
         };
         let (mut first, mut second) = (self.first.clone(), self.second.clone());
         let mut spent = Duration::ZERO;

@@ -120,6 +120,7 @@ impl Case for Row {
                 self.time(times, || self.rust())
             }
             Side::C => self.time_lent(C, times),
+            Side::Each => unreachable!("these are single calls"),
         };
         (spent, times * each)
     }
@@ -299,7 +300,7 @@ impl Lent {
 const BASE: u64 = 1 << 40;
 
 /// The base of the arena with this id in the tables here.
-fn base(id: usize) -> u64 {
+pub fn base(id: usize) -> u64 {
     BASE + id as u64 * 2_048 * CHUNK
 }
 

@@ -2,13 +2,15 @@
 //! call it, the original called directly, and for the layer the reference in plain C, called as ours
 //! is. A number is the smallest of the means of several rounds; the rounds of the sides take turns.
 //!
-//! `--table T` prints only the slice pool's table (1), the layer's (2), the joins' (3), or that of sweeps
-//! with a negative delay (4); the original has neither of the last two. With `--row R --side S --times N`
-//! it makes only the operations of one row, N times, on the side of that column, and times nothing: for
+//! `--table T` prints only the slice pool's table (1), the layer's (2), the joins' (3), that of sweeps
+//! with a negative delay (4), or that of lists of releases (5); the original has none of the last
+//! three, but beside a list are as many single releases. With `--row R --side S --times N` it makes
+//! only the operations of one row, N times, on the side of that column, and times nothing: for
 //! counting instructions (rust/callgrind.sh).
 
 mod joins;
 mod layer;
+mod lists;
 mod pool;
 
 use compare_common::rng::Rng;
@@ -25,6 +27,8 @@ const ROUND: Duration = Duration::from_micros(400);
 #[derive(Clone, Copy, PartialEq, Eq)]
 pub enum Side {
     Ours,
+    /// Each by a single call of ours, where ours is one call for all.
+    Each,
     Rust,
     /// The reference in plain C.
     C,
@@ -34,6 +38,7 @@ impl Side {
     fn name(self) -> &'static str {
         match self {
             Side::Ours => "ours",
+            Side::Each => "each",
             Side::Rust => "Rust",
             Side::C => "C",
         }
@@ -45,6 +50,10 @@ pub trait Case {
     fn name(&self) -> String;
     /// Slices, chunks or arenas of an operation, and its first answer.
     fn detail(&self) -> [String; 2];
+    /// What one operation is made of, and of how many: a line of its own has the time of each.
+    fn parts(&self) -> Option<(&'static str, usize)> {
+        None
+    }
     /// Panics if the sides give other answers or leave other states: nobody is timed at wrong work.
     fn check(&self);
     /// Sets the state, untimed, and makes at least so many operations. The time and their number.
@@ -59,7 +68,7 @@ struct Table {
     cases: fn(&mut Rng) -> Vec<Box<dyn Case>>,
 }
 
-const TABLES: [Table; 4] = [
+const TABLES: [Table; 5] = [
     Table {
         title: "Slice pool",
         sides: &[Side::Ours, Side::Rust],
@@ -79,6 +88,11 @@ const TABLES: [Table; 4] = [
         title: "Sweeps with a negative delay",
         sides: &[Side::Ours, Side::C],
         cases: layer::never_cases,
+    },
+    Table {
+        title: "Lists of releases; each: by as many single releases of ours",
+        sides: &[Side::Ours, Side::Each, Side::Rust, Side::C],
+        cases: lists::cases,
     },
 ];
 
@@ -125,13 +139,22 @@ fn time(case: &dyn Case, sides: &[Side]) {
             *best = best.min(spent.as_nanos() as f64 / operations as f64);
         }
     }
-    let ratios = best[1..].iter().map(|other| best[0] / other);
-    let numbers = best.iter().copied().chain(ratios);
     let [n, answer] = case.detail();
+    print_times(&case.name(), &n, &answer, &best);
+    if let Some((name, parts)) = case.parts() {
+        let each: Vec<f64> = best.iter().map(|time| time / parts as f64).collect();
+        print_times(name, &n, "", &each);
+    }
+}
+
+/// The times of the sides, then ours over each other one.
+fn print_times(name: &str, n: &str, answer: &str, times: &[f64]) {
+    let ratios = times[1..].iter().map(|other| times[0] / other);
+    let numbers = times.iter().copied().chain(ratios);
     print(
-        &case.name(),
-        &n,
-        &answer,
+        name,
+        n,
+        answer,
         numbers.map(|number| format!("{number:.2}")),
     );
 }

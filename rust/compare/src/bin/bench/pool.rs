@@ -98,7 +98,7 @@ impl Case for Row {
         match side {
             Side::Ours => self.run_on(&mut SlicePool::new(), times),
             Side::Rust => self.run_on(&mut Rust, times),
-            Side::C => unreachable!("the reference has no slice pool"),
+            Side::C | Side::Each => unreachable!("the reference has no slice pool"),
         }
     }
 }

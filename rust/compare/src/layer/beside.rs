@@ -6,7 +6,7 @@
 use super::counts::Counts;
 use super::draw::{turn, Player, Tried};
 use super::joined::{self, Joined, Said};
-use super::lists::{self, List};
+use super::lists;
 use super::pair::Pair;
 use super::plain::Table;
 use super::smallest::{smallest, smallest_join};
@@ -175,7 +175,7 @@ impl Beside {
     fn list_on_copy(&mut self, rng: &mut Rng, counts: &mut Counts) -> Result<(), String> {
         let moment = self.moment(rng, self.at);
         let one = &self.layers[self.at];
-        let list: List = one.player.list(rng, one.ours());
+        let list = one.player.list(rng, one.ours());
         let mut copy = Table::of(one.ours());
         if rng.percent(60) {
             edges::ask(rng, &mut copy);

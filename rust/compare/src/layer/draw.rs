@@ -513,8 +513,8 @@ struct Drawn<'a> {
 }
 
 impl Drawn<'_> {
-    /// Whether a join or a list is tried here. Purges are asked most often by far.
-    fn tries(&mut self, ask: Ask) -> bool {
+    /// Whether a join or a list comes here. Purges are asked most often by far.
+    fn comes(&mut self, ask: Ask) -> bool {
         let one_of = match ask {
             Ask::Purge { .. } => 1_000,
             _ => 100,
@@ -524,7 +524,7 @@ impl Drawn<'_> {
 
     /// A join with another layer, which asks nothing.
     fn join(&mut self, ask: Ask) -> Option<Meanwhile> {
-        if self.tried.joins.is_empty() || !self.tries(ask) {
+        if self.tried.joins.is_empty() || !self.comes(ask) {
             return None;
         }
         let other = Other {
@@ -536,7 +536,7 @@ impl Drawn<'_> {
     }
 
     fn list(&mut self, layer: &Layer, ask: Ask) -> Option<Meanwhile> {
-        if !self.tried.lists || !self.tries(ask) {
+        if !self.tried.lists || !self.comes(ask) {
             return None;
         }
         let moment = self.moment();

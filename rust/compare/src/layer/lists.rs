@@ -8,10 +8,11 @@ use super::joined::differing;
 use super::plain::Table;
 use super::Moment;
 use sirqobal::lent::{self, Call, Items, Reply, State};
+use std::fmt;
 
 /// The lists of a call. More items stand here than are lent: a list that goes on past its end meets
 /// them.
-#[derive(Clone, Debug, PartialEq)]
+#[derive(Clone, PartialEq)]
 pub struct List {
     /// Addresses and counts.
     pub items: Vec<(u64, u32)>,
@@ -35,6 +36,17 @@ impl List {
             told: -1,
             pending: self.pending,
         }
+    }
+}
+
+/// The first items; lists that show a difference are made short.
+impl fmt::Debug for List {
+    fn fmt(&self, f: &mut fmt::Formatter<'_>) -> fmt::Result {
+        let first = &self.items[..self.items.len().min(20)];
+        let List {
+            lengths, pending, ..
+        } = self;
+        write!(f, "list of {lengths:?}, pending {pending}: {first:?}")
     }
 }
 

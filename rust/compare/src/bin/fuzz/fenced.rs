@@ -72,7 +72,7 @@ impl Table {
         }
     }
 
-    pub fn for_join(&mut self) -> lent::Table<'_> {
+    pub fn for_call(&mut self) -> lent::Table<'_> {
         let state = self.state;
         let (records, stamps) = self.lent();
         lent::Table {

@@ -38,7 +38,7 @@ impl Fuzz {
         }
         let before = fenced.clone();
         let [first, second] = &mut fenced;
-        let reply = lent::join_tables(first.for_join(), second.for_join(), ns, settings);
+        let reply = lent::join_tables(first.for_call(), second.for_call(), ns, settings);
         (first.state, second.state) = (reply.first, reply.second);
         if let Err(what) = judge(&before, &fenced, settings.page, &reply) {
             let tables = before.each_ref().map(Table::plain);

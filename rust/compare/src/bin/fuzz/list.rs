@@ -9,13 +9,13 @@ use compare_common::layer::lists::{release_each, said, List, Said, UNWRITTEN};
 use compare_common::layer::{edges, Moment, QUIET};
 use compare_common::rng::Rng;
 use compare_common::{by_number, NUMBERS};
-use sirqobal::lent::{chunk_release_list, Items, Reply, LIST};
+use sirqobal::lent::{chunk_release_list, Items, Reply, Settings, LIST};
 
 /// The longest that is lent.
 const LONGEST: usize = LIST + 9;
 
-/// What lists were lent, and what they answered.
-pub struct Lists {
+/// What lists are lent, and how often each number was answered.
+pub struct Slices {
     /// A sound table without a question, for the next list.
     table: Option<Table>,
     addresses: Pages<u64>,
@@ -25,9 +25,9 @@ pub struct Lists {
     items: [u64; NUMBERS],
 }
 
-impl Default for Lists {
-    fn default() -> Lists {
-        Lists {
+impl Default for Slices {
+    fn default() -> Slices {
+        Slices {
             table: None,
             addresses: Pages::new(LONGEST),
             counts: Pages::new(LONGEST),
@@ -38,7 +38,7 @@ impl Default for Lists {
     }
 }
 
-impl Lists {
+impl Slices {
     pub fn made(&self) -> u64 {
         self.numbers.iter().sum()
     }
@@ -52,7 +52,7 @@ impl Lists {
     fn make(
         &mut self,
         table: &mut Table,
-        moment: Moment,
+        (ns, settings): (u64, Settings),
         list: &List,
         at_last: bool,
     ) -> Result<(Reply, Vec<u32>), String> {
@@ -67,13 +67,7 @@ impl Lists {
             counts: lent_counts,
             answers: &mut *answers,
         };
-        let reply = chunk_release_list(
-            table.for_join(),
-            items,
-            moment.ns,
-            moment.settings(),
-            list.pending,
-        );
+        let reply = chunk_release_list(table.for_call(), items, ns, settings, list.pending);
         table.state = reply.state;
         match lent_addresses == addresses && lent_counts == counts {
             true => Ok((reply, answers.to_vec())),
@@ -83,26 +77,16 @@ impl Lists {
 }
 
 impl Fuzz {
-    /// One list, on the table that the last one left or on another, which may be damaged or ask.
+    /// One list, on any table.
     pub fn list(&mut self, rng: &mut Rng) {
         let player = Player::new(rng);
-        let mut table = match self.lists.table.take() {
-            Some(table) if rng.percent(60) => table,
-            _ => Table::any(rng, &player),
-        };
-        if rng.percent(20) {
-            table.damage(rng);
-        }
-        if rng.percent(10) && !table.is_broken(QUIET.page) {
-            let mut asks = table.plain();
-            edges::ask(rng, &mut asks);
-            table = Table::of(&asks);
-        }
+        let mut table = self.table_for_list(rng, &player);
         let list = match rng.below(2) {
             0 => player.list(rng, &table.layer()),
             _ => wild_list(rng),
         };
         let (ns, settings) = wild_settings(rng, &player);
+        // The other settings decide nothing.
         let moment = Moment {
             ns,
             delay: settings.delay,
@@ -110,7 +94,8 @@ impl Fuzz {
             ..QUIET
         };
         let before = table.clone();
-        let made = self.lists.make(&mut table, moment, &list, rng.percent(50));
+        let at_last = rng.percent(50);
+        let made = self.lists.make(&mut table, (ns, settings), &list, at_last);
         let judged = made.and_then(|(reply, answers)| {
             judge(&before, &table, moment, &list, &reply, &answers).map(|said| (reply, said))
         });
@@ -123,13 +108,30 @@ impl Fuzz {
         }
     }
 
+    /// The table that the last list left, or another; it may be damaged, or ask.
+    fn table_for_list(&mut self, rng: &mut Rng, player: &Player) -> Table {
+        let mut table = match self.lists.table.take() {
+            Some(table) if rng.percent(60) => table,
+            _ => Table::any(rng, player),
+        };
+        if rng.percent(20) {
+            table.damage(rng);
+        }
+        if rng.percent(90) || table.is_broken(QUIET.page) {
+            return table;
+        }
+        let mut asks = table.plain();
+        edges::ask(rng, &mut asks);
+        Table::of(&asks)
+    }
+
     fn note_list(&mut self, number: u32, said: &Said, table: Table) {
         let lists = &mut self.lists;
         lists.numbers[number as usize] += 1;
         if let Said::Answered(numbers) = said {
-            numbers
-                .iter()
-                .for_each(|number| lists.items[*number as usize] += 1);
+            for number in numbers {
+                lists.items[*number as usize] += 1;
+            }
         }
         lists.table = matches!(number, 0 | 19).then_some(table);
     }

@@ -74,7 +74,7 @@ struct Fuzz {
     /// Two sound tables without a question, for the next join.
     both: Option<[plain::Table; 2]>,
     joins: [u64; NUMBERS],
-    lists: list::Lists,
+    lists: list::Slices,
     pool_calls: u64,
     number_calls: u64,
     faults: u64,

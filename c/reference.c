@@ -327,8 +327,8 @@ struct sirqobal_reply reference_chunk_alloc_n(LENT, int32_t id, size_t n)
 
 /* ---- releases */
 
-/* A release behind rows 1 and 2: its number, 0 if it is granted. It is inlined, so that a single release does not cost a
- * call more because a list shares it. */
+/* A release behind rows 1 and 2: its number, 0 if it is granted. It is inlined, so that a single release costs no call
+ * more because a list shares it. */
 __attribute__((always_inline)) static inline uint32_t release(struct sirqobal_arena *records, uint32_t *stamps,
                                                               size_t count, uint64_t ns, int64_t delay,
                                                               uint64_t address, size_t n, int32_t told, bool pending)
@@ -375,11 +375,11 @@ struct sirqobal_reply reference_chunk_release(LENT, uint64_t address, size_t n, 
 #define LIST_LENGTH 19
 #define LONGEST_LIST 32768
 
-struct sirqobal_reply reference_chunk_release_list(struct sirqobal_arena *records, size_t record_count, uint32_t *stamps,
-                                                   size_t stamp_count, const uint64_t *addresses, size_t address_count,
-                                                   const uint32_t *counts, size_t count_count, uint32_t *answers,
-                                                   size_t answer_count, struct sirqobal_state state, uint64_t ns,
-                                                   struct sirqobal_settings settings, bool pending)
+struct sirqobal_reply reference_chunk_release_list(struct sirqobal_arena *records, size_t record_count,
+                                                   uint32_t *stamps, size_t stamp_count, const uint64_t *addresses,
+                                                   size_t address_count, const uint32_t *counts, size_t count_count,
+                                                   uint32_t *answers, size_t answer_count, struct sirqobal_state state,
+                                                   uint64_t ns, struct sirqobal_settings settings, bool pending)
 {
     uint32_t number = turned_down(records, record_count, stamp_count, &state, settings.page);
     if (number != 0)

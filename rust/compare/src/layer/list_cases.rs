@@ -40,6 +40,29 @@ const LENGTHS: [[usize; 3]; 6] = [
     [32_769, 32_769, 32_769],
 ];
 
+/// Items of two arenas of 4 chunks each, the first at the base, and their numbers.
+const NUMBERED: [((u64, u32), u32); 19] = [
+    ((BASE, 1), 0),
+    ((BASE + 3 * CHUNK, 1), 0),
+    ((BASE, 4), 0),
+    ((BASE, 4), 0),
+    ((BASE + 4 * CHUNK, 4), 0),
+    ((BASE, 0), 4),
+    ((5, 0), 4),
+    ((BASE + 1, 0), 4),
+    ((BASE - 1, 1), 8),
+    ((BASE + 8 * CHUNK, 1), 8),
+    ((BASE + 8 * CHUNK + 1, u32::MAX), 8),
+    ((0, u32::MAX), 8),
+    ((u64::MAX, 1), 8),
+    ((BASE + 1, 1), 7),
+    ((BASE + CHUNK - 1, u32::MAX), 7),
+    ((BASE + 8 * CHUNK - 1, 9), 7),
+    ((BASE, 5), 9),
+    ((BASE + 3 * CHUNK, 2), 9),
+    ((BASE + 7 * CHUNK, u32::MAX), 9),
+];
+
 impl Cases {
     /// A list that is to be granted (0) or refused with this number.
     fn list(&mut self, what: &str, table: &Table, moment: Moment, list: &List, number: u32) {
@@ -122,29 +145,8 @@ impl Cases {
             (arena.used[0], arena.committed[0], arena.pending[0]) = (0b1011, 0b0110, 0b0011);
         }
         table.state.count = 2;
-        let numbered = [
-            ((BASE, 1), 0),
-            ((BASE + 3 * CHUNK, 1), 0),
-            ((BASE, 4), 0),
-            ((BASE, 4), 0),
-            ((BASE + 4 * CHUNK, 4), 0),
-            ((BASE, 0), 4),
-            ((5, 0), 4),
-            ((BASE + 1, 0), 4),
-            ((BASE - 1, 1), 8),
-            ((BASE + 8 * CHUNK, 1), 8),
-            ((BASE + 8 * CHUNK + 1, u32::MAX), 8),
-            ((0, u32::MAX), 8),
-            ((u64::MAX, 1), 8),
-            ((BASE + 1, 1), 7),
-            ((BASE + CHUNK - 1, u32::MAX), 7),
-            ((BASE + 8 * CHUNK - 1, 9), 7),
-            ((BASE, 5), 9),
-            ((BASE + 3 * CHUNK, 2), 9),
-            ((BASE + 7 * CHUNK, u32::MAX), 9),
-        ];
-        for turn in 0..numbered.len() {
-            let mut turned = numbered;
+        for turn in 0..NUMBERED.len() {
+            let mut turned = NUMBERED;
             turned.rotate_left(turn);
             for (pending, delay) in [(false, 5), (true, 5), (true, 0), (true, -1)] {
                 let list = List {

@@ -186,30 +186,29 @@ struct Run {
     end: usize,
 }
 
-/// Of the runs that are given back, and their arenas.
+/// Of the runs that are given back.
 fn granted(table: &Table, list: &List, numbers: &[u32]) -> States {
     let items = list.items.iter().zip(numbers);
     let granted = items.filter(|(_, number)| **number == 0);
     let runs = granted.filter_map(|(item, _)| run(table, *item));
     let runs: Vec<Run> = runs.take(LOOKED_AT).collect();
-    let arena = |run: &Run| &table.records[run.id];
+    [
+        meeting(&runs),
+        chunks(table, &runs),
+        arenas(table, &runs, list.pending),
+    ]
+    .concat()
+}
+
+/// Of the chunks, before they are given back.
+fn chunks(table: &Table, runs: &[Run]) -> States {
     let some = |map: fn(&Arena) -> &[u32; 32], on: bool| {
-        let holds = |run: &Run| (run.start..run.end).any(|chunk| bit(map(arena(run)), chunk) == on);
-        runs.iter().any(holds)
+        runs.iter().any(|run| {
+            let map = map(&table.records[run.id]);
+            (run.start..run.end).any(|chunk| bit(map, chunk) == on)
+        })
     };
-    let armed = |on: bool| {
-        let holds = |run: &Run| (arena(run).deadline != 0) == on;
-        list.pending && runs.iter().any(holds)
-    };
-    let mut states = vec![
-        (
-            "list: items of several arenas, granted",
-            runs.iter().any(|run| run.id != runs[0].id),
-        ),
-        (
-            "list: a run over a word border",
-            runs.iter().any(|run| run.start / 32 != (run.end - 1) / 32),
-        ),
+    vec![
         ("list: held chunks", some(|arena| &arena.used, true)),
         (
             "list: chunks that are not held",
@@ -224,11 +223,26 @@ fn granted(table: &Table, list: &List, numbers: &[u32]) -> States {
             "list: chunks that are not committed",
             some(|arena| &arena.committed, false),
         ),
+    ]
+}
+
+fn arenas(table: &Table, runs: &[Run], pending: bool) -> States {
+    let armed = |on: bool| {
+        let holds = |run: &Run| (table.records[run.id].deadline != 0) == on;
+        pending && runs.iter().any(holds)
+    };
+    vec![
+        (
+            "list: items of several arenas, granted",
+            runs.iter().any(|run| run.id != runs[0].id),
+        ),
+        (
+            "list: a run over a word border",
+            runs.iter().any(|run| run.start / 32 != (run.end - 1) / 32),
+        ),
         ("list: pending, an arena that is not armed", armed(false)),
         ("list: pending, an arena that is armed", armed(true)),
-    ];
-    states.extend(meeting(&runs));
-    states
+    ]
 }
 
 /// Whether some of the runs are the same, or share a chunk.

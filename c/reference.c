@@ -372,9 +372,6 @@ struct sirqobal_reply reference_chunk_release(LENT, uint64_t address, size_t n, 
 /* ---- a list of releases: 1 and 2, then "19 when the three lengths differ or pass 32,768", then release after release.
  * Row 1 is looked at once: a release keeps a sound table sound. */
 
-#define LIST_LENGTH 19
-#define LONGEST_LIST 32768
-
 struct sirqobal_reply reference_chunk_release_list(struct sirqobal_arena *records, size_t record_count,
                                                    uint32_t *stamps, size_t stamp_count, const uint64_t *addresses,
                                                    size_t address_count, const uint32_t *counts, size_t count_count,
@@ -384,8 +381,8 @@ struct sirqobal_reply reference_chunk_release_list(struct sirqobal_arena *record
     uint32_t number = turned_down(records, record_count, stamp_count, &state, settings.page);
     if (number != 0)
         return refuse(number, state);
-    if (count_count != address_count || answer_count != address_count || address_count > LONGEST_LIST)
-        return refuse(LIST_LENGTH, state);
+    if (count_count != address_count || answer_count != address_count || address_count > SIRQOBAL_LIST)
+        return refuse(SIRQOBAL_LIST_LENGTH, state);
     for (size_t i = 0; i < address_count; i++)
         answers[i] = release(records, stamps, state.count, ns, settings.delay, addresses[i], counts[i], -1, pending);
     return (struct sirqobal_reply){.state = state};

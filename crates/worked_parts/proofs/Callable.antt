@@ -1,6 +1,6 @@
--- Functions of `worked_parts` that a walk calls, each in one step: join-and-look-step, state-after-step, release-and-sweep-step. Written by tools/walks.
+-- Functions of `worked_parts` that a walk calls, each in one step: join-and-look-step, state-after-step, arena-at-step, list-and-look-as-mmssm, place-of-step, release-and-sweep-step. Written by tools/walks.
 -- Assumes `Given`, the callee's theorem, and that the table of calls is monotone under a frame.
-use Rattle.walks.proofs.Walking.{_≡_, refl, subst, Bool, ℕ, _<_, _^_, List, [], _∷_, length, w32, w64, Operand, Val, vint, vbool, Fits, toZ, URA, SProp, id⊢, Memory, Routine, Heap, Env, Calls, Atoms, Given, Item, Goal, Seq, ‵, _⊛_, Opds, Fun, bool, u32, u64, usize, i32, yes, Is, Ises, owns-make, uint-makes, bool-makes, plain, sint-makes, tripleOf, Contract, Triple, Loan, lent, sliceOf, signed, Site, plain-call, mut2-call}
+use Rattle.walks.proofs.Walking.{_≡_, refl, sym, _∙_, ap, subst, Bool, ℕ, _<_, _^_, List, [], _∷_, length, getD, w32, w64, Operand, Val, vint, vbool, Fits, toZ, URA, SProp, id⊢, Memory, Routine, Heap, Env, Calls, Atoms, Given, Item, Goal, Seq, ‵, _⊛_, Opds, Fun, bool, u32, u64, usize, i32, yes, Is, Ises, owns-make, uint-makes, bool-makes, plain, sint-makes, only, tripleOf, Contract, Triple, Loan, lent, shared, sliceOf, signed, Site, plain-call, shr-call, mut2-call}
 use Rattle.worked_parts.proofs.joins.Side as T-Side
 use Rattle.worked_parts.proofs.joins.Side.Laws as L-Side
 use denote.Struct.Laws as LL
@@ -12,6 +12,7 @@ use Rattle.layer.proofs.Reply as T-Reply
 use Rattle.layer.proofs.Reply.Laws as L-Reply
 use Rattle.layer.proofs.State as T-State
 use Rattle.layer.proofs.State.Laws as L-State
+use Rattle.worked_parts.proofs.lists.Listed as T-Listed
 use Rattle.arena.proofs.Commitment as T-Commitment
 use Rattle.arena.proofs.Commitment.Laws as L-Commitment
 use denote.Enum.Laws as EL
@@ -24,6 +25,10 @@ use Rattle.layer.specs.World.{worldOf}
 use Rattle.worked_parts.specs.Joins.{joinOf, seenAfter}
 use Rattle.layer.specs.declared.Reply.{Reply}
 use Rattle.layer.specs.declared.State.{State}
+use Rattle.layer.specs.Table.{at}
+use Rattle.worked_parts.specs.declared.lists.Listed.{Listed}
+use Rattle.layer.specs.Listing.{items}
+use Rattle.worked_parts.specs.Lists.{listIn, listedAfter}
 use Rattle.arena.specs.declared.Commitment.{Commitment}
 use Rattle.worked_parts.specs.declared.never.Left.{Left}
 use Rattle.worked_parts.specs.Never.{releasedIn, leftAfter}
@@ -31,9 +36,16 @@ use Rattle.worked_parts.proofs.joins.join_and_look as join-and-look′
 use Rattle.worked_parts.proofs.joins.join_and_look.Symbol.{name as #worked-parts·joins·join-and-look}
 use Rattle.worked_parts.proofs.joins.state_after as state-after′
 use Rattle.worked_parts.proofs.joins.state_after.Symbol.{name as #worked-parts·joins·state-after}
+use Rattle.worked_parts.proofs.lists.arena_at as arena-at′
+use Rattle.worked_parts.proofs.lists.arena_at.Symbol.{name as #worked-parts·lists·arena-at}
+use Rattle.worked_parts.proofs.lists.list_and_look as list-and-look′
+use Rattle.worked_parts.proofs.lists.list_and_look.Symbol.{name as #worked-parts·lists·list-and-look}
+use Rattle.worked_parts.proofs.lists.place_of as place-of′
+use Rattle.worked_parts.proofs.lists.place_of.Symbol.{name as #worked-parts·lists·place-of}
 use Rattle.worked_parts.proofs.never.release_and_sweep as release-and-sweep′
 use Rattle.worked_parts.proofs.never.release_and_sweep.Symbol.{name as #worked-parts·never·release-and-sweep}
 use Rattle.walks.proofs.ShapeMmmm.{mmmm-call}
+use Rattle.walks.proofs.ShapeMmssm.{mmssm-call}
 
 -- the contracts that a walk cites
 module _ {M : Type 1} (𝓤 : URA M) (H : Heap 𝓤) (A : Atoms 𝓤) (mem : Memory → SProp 𝓤) (run : Routine → Fun 𝓤) where
@@ -42,6 +54,15 @@ module _ {M : Type 1} (𝓤 : URA M) (H : Heap 𝓤) (A : Atoms 𝓤) (mem : Mem
 
   abbrev pub StateAfterSpec : Contract 𝓤
   StateAfterSpec = tripleOf 𝓤 H A state-after′.signature (state-after′.spec 𝓤 H A mem run)
+
+  abbrev pub ArenaAtSpec : Contract 𝓤
+  ArenaAtSpec = tripleOf 𝓤 H A arena-at′.signature (arena-at′.spec 𝓤 H A mem run)
+
+  abbrev pub ListAndLookSpec : Contract 𝓤
+  ListAndLookSpec = tripleOf 𝓤 H A list-and-look′.signature (list-and-look′.spec 𝓤 H A mem run)
+
+  abbrev pub PlaceOfSpec : Contract 𝓤
+  PlaceOfSpec = tripleOf 𝓤 H A place-of′.signature (place-of′.spec 𝓤 H A mem run)
 
   abbrev pub ReleaseAndSweepSpec : Contract 𝓤
   ReleaseAndSweepSpec = tripleOf 𝓤 H A release-and-sweep′.signature (release-and-sweep′.spec 𝓤 H A mem run)
@@ -66,6 +87,36 @@ module _ {M : Type 1} {𝓤 : URA M} {H : Heap 𝓤} {A : Atoms 𝓤} {K : Type 
       plain-call bang site T-State.the-row (plain (λ _. T-Reply.the-row) ∷ []) (yes, tt) (state-after′.clauses 𝓤 H A mem run) known (r, tt) (v-r ∷ [], tt)
       (owns-make 𝓤 H A (T-Reply.the-row ∷ []) (Ises (T-Reply.the-row ∷ [])) (LL.makes T-Reply.the-type L-Reply.the-plain 𝓤 H A, tt) (r, tt) (v-r ∷ [], tt) (g-r, tt)) tt (id⊢ 𝓤 _)
       (λ out. out ≡ r .state) (λ out ws. id⊢ 𝓤 _) ops (λ val′ out rel′ eq′. then′ val′ (subst (λ (obj′ : State). Is T-State.the-row obj′ (val′ ∷ [])) eq′ rel′))
+
+  pub arena-at-step : K → Site K W Γ C E #worked-parts·lists·arena-at xs G after → (mem : Memory → SProp 𝓤) (run : Routine → Fun 𝓤) → Triple 𝓤 (C #worked-parts·lists·arena-at) (ArenaAtSpec 𝓤 H A mem run)
+      → (L-records : Loan) (records : List Arena) → (id : ℕ) → id < 2 ^ 64
+      → ((hd′ : Item 𝓤) → Opds K W (hd′ ∷ Γ) E xs (sliceOf L-records ∷ vint w64 id ∷ []))
+      → ((val′ : Val) → Is T-Arena.the-row (at records id) (val′ ∷ []) → Seq K W ((‵ (lent T-Arena.the-row L-records records) ⊛ more) ∷ Γ) (after val′))
+      → Seq K W ((‵ (lent T-Arena.the-row L-records records) ⊛ more) ∷ Γ) G
+  arena-at-step bang site mem run known L-records records id f-id ops then′ =
+      shr-call bang site T-Arena.the-row L-records T-Arena.the-row (plain (λ _. usize) ∷ []) (yes, tt) (arena-at′.clauses 𝓤 H A mem run) known records (λ _. (id, tt)) (λ _. (vint w64 id ∷ [], tt))
+      (λ _. owns-make 𝓤 H A (usize ∷ []) (Ises (usize ∷ [])) (uint-makes 𝓤 H A W w64, tt) (id, tt) (vint w64 id ∷ [], tt) ((refl, f-id), tt)) (λ _ _. tt) (λ _ _. id⊢ 𝓤 _)
+      (λ out. out ≡ at records id) (λ _ _ out ws. id⊢ 𝓤 _) (λ hd′ _. ops hd′) (λ val′ out rel′ eq′. then′ val′ (subst (λ (obj′ : Arena). Is T-Arena.the-row obj′ (val′ ∷ [])) eq′ rel′))
+
+  pub list-and-look-as-mmssm : K → Site K W Γ C E #worked-parts·lists·list-and-look xs G after → (mem : Memory → SProp 𝓤) (run : Routine → Fun 𝓤) → Triple 𝓤 (C #worked-parts·lists·list-and-look) (ListAndLookSpec 𝓤 H A mem run)
+      → (L-records : Loan) (records : List Arena) → (L-stamps : Loan) (stamps : List ℕ) → (L-addresses : Loan) (addresses : List ℕ) → (L-counts : Loan) (counts : List ℕ) → (L-answers : Loan) (answers : List ℕ) → (state : State) (v-state : Val) → Is T-State.the-row state (v-state ∷ []) → (ns : ℕ) → ns < 2 ^ 64 → (settings : Settings) (v-settings : Val) → Is T-Settings.the-row settings (v-settings ∷ []) → (block : ℕ) → block < 2 ^ 64 → (pending : Bool) → (chunk : ℕ) → chunk < 2 ^ 64
+      → ((hd′ : Item 𝓤) → Opds K W (hd′ ∷ Γ) E xs (sliceOf L-records ∷ sliceOf L-stamps ∷ sliceOf L-addresses ∷ sliceOf L-counts ∷ sliceOf L-answers ∷ v-state ∷ vint w64 ns ∷ v-settings ∷ vint w64 block ∷ vbool pending ∷ vint w64 chunk ∷ []))
+      → ((val′ : Val) (out : Listed) (records-exit : List Arena) (stamps-exit : List ℕ) (answers-exit : List ℕ) → Is T-Listed.the-row out (val′ ∷ []) → out ≡ listedAfter (listIn (worldOf records stamps state) ns settings block (items addresses counts answers pending)) chunk → length records-exit ≡ length records → length stamps-exit ≡ length stamps → length answers-exit ≡ length answers → Seq K W ((‵ (lent T-Arena.the-row L-records records-exit) ⊛ (‵ (lent u32 L-stamps stamps-exit) ⊛ (‵ (shared u64 L-addresses addresses) ⊛ (‵ (shared u32 L-counts counts) ⊛ (‵ (lent u32 L-answers answers-exit) ⊛ more))))) ∷ Γ) (after val′))
+      → Seq K W ((‵ (lent T-Arena.the-row L-records records) ⊛ (‵ (lent u32 L-stamps stamps) ⊛ (‵ (shared u64 L-addresses addresses) ⊛ (‵ (shared u32 L-counts counts) ⊛ (‵ (lent u32 L-answers answers) ⊛ more))))) ∷ Γ) G
+  list-and-look-as-mmssm bang site mem run known L-records records L-stamps stamps L-addresses addresses L-counts counts L-answers answers state v-state g-state ns f-ns settings v-settings g-settings block f-block pending chunk f-chunk ops then′ =
+      mmssm-call bang site T-Arena.the-row u32 u64 u32 u32 L-records L-stamps L-addresses L-counts L-answers T-Listed.the-row (plain (λ _. T-State.the-row) ∷ plain (λ _. u64) ∷ plain (λ _. T-Settings.the-row) ∷ plain (λ _. u64) ∷ plain (λ _. bool) ∷ plain (λ _. usize) ∷ []) (yes, (yes, (yes, (yes, (yes, (yes, tt)))))) (list-and-look′.clauses 𝓤 H A mem run) known records stamps addresses counts answers (λ _. (state, (ns, (settings, (block, (pending, (chunk, tt))))))) (λ _. (v-state ∷ [], (vint w64 ns ∷ [], (v-settings ∷ [], (vint w64 block ∷ [], (vbool pending ∷ [], (vint w64 chunk ∷ [], tt)))))))
+      (λ _. owns-make 𝓤 H A (T-State.the-row ∷ u64 ∷ T-Settings.the-row ∷ u64 ∷ bool ∷ usize ∷ []) (Ises (T-State.the-row ∷ u64 ∷ T-Settings.the-row ∷ u64 ∷ bool ∷ usize ∷ [])) (LL.makes T-State.the-type L-State.the-plain 𝓤 H A, (uint-makes 𝓤 H A W w64, (LL.makes T-Settings.the-type L-Settings.the-plain 𝓤 H A, (uint-makes 𝓤 H A W w64, (bool-makes 𝓤 H A W, (uint-makes 𝓤 H A W w64, tt)))))) (state, (ns, (settings, (block, (pending, (chunk, tt)))))) (v-state ∷ [], (vint w64 ns ∷ [], (v-settings ∷ [], (vint w64 block ∷ [], (vbool pending ∷ [], (vint w64 chunk ∷ [], tt)))))) (g-state, ((refl, f-ns), (g-settings, ((refl, f-block), (refl, ((refl, f-chunk), tt))))))) (λ _ _ _ _. tt) (λ _ _ _ _. id⊢ 𝓤 _)
+      (λ out records-exit stamps-exit answers-exit. out ≡ listedAfter (listIn (worldOf records stamps state) ns settings block (items addresses counts answers pending)) chunk) (λ _ _ _ _ out ws. id⊢ 𝓤 _) (λ hd′ _. ops hd′) (λ val′ out records-exit stamps-exit answers-exit rel′ eq′ l-records l-stamps l-answers. then′ val′ out records-exit stamps-exit answers-exit rel′ eq′ l-records l-stamps l-answers)
+
+  pub place-of-step : K → Site K W Γ C E #worked-parts·lists·place-of xs G after → (mem : Memory → SProp 𝓤) (run : Routine → Fun 𝓤) → Triple 𝓤 (C #worked-parts·lists·place-of) (PlaceOfSpec 𝓤 H A mem run)
+      → (L-list : Loan) (list : List ℕ) → (i : ℕ) → i < 2 ^ 64
+      → ((hd′ : Item 𝓤) → Opds K W (hd′ ∷ Γ) E xs (sliceOf L-list ∷ vint w64 i ∷ []))
+      → ((getD list i 0) < 2 ^ 32 → Seq K W ((‵ (lent u32 L-list list) ⊛ more) ∷ Γ) (after (vint w32 (getD list i 0))))
+      → Seq K W ((‵ (lent u32 L-list list) ⊛ more) ∷ Γ) G
+  place-of-step bang site mem run known L-list list i f-i ops then′ =
+      shr-call bang site u32 L-list u32 (plain (λ _. usize) ∷ []) (yes, tt) (place-of′.clauses 𝓤 H A mem run) known list (λ _. (i, tt)) (λ _. (vint w64 i ∷ [], tt))
+      (λ _. owns-make 𝓤 H A (usize ∷ []) (Ises (usize ∷ [])) (uint-makes 𝓤 H A W w64, tt) (i, tt) (vint w64 i ∷ [], tt) ((refl, f-i), tt)) (λ _ _. tt) (λ _ _. id⊢ 𝓤 _)
+      (λ out. out ≡ getD list i 0) (λ _ _ out ws. id⊢ 𝓤 _) (λ hd′ _. ops hd′) (λ val′ out rel′ eq′. subst (λ (new′ : Val). Seq K W ((‵ (lent u32 L-list list) ⊛ more) ∷ Γ) (after new′)) (sym (ap only (rel′ .0) ∙ ap (vint w32) eq′)) (then′ (subst (λ (num′ : ℕ). num′ < 2 ^ 32) eq′ (rel′ .1))))
 
   pub release-and-sweep-step : K → Site K W Γ C E #worked-parts·never·release-and-sweep xs G after → (mem : Memory → SProp 𝓤) (run : Routine → Fun 𝓤) → Triple 𝓤 (C #worked-parts·never·release-and-sweep) (ReleaseAndSweepSpec 𝓤 H A mem run)
       → (L-records : Loan) (records : List Arena) → (L-stamps : Loan) (stamps : List ℕ) → (state : State) (v-state : Val) → Is T-State.the-row state (v-state ∷ []) → (ns : ℕ) → ns < 2 ^ 64 → (settings : Settings) (v-settings : Val) → Is T-Settings.the-row settings (v-settings ∷ []) → (address : ℕ) → address < 2 ^ 64 → (chunk : ℕ) → chunk < 2 ^ 64 → (told : Commitment) (v-told : Val) → Is T-Commitment.the-row told (v-told ∷ []) → (force : Bool)

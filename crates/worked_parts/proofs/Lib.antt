@@ -1,4 +1,5 @@
 pub mod JoinsLaws
+pub mod ListsLaws
 pub mod NeverLaws
 pub mod TallyLaws
 pub mod Callable

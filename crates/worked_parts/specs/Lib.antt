@@ -1,4 +1,5 @@
 pub mod Joins
+pub mod Lists
 pub mod Never
 pub mod Numbers
 pub mod Picture

@@ -1,9 +1,7 @@
 // One lent table: a chunk is released as pending, then the table is swept and the sweep is answered. Arena 0 is
 // looked at after the release and after the sweep.
 ghost use mathlib.Core.Path.{_≡_};
-ghost use lib.ListN.{getD};
 ghost use Rattle.layer.specs.World.{worldOf};
-ghost use Rattle.layer.specs.Table.{at};
 ghost use Rattle.worked_parts.specs.Never.{releasedIn, leftWith, leftAfter};
 use arena::Arena;
 use arena::Commitment;
@@ -43,23 +41,6 @@ fn left_with(
     }
 }
 
-// Arena 0; a blank one where no record is lent.
-fn first_arena(records: &[Arena]) -> Arena
-    ensures { λ r. ⌜ r ≡ at (now (records .entry)) 0 ⌝ }
-{
-    table::records::load_or(records, 0)
-}
-
-// The stamp of a chunk of arena 0; 0 past the end.
-fn stamp_of(stamps: &[u32], chunk: usize) -> u32
-    ensures { λ r. ⌜ r ≡ getD (now (stamps .entry)) chunk 0 ⌝ }
-{
-    if chunk < stamps.len() {
-        return stamps[chunk];
-    }
-    0
-}
-
 // All calls are made at one clock and with one set of settings.
 pub fn release_and_sweep(
     records: &mut [Arena],
@@ -85,11 +66,11 @@ pub fn release_and_sweep(
         told,
         true,
     );
-    let arena = first_arena(records);
-    let stamp = stamp_of(stamps, chunk);
+    let arena = crate::lists::arena_at(records, 0);
+    let stamp = crate::lists::place_of(stamps, chunk);
     let then = crate::joins::state_after(released);
     let swept = sweeping::purge_due(records, stamps, then, ns, settings, force);
-    let kept = first_arena(records);
+    let kept = crate::lists::arena_at(records, 0);
     let asked = crate::joins::state_after(swept);
     let answered = answering::answer(
         records,

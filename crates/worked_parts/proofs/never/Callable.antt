@@ -1,46 +1,25 @@
--- Functions of `worked_parts` that a walk calls, each in one step: first-arena-step, left-with-step, stamp-of-step. Written by tools/walks.
+-- Functions of `worked_parts` that a walk calls, each in one step: left-with-step. Written by tools/walks.
 -- Assumes `Given`, the callee's theorem, and that the table of calls is monotone under a frame.
-use Rattle.walks.proofs.Walking.{_≡_, refl, sym, _∙_, ap, subst, ℕ, _<_, _^_, List, [], _∷_, getD, w32, w64, Operand, Val, vint, URA, SProp, id⊢, Memory, Routine, Heap, Env, Calls, Atoms, Given, Item, Goal, Seq, ‵, _⊛_, Opds, Fun, u32, usize, yes, Is, Ises, owns-make, uint-makes, plain, only, tripleOf, Contract, Triple, Loan, lent, sliceOf, Site, plain-call, shr-call}
-use Rattle.arena.proofs.Arena as T-Arena
-use Rattle.arena.proofs.Arena.Laws as L-Arena
-use denote.Struct.Laws as LL
+use Rattle.walks.proofs.Walking.{_≡_, refl, subst, ℕ, _<_, _^_, List, [], _∷_, w32, Operand, Val, vint, URA, SProp, id⊢, Memory, Routine, Heap, Env, Calls, Atoms, Given, Item, Goal, Seq, Opds, Fun, u32, yes, Is, Ises, owns-make, uint-makes, plain, tripleOf, Contract, Triple, Site, plain-call}
 use Rattle.layer.proofs.Reply as T-Reply
 use Rattle.layer.proofs.Reply.Laws as L-Reply
+use denote.Struct.Laws as LL
+use Rattle.arena.proofs.Arena as T-Arena
+use Rattle.arena.proofs.Arena.Laws as L-Arena
 use Rattle.worked_parts.proofs.never.Left as T-Left
-use Rattle.arena.specs.declared.Arena.{Arena}
-use Rattle.layer.specs.Table.{at}
 use Rattle.layer.specs.declared.Reply.{Reply}
+use Rattle.arena.specs.declared.Arena.{Arena}
 use Rattle.worked_parts.specs.declared.never.Left.{Left}
 use Rattle.worked_parts.specs.Never.{leftWith}
-use Rattle.worked_parts.proofs.never.first_arena as first-arena′
-use Rattle.worked_parts.proofs.never.first_arena.Symbol.{name as #worked-parts·never·first-arena}
 use Rattle.worked_parts.proofs.never.left_with as left-with′
 use Rattle.worked_parts.proofs.never.left_with.Symbol.{name as #worked-parts·never·left-with}
-use Rattle.worked_parts.proofs.never.stamp_of as stamp-of′
-use Rattle.worked_parts.proofs.never.stamp_of.Symbol.{name as #worked-parts·never·stamp-of}
 
 -- the contracts that a walk cites
 module _ {M : Type 1} (𝓤 : URA M) (H : Heap 𝓤) (A : Atoms 𝓤) (mem : Memory → SProp 𝓤) (run : Routine → Fun 𝓤) where
-  abbrev pub FirstArenaSpec : Contract 𝓤
-  FirstArenaSpec = tripleOf 𝓤 H A first-arena′.signature (first-arena′.spec 𝓤 H A mem run)
-
   abbrev pub LeftWithSpec : Contract 𝓤
   LeftWithSpec = tripleOf 𝓤 H A left-with′.signature (left-with′.spec 𝓤 H A mem run)
 
-  abbrev pub StampOfSpec : Contract 𝓤
-  StampOfSpec = tripleOf 𝓤 H A stamp-of′.signature (stamp-of′.spec 𝓤 H A mem run)
-
 module _ {M : Type 1} {𝓤 : URA M} {H : Heap 𝓤} {A : Atoms 𝓤} {K : Type 0} {W : Given 𝓤 H A} {Γ : List (Item 𝓤)} {C : Calls 𝓤 H} {E : Env 𝓤 H} {xs : List Operand} {G : Goal 𝓤 H} {after : Val → Goal 𝓤 H} {more : Item 𝓤} where
-  pub first-arena-step : K → Site K W Γ C E #worked-parts·never·first-arena xs G after → (mem : Memory → SProp 𝓤) (run : Routine → Fun 𝓤) → Triple 𝓤 (C #worked-parts·never·first-arena) (FirstArenaSpec 𝓤 H A mem run)
-      → (L-records : Loan) (records : List Arena)
-      → ((hd′ : Item 𝓤) → Opds K W (hd′ ∷ Γ) E xs (sliceOf L-records ∷ []))
-      → ((val′ : Val) → Is T-Arena.the-row (at records 0) (val′ ∷ []) → Seq K W ((‵ (lent T-Arena.the-row L-records records) ⊛ more) ∷ Γ) (after val′))
-      → Seq K W ((‵ (lent T-Arena.the-row L-records records) ⊛ more) ∷ Γ) G
-  first-arena-step bang site mem run known L-records records ops then′ =
-      shr-call bang site T-Arena.the-row L-records T-Arena.the-row ([]) tt (first-arena′.clauses 𝓤 H A mem run) known records (λ _. tt) (λ _. tt)
-      (λ _. id⊢ 𝓤 _) (λ _ _. tt) (λ _ _. id⊢ 𝓤 _)
-      (λ out. out ≡ at records 0) (λ _ _ out ws. id⊢ 𝓤 _) (λ hd′ _. ops hd′) (λ val′ out rel′ eq′. then′ val′ (subst (λ (obj′ : Arena). Is T-Arena.the-row obj′ (val′ ∷ [])) eq′ rel′))
-
   pub left-with-step : K → Site K W Γ C E #worked-parts·never·left-with xs G after → (mem : Memory → SProp 𝓤) (run : Routine → Fun 𝓤) → Triple 𝓤 (C #worked-parts·never·left-with) (LeftWithSpec 𝓤 H A mem run)
       → (released : Reply) (v-released : Val) → Is T-Reply.the-row released (v-released ∷ []) → (arena : Arena) (v-arena : Val) → Is T-Arena.the-row arena (v-arena ∷ []) → (stamp : ℕ) → stamp < 2 ^ 32 → (swept : Reply) (v-swept : Val) → Is T-Reply.the-row swept (v-swept ∷ []) → (kept : Arena) (v-kept : Val) → Is T-Arena.the-row kept (v-kept ∷ []) → (answered : Reply) (v-answered : Val) → Is T-Reply.the-row answered (v-answered ∷ [])
       → ((hd′ : Item 𝓤) → Opds K W (hd′ ∷ Γ) E xs (v-released ∷ v-arena ∷ vint w32 stamp ∷ v-swept ∷ v-kept ∷ v-answered ∷ []))
@@ -50,13 +29,3 @@ module _ {M : Type 1} {𝓤 : URA M} {H : Heap 𝓤} {A : Atoms 𝓤} {K : Type 
       plain-call bang site T-Left.the-row (plain (λ _. T-Reply.the-row) ∷ plain (λ _. T-Arena.the-row) ∷ plain (λ _. u32) ∷ plain (λ _. T-Reply.the-row) ∷ plain (λ _. T-Arena.the-row) ∷ plain (λ _. T-Reply.the-row) ∷ []) (yes, (yes, (yes, (yes, (yes, (yes, tt)))))) (left-with′.clauses 𝓤 H A mem run) known (released, (arena, (stamp, (swept, (kept, (answered, tt)))))) (v-released ∷ [], (v-arena ∷ [], (vint w32 stamp ∷ [], (v-swept ∷ [], (v-kept ∷ [], (v-answered ∷ [], tt))))))
       (owns-make 𝓤 H A (T-Reply.the-row ∷ T-Arena.the-row ∷ u32 ∷ T-Reply.the-row ∷ T-Arena.the-row ∷ T-Reply.the-row ∷ []) (Ises (T-Reply.the-row ∷ T-Arena.the-row ∷ u32 ∷ T-Reply.the-row ∷ T-Arena.the-row ∷ T-Reply.the-row ∷ [])) (LL.makes T-Reply.the-type L-Reply.the-plain 𝓤 H A, (LL.makes T-Arena.the-type L-Arena.the-plain 𝓤 H A, (uint-makes 𝓤 H A W w32, (LL.makes T-Reply.the-type L-Reply.the-plain 𝓤 H A, (LL.makes T-Arena.the-type L-Arena.the-plain 𝓤 H A, (LL.makes T-Reply.the-type L-Reply.the-plain 𝓤 H A, tt)))))) (released, (arena, (stamp, (swept, (kept, (answered, tt)))))) (v-released ∷ [], (v-arena ∷ [], (vint w32 stamp ∷ [], (v-swept ∷ [], (v-kept ∷ [], (v-answered ∷ [], tt)))))) (g-released, (g-arena, ((refl, f-stamp), (g-swept, (g-kept, (g-answered, tt))))))) tt (id⊢ 𝓤 _)
       (λ out. out ≡ leftWith released arena stamp swept kept answered) (λ out ws. id⊢ 𝓤 _) ops (λ val′ out rel′ eq′. then′ val′ (subst (λ (obj′ : Left). Is T-Left.the-row obj′ (val′ ∷ [])) eq′ rel′))
-
-  pub stamp-of-step : K → Site K W Γ C E #worked-parts·never·stamp-of xs G after → (mem : Memory → SProp 𝓤) (run : Routine → Fun 𝓤) → Triple 𝓤 (C #worked-parts·never·stamp-of) (StampOfSpec 𝓤 H A mem run)
-      → (L-stamps : Loan) (stamps : List ℕ) → (chunk : ℕ) → chunk < 2 ^ 64
-      → ((hd′ : Item 𝓤) → Opds K W (hd′ ∷ Γ) E xs (sliceOf L-stamps ∷ vint w64 chunk ∷ []))
-      → ((getD stamps chunk 0) < 2 ^ 32 → Seq K W ((‵ (lent u32 L-stamps stamps) ⊛ more) ∷ Γ) (after (vint w32 (getD stamps chunk 0))))
-      → Seq K W ((‵ (lent u32 L-stamps stamps) ⊛ more) ∷ Γ) G
-  stamp-of-step bang site mem run known L-stamps stamps chunk f-chunk ops then′ =
-      shr-call bang site u32 L-stamps u32 (plain (λ _. usize) ∷ []) (yes, tt) (stamp-of′.clauses 𝓤 H A mem run) known stamps (λ _. (chunk, tt)) (λ _. (vint w64 chunk ∷ [], tt))
-      (λ _. owns-make 𝓤 H A (usize ∷ []) (Ises (usize ∷ [])) (uint-makes 𝓤 H A W w64, tt) (chunk, tt) (vint w64 chunk ∷ [], tt) ((refl, f-chunk), tt)) (λ _ _. tt) (λ _ _. id⊢ 𝓤 _)
-      (λ out. out ≡ getD stamps chunk 0) (λ _ _ out ws. id⊢ 𝓤 _) (λ hd′ _. ops hd′) (λ val′ out rel′ eq′. subst (λ (new′ : Val). Seq K W ((‵ (lent u32 L-stamps stamps) ⊛ more) ∷ Γ) (after new′)) (sym (ap only (rel′ .0) ∙ ap (vint w32) eq′)) (then′ (subst (λ (num′ : ℕ). num′ < 2 ^ 32) eq′ (rel′ .1))))

@@ -31,12 +31,12 @@ use Rattle.walks.proofs.Frame.{Done2, finish2, mut2-meets}
 use Rattle.releasing.proofs.chunk_release.Symbol as chunk-release-def
 use Rattle.releasing.proofs.chunk_release.Symbol.{name as #releasing·chunk-release}
 use Rattle.releasing.proofs.chunk_release.Met as chunk-release-thm
-use Rattle.worked_parts.proofs.never.first_arena.Symbol as first-arena-def
-use Rattle.worked_parts.proofs.never.first_arena.Symbol.{name as #worked-parts·never·first-arena}
-use Rattle.worked_parts.proofs.never.first_arena.Met as first-arena-thm
-use Rattle.worked_parts.proofs.never.stamp_of.Symbol as stamp-of-def
-use Rattle.worked_parts.proofs.never.stamp_of.Symbol.{name as #worked-parts·never·stamp-of}
-use Rattle.worked_parts.proofs.never.stamp_of.Met as stamp-of-thm
+use Rattle.worked_parts.proofs.lists.arena_at.Symbol as arena-at-def
+use Rattle.worked_parts.proofs.lists.arena_at.Symbol.{name as #worked-parts·lists·arena-at}
+use Rattle.worked_parts.proofs.lists.arena_at.Met as arena-at-thm
+use Rattle.worked_parts.proofs.lists.place_of.Symbol as place-of-def
+use Rattle.worked_parts.proofs.lists.place_of.Symbol.{name as #worked-parts·lists·place-of}
+use Rattle.worked_parts.proofs.lists.place_of.Met as place-of-thm
 use Rattle.worked_parts.proofs.joins.state_after.Symbol as state-after-def
 use Rattle.worked_parts.proofs.joins.state_after.Symbol.{name as #worked-parts·joins·state-after}
 use Rattle.worked_parts.proofs.joins.state_after.Met as state-after-thm
@@ -50,10 +50,10 @@ use Rattle.worked_parts.proofs.never.left_with.Symbol as left-with-def
 use Rattle.worked_parts.proofs.never.left_with.Symbol.{name as #worked-parts·never·left-with}
 use Rattle.worked_parts.proofs.never.left_with.Met as left-with-thm
 use Rattle.releasing.proofs.Callable.{ChunkReleaseSpec, chunk-release-step}
-use Rattle.worked_parts.proofs.never.Callable.{FirstArenaSpec, StampOfSpec, LeftWithSpec, first-arena-step, stamp-of-step, left-with-step}
-use Rattle.worked_parts.proofs.Callable.{StateAfterSpec, state-after-step}
+use Rattle.worked_parts.proofs.Callable.{ArenaAtSpec, PlaceOfSpec, StateAfterSpec, arena-at-step, place-of-step, state-after-step}
 use Rattle.sweeping.proofs.Callable.{PurgeDueSpec, purge-due-step}
 use Rattle.answering.proofs.Callable.{AnswerSpec, answer-step}
+use Rattle.worked_parts.proofs.never.Callable.{LeftWithSpec, left-with-step}
 use Rattle.worked_parts.proofs.never.release_and_sweep.Key.{name as #worked-parts·never·release-and-sweep}
 use Rattle.worked_parts.proofs.never.release_and_sweep as release-and-sweep′
 use Rattle.worked_parts.proofs.never.release_and_sweep.Statement as stated
@@ -61,8 +61,8 @@ use Rattle.worked_parts.proofs.never.release_and_sweep.Code as code
 
 module _ {M : Type 1} (𝓤 : URA M) (H : Heap 𝓤) (A : Atoms 𝓤) (W : Given 𝓤 H A) (mem : Memory → SProp 𝓤) (run : Routine → Fun 𝓤) (𝓣 : Tables 𝓤 H)
     (known-chunk-release : Triple 𝓤 (𝓣 .C #releasing·chunk-release) (ChunkReleaseSpec 𝓤 H A mem run))
-    (known-first-arena : Triple 𝓤 (𝓣 .C #worked-parts·never·first-arena) (FirstArenaSpec 𝓤 H A mem run))
-    (known-stamp-of : Triple 𝓤 (𝓣 .C #worked-parts·never·stamp-of) (StampOfSpec 𝓤 H A mem run))
+    (known-arena-at : Triple 𝓤 (𝓣 .C #worked-parts·lists·arena-at) (ArenaAtSpec 𝓤 H A mem run))
+    (known-place-of : Triple 𝓤 (𝓣 .C #worked-parts·lists·place-of) (PlaceOfSpec 𝓤 H A mem run))
     (known-state-after : Triple 𝓤 (𝓣 .C #worked-parts·joins·state-after) (StateAfterSpec 𝓤 H A mem run))
     (known-purge-due : Triple 𝓤 (𝓣 .C #sweeping·purge-due) (PurgeDueSpec 𝓤 H A mem run))
     (known-answer : Triple 𝓤 (𝓣 .C #answering·answer) (AnswerSpec 𝓤 H A mem run))
@@ -106,13 +106,14 @@ module _ {M : Type 1} (𝓤 : URA M) (H : Heap 𝓤) (A : Atoms 𝓤) (W : Given
         land ! (from ! (stop !)) (init ! 21 refl (LL.lawful T-Reply.the-type L-Reply.the-laws 𝓤 H A W .typed released (v-released ∷ []) g-released .0)) $
         assigns ! (addr ! (from ! (fld ! refl (hop ! (look-in ! 3 (sub ! 0 refl (whole !))) (stop !))))) (from ! (stop !)) (init ! 45 refl (tt, tt)) $
         assigns ! (agg ! (and-then ! (in-local ! refl) (and-then ! (load ! (from ! (fld ! refl (stop !))) (look-in ! 3 (sub ! 1 refl (whole !)))) (no-more !)))) (from ! (stop !)) (init ! 47 refl (tt, (tt, (record { fits = known-records .1 .0 }, tt)))) $
-        first-arena-step ! (in-seq ! (fmOf 𝓤 H (W .laws) 𝓣)) mem run known-first-arena L-records records-1
-        (λ _. and-then ! (arg ! refl) (no-more !)) (λ v-arena g-arena. let arena : Arena = at records-1 0 in
+        arg-fits ! 1 refl (λ f11-1.
+        arena-at-step ! (in-seq ! (fmOf 𝓤 H (W .laws) 𝓣)) mem run known-arena-at L-records records-1 _ (f11-1 .fits)
+        (λ _. and-then ! (arg ! refl) (and-then ! (arg ! refl) (no-more !))) (λ v-arena g-arena. let arena : Arena = at records-1 0 in
         land ! (from ! (stop !)) (init ! 23 refl (LL.lawful T-Arena.the-type L-Arena.the-laws 𝓤 H A W .typed arena (v-arena ∷ []) g-arena .0)) $
         assigns ! (addr ! (from ! (fld ! refl (hop ! (look-in ! 5 (sub ! 0 refl (whole !))) (stop !))))) (from ! (stop !)) (init ! 49 refl (tt, tt)) $
         assigns ! (agg ! (and-then ! (in-local ! refl) (and-then ! (load ! (from ! (fld ! refl (stop !))) (look-in ! 5 (sub ! 1 refl (whole !)))) (no-more !)))) (from ! (stop !)) (init ! 51 refl (tt, (tt, (record { fits = known-stamps .1 .0 }, tt)))) $
         swaps ! $ arg-fits ! 1 refl (λ f12-1.
-        stamp-of-step ! (in-seq ! (fmOf 𝓤 H (W .laws) 𝓣)) mem run known-stamp-of L-stamps stamps-1 _ (f12-1 .fits)
+        place-of-step ! (in-seq ! (fmOf 𝓤 H (W .laws) 𝓣)) mem run known-place-of L-stamps stamps-1 _ (f12-1 .fits)
         (λ _. and-then ! (arg ! refl) (and-then ! (arg ! refl) (no-more !))) (λ f-stamp. let stamp : ℕ = getD stamps-1 chunk 0 in
         swaps ! $
         land ! (from ! (stop !)) (init ! 25 refl (tt, record { fits = f-stamp })) $
@@ -129,8 +130,9 @@ module _ {M : Type 1} (𝓤 : URA M) (H : Heap 𝓤) (A : Atoms 𝓤) (W : Given
         land ! (from ! (stop !)) (init ! 29 refl (LL.lawful T-Reply.the-type L-Reply.the-laws 𝓤 H A W .typed swept (v-swept ∷ []) g-swept .0)) $
         assigns ! (addr ! (from ! (fld ! refl (hop ! (look-in ! 3 (sub ! 0 refl (whole !))) (stop !))))) (from ! (stop !)) (init ! 61 refl (tt, tt)) $
         assigns ! (agg ! (and-then ! (in-local ! refl) (and-then ! (load ! (from ! (fld ! refl (stop !))) (look-in ! 3 (sub ! 1 refl (whole !)))) (no-more !)))) (from ! (stop !)) (init ! 63 refl (tt, (tt, (record { fits = known-records .1 .0 }, tt)))) $
-        first-arena-step ! (in-seq ! (fmOf 𝓤 H (W .laws) 𝓣)) mem run known-first-arena L-records records-2
-        (λ _. and-then ! (arg ! refl) (no-more !)) (λ v-kept g-kept. let kept : Arena = at records-2 0 in
+        arg-fits ! 1 refl (λ f15-1.
+        arena-at-step ! (in-seq ! (fmOf 𝓤 H (W .laws) 𝓣)) mem run known-arena-at L-records records-2 _ (f15-1 .fits)
+        (λ _. and-then ! (arg ! refl) (and-then ! (arg ! refl) (no-more !))) (λ v-kept g-kept. let kept : Arena = at records-2 0 in
         land ! (from ! (stop !)) (init ! 31 refl (LL.lawful T-Arena.the-type L-Arena.the-laws 𝓤 H A W .typed kept (v-kept ∷ []) g-kept .0)) $
         state-after-step ! (in-seq ! (fmOf 𝓤 H (W .laws) 𝓣)) mem run known-state-after swept v-swept g-swept
         (λ _. and-then ! (arg ! refl) (no-more !)) (λ v-asked g-asked. let asked : State = swept .state in
@@ -149,7 +151,7 @@ module _ {M : Type 1} (𝓤 : URA M) (H : Heap 𝓤) (A : Atoms 𝓤) (W : Given
         (λ _. and-then ! (arg ! refl) (and-then ! (arg ! refl) (and-then ! (arg ! refl) (and-then ! (arg ! refl) (and-then ! (arg ! refl) (and-then ! (arg ! refl) (no-more !))))))) (λ v-result g-result. let result : Left = leftWith released arena stamp swept kept answered in
         land ! (from ! (stop !)) (init ! 1 refl (LL.lawful T-Left.the-type L-Left.the-laws 𝓤 H A W .typed result (v-result ∷ []) g-result .0)) $
         returns ! (look ! 1 refl) $ used ! $ used ! $ used ! $ used ! $ used ! $ used ! $ used ! $ used ! $ used ! $ used ! $ used ! $ used ! $ used ! $ used ! $ used ! $ used ! $ used ! $ used ! $ used ! $ used ! $ used ! $ used ! $ used ! $ used ! $ used ! $ used ! $ used ! $ used ! $ used ! $ used ! $ used ! $ used ! $ used ! $ used ! $ used ! $ used ! $ used ! $ free0 ! $
-        finish2 𝓤 H A T-Arena.the-row u32 L-records L-stamps T-Left.the-row records stamps χ W (‵ ftrue) v-result result records-3 stamps-3 g-result (l-records-3 ∙ (l-records-2 ∙ l-records-1)) (l-stamps-3 ∙ (l-stamps-2 ∙ l-stamps-1)) (all-left (releasedIn (worldOf records stamps state) ns settings address told) ns settings chunk force released records-1 stamps-1 released-says swept records-2 stamps-2 swept-says answered records-3 stamps-3 answered-says)))))))))))))))))))
+        finish2 𝓤 H A T-Arena.the-row u32 L-records L-stamps T-Left.the-row records stamps χ W (‵ ftrue) v-result result records-3 stamps-3 g-result (l-records-3 ∙ (l-records-2 ∙ l-records-1)) (l-stamps-3 ∙ (l-stamps-2 ∙ l-stamps-1)) (all-left (releasedIn (worldOf records stamps state) ns settings address told) ns settings chunk force released records-1 stamps-1 released-says swept records-2 stamps-2 swept-says answered records-3 stamps-3 answered-says)))))))))))))))))))))
 
   release-and-sweep-meets : Meets 𝓤 H A release-and-sweep′.signature (WpFn 𝓤 H (𝓣 .C) (𝓣 .Λ) code.function) (release-and-sweep′.spec 𝓤 H A mem run)
   release-and-sweep-meets = mut2-meets 𝓤 H A W T-Arena.the-row u32 T-Left.the-row (plain (λ _. T-State.the-row) ∷ plain (λ _. u64) ∷ plain (λ _. T-Settings.the-row) ∷ plain (λ _. u64) ∷ plain (λ _. usize) ∷ plain (λ _. T-Commitment.the-row) ∷ plain (λ _. bool) ∷ []) (yes, (yes, (yes, (yes, (yes, (yes, (yes, tt))))))) (release-and-sweep′.clauses 𝓤 H A mem run)
@@ -166,8 +168,8 @@ release-and-sweep-spec 𝓤 H 𝓜 𝓖 𝓡 =
     (tables 𝓤 H 𝓜 𝓡 code.env .C) (tables 𝓤 H 𝓜 𝓡 code.env .Λ) #worked-parts·never·release-and-sweep code.function (code.unfolded 𝓤 H 𝓜 𝓡)
     (release-and-sweep-meets 𝓤 H (𝓖 .A) (givenOf 𝓤 H 𝓜 𝓖) (𝓜 .mem) (𝓡 .run) (tablesOf 𝓤 H 𝓜 (tables 𝓤 H 𝓜 𝓡 code.env))
     (cited 𝓤 H (ChunkReleaseSpec 𝓤 H (𝓖 .A) (𝓜 .mem) (𝓡 .run)) 𝓜 𝓡 code.env #releasing·chunk-release chunk-release-def.routine code.calls-releasing·chunk-release (chunk-release-thm.met 𝓤 H 𝓜 𝓖 𝓡))
-    (cited 𝓤 H (FirstArenaSpec 𝓤 H (𝓖 .A) (𝓜 .mem) (𝓡 .run)) 𝓜 𝓡 code.env #worked-parts·never·first-arena first-arena-def.routine code.calls-worked-parts·never·first-arena (first-arena-thm.met 𝓤 H 𝓜 𝓖 𝓡))
-    (cited 𝓤 H (StampOfSpec 𝓤 H (𝓖 .A) (𝓜 .mem) (𝓡 .run)) 𝓜 𝓡 code.env #worked-parts·never·stamp-of stamp-of-def.routine code.calls-worked-parts·never·stamp-of (stamp-of-thm.met 𝓤 H 𝓜 𝓖 𝓡))
+    (cited 𝓤 H (ArenaAtSpec 𝓤 H (𝓖 .A) (𝓜 .mem) (𝓡 .run)) 𝓜 𝓡 code.env #worked-parts·lists·arena-at arena-at-def.routine code.calls-worked-parts·lists·arena-at (arena-at-thm.met 𝓤 H 𝓜 𝓖 𝓡))
+    (cited 𝓤 H (PlaceOfSpec 𝓤 H (𝓖 .A) (𝓜 .mem) (𝓡 .run)) 𝓜 𝓡 code.env #worked-parts·lists·place-of place-of-def.routine code.calls-worked-parts·lists·place-of (place-of-thm.met 𝓤 H 𝓜 𝓖 𝓡))
     (cited 𝓤 H (StateAfterSpec 𝓤 H (𝓖 .A) (𝓜 .mem) (𝓡 .run)) 𝓜 𝓡 code.env #worked-parts·joins·state-after state-after-def.routine code.calls-worked-parts·joins·state-after (state-after-thm.met 𝓤 H 𝓜 𝓖 𝓡))
     (cited 𝓤 H (PurgeDueSpec 𝓤 H (𝓖 .A) (𝓜 .mem) (𝓡 .run)) 𝓜 𝓡 code.env #sweeping·purge-due purge-due-def.routine code.calls-sweeping·purge-due (purge-due-thm.met 𝓤 H 𝓜 𝓖 𝓡))
     (cited 𝓤 H (AnswerSpec 𝓤 H (𝓖 .A) (𝓜 .mem) (𝓡 .run)) 𝓜 𝓡 code.env #answering·answer answer-def.routine code.calls-answering·answer (answer-thm.met 𝓤 H 𝓜 𝓖 𝓡))

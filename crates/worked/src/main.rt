@@ -1,6 +1,6 @@
 // Runs the worked cases of document 01 on the compiled code and prints a table: what is computed, our
-// answer, what document 01 says; then a table of the cases of document 02's wishes 1, two tables joined, and 2, a
-// negative purge delay. Then a picture of a slice pool, from which the lowest run is taken.
+// answer, what document 01 says; then a table of the cases of document 02's wishes 1, two tables joined, 2, a
+// negative purge delay, and 3, a list of releases. Then a picture of a slice pool, from which the lowest run is taken.
 // No contract can say what is printed, so all that prints stands here, and nothing here is public. What
 // is printed comes from functions that are: the libraries', and those of `worked_parts`. The answer of
 // each is fixed by an `ensures`.
@@ -27,6 +27,9 @@ use libc::STDOUT_FILENO;
 use worked_parts::joins;
 use worked_parts::joins::Seen;
 use worked_parts::joins::Side;
+use worked_parts::lists;
+use worked_parts::lists::Listed;
+use worked_parts::lists::Numbers;
 use worked_parts::never;
 use worked_parts::never::Left;
 use worked_parts::numbers;
@@ -1201,6 +1204,311 @@ fn rows_with_minus_one(t: Tally) -> Tally {
     not_let_go(t4, b"never: -1, part of a chunk: refusal", part, 7, 0)
 }
 
+// ---- document 02, wish 3: a list of releases
+
+// Lists as they are lent: so many of the addresses, of the counts and of the places for answers.
+struct Lists {
+    addresses: [u64; 5],
+    counts: [u32; 5],
+    address_count: usize,
+    count_count: usize,
+    answer_count: usize,
+}
+
+fn five_at_most(n: usize) -> usize
+    ensures { λ r. ⌜ r ≤ 5 ⌝ }
+{
+    if n < 5 { n } else { 5 }
+}
+
+// What is seen of lists, of which the first places are lent. A block beside the arena is adopted before. A place for an
+// answer holds 6, which is the number of no item.
+fn listed(
+    a: Arena,
+    s: u32,
+    addresses: [u64; 5],
+    counts: [u32; 5],
+    address_count: usize,
+    count_count: usize,
+    answer_count: usize,
+    state: State,
+    ns: u64,
+    e: Settings,
+    pending: bool,
+) -> Listed
+    requires { ⌜ («address_count» ≤ 5) × («count_count» ≤ 5) × («answer_count» ≤ 5) ⌝ }
+{
+    let mut records = [a; 32];
+    let mut stamps = [s; 32768];
+    let mut answers = [6u32; 5];
+    lists::list_and_look(
+        &mut records,
+        &mut stamps,
+        &addresses[..address_count],
+        &counts[..count_count],
+        &mut answers[..answer_count],
+        state,
+        ns,
+        e,
+        68719476736,
+        pending,
+        0,
+    )
+}
+
+// At 50 ms, with a purge delay in milliseconds.
+fn listed_at(lent: Lent, delay: i64, l: Lists, pending: bool) -> Listed {
+    let e = Settings {
+        delay,
+        decommits: false,
+        off: false,
+        reserve: 0,
+        page: 4096,
+    };
+    let side = lent.side;
+    let state = side.state;
+    let addresses = l.addresses;
+    let counts = l.counts;
+    listed(
+        lent.arena,
+        lent.stamp,
+        addresses,
+        counts,
+        five_at_most(l.address_count),
+        five_at_most(l.count_count),
+        five_at_most(l.answer_count),
+        state,
+        50000000,
+        e,
+        pending,
+    )
+}
+
+// So many of the items.
+fn lists_of(addresses: [u64; 5], counts: [u32; 5], n: usize) -> Lists {
+    Lists {
+        addresses,
+        counts,
+        address_count: n,
+        count_count: n,
+        answer_count: n,
+    }
+}
+
+// Chunks 0 and 2 of the arena at 1073741824, the chunk of the block, and two more of the arena.
+fn chunks(n: usize) -> Lists {
+    let addresses = [1073741824, 1140850688, 68719476736, 1073741824, 1073741824];
+    lists_of(addresses, [1; 5], n)
+}
+
+// Two items, but for one list.
+fn uneven(address_count: usize, count_count: usize, answer_count: usize) -> Lists {
+    Lists {
+        address_count,
+        count_count,
+        answer_count,
+        ..chunks(2)
+    }
+}
+
+fn numbers_of(at_0: u32, at_1: u32, at_2: u32, at_3: u32, at_4: u32) -> Numbers {
+    Numbers {
+        at_0,
+        at_1,
+        at_2,
+        at_3,
+        at_4,
+    }
+}
+
+fn two_numbers(at_0: u32, at_1: u32) -> Numbers {
+    numbers_of(at_0, at_1, 0, 0, 0)
+}
+
+fn same_numbers(a: Numbers, b: Numbers) -> bool {
+    if a.at_0 != b.at_0 {
+        return false;
+    }
+    if a.at_1 != b.at_1 {
+        return false;
+    }
+    if a.at_2 != b.at_2 {
+        return false;
+    }
+    if a.at_3 != b.at_3 {
+        return false;
+    }
+    a.at_4 == b.at_4
+}
+
+// A number of one digit; a dash past the end of the list.
+fn digit(n: u32, there: bool) -> u8 {
+    if !there {
+        return b'-';
+    }
+    if n < 10 { b'0' + n as u8 } else { b'?' }
+}
+
+fn right_numbers(n: Numbers, places: usize) {
+    let text = [
+        digit(n.at_0, 0 < places),
+        b' ',
+        digit(n.at_1, 1 < places),
+        b' ',
+        digit(n.at_2, 2 < places),
+        b' ',
+        digit(n.at_3, 3 < places),
+        b' ',
+        digit(n.at_4, 4 < places),
+    ];
+    right(&text);
+}
+
+// The list of answers.
+fn numbers_then(t: Tally, l: Listed, places: usize, want: Numbers) -> Tally {
+    left(b"   the list of answers (0: granted, 6: as lent)");
+    right_numbers(l.numbers, places);
+    right_numbers(want, places);
+    verdict(t, same_numbers(l.numbers, want))
+}
+
+fn used_then(t: Tally, l: Listed, want: u64) -> Tally {
+    let a = l.first;
+    number(t, b"   used chunks then (bits)", used_bits(a), want)
+}
+
+// A list that is granted, by its answers and the used chunks then.
+fn listed_all(t: Tally, name: &[u8], l: Listed, places: usize, want: Numbers, used: u64) -> Tally {
+    let t1 = number(t, name, refusal(l.reply), 0);
+    let t2 = numbers_then(t1, l, places, want);
+    used_then(t2, l, used)
+}
+
+// A list that is refused as a whole: its answers and the used chunks are as they were.
+fn listed_none(t: Tally, name: &[u8], l: Listed, why: u64, places: usize, want: Numbers) -> Tally {
+    let t1 = number(t, name, refusal(l.reply), why);
+    let t2 = numbers_then(t1, l, places, want);
+    used_then(t2, l, 5)
+}
+
+// What a list leaves of what waits for a purge in the arena.
+fn waits_then(t: Tally, l: Listed, pending: u64, stamp: u64, deadline: u64) -> Tally {
+    let a = l.first;
+    let t1 = number(
+        t,
+        b"   pending chunks then (bits)",
+        pending_bits(a),
+        pending,
+    );
+    let t2 = number(t1, b"   stamp of chunk 0", l.stamp as u64, stamp);
+    number(t2, b"   deadline", a.deadline as u64, deadline)
+}
+
+// "it says nothing of commitment"
+fn released_by_list(t: Tally) -> Tally {
+    let l = listed_at(older_table(), 40, chunks(2), false);
+    let name = b"list: chunks 0 and 2: refusal (0: none)";
+    let t1 = listed_all(t, name, l, 2, two_numbers(0, 0), 0);
+    let t2 = waits_then(t1, l, 2, 10, 20);
+    let a = l.first;
+    number(t2, b"   committed chunks then (bits)", committed_bits(a), 7)
+}
+
+// A refused item does not stop the list. Of an item with several faults the first row counts: 4, 8, 7, 9.
+fn items_refused(t: Tally) -> Tally {
+    let past = lists_of([1073741824, 1207959552, 1140850688, 0, 0], [1; 5], 3);
+    let a = listed_at(older_table(), 40, past, false);
+    let one = b"list: chunk 0, past the arena, chunk 2: refusal";
+    let t1 = listed_all(t, one, a, 3, numbers_of(0, 8, 0, 0, 0), 0);
+    let each = lists_of(
+        [1207959553, 1207959553, 1073741825, 1073741824, 1073741824],
+        [0, 5, 5, 5, 1],
+        5,
+    );
+    let b = listed_at(older_table(), 40, each, false);
+    let rows = b"list: each row of a release, then chunk 0: refusal";
+    listed_all(t1, rows, b, 5, numbers_of(4, 8, 7, 9, 0), 4)
+}
+
+fn items_meet(t: Tally) -> Tally {
+    let twice = lists_of([1073741824; 5], [1; 5], 2);
+    let a = listed_at(older_table(), 40, twice, false);
+    let same = b"list: chunk 0 twice: refusal (0: none)";
+    let t1 = listed_all(t, same, a, 2, two_numbers(0, 0), 4);
+    let over = lists_of([1073741824, 1107296256, 0, 0, 0], [2; 5], 2);
+    let b = listed_at(older_table(), 40, over, false);
+    let shared = b"list: chunks 0 and 1, then 1 and 2: refusal (0: none)";
+    listed_all(t1, shared, b, 2, two_numbers(0, 0), 0)
+}
+
+// The deadline of the arena is the earlier one; the block had none.
+fn two_arenas(t: Tally) -> Tally {
+    let l = listed_at(older_table(), 40, chunks(3), true);
+    let name = b"list: chunks 0 and 2 and the block, pending: refusal";
+    let t1 = listed_all(t, name, l, 3, numbers_of(0, 0, 0, 0, 0), 0);
+    let t2 = waits_then(t1, l, 7, 50, 20);
+    let b = l.second;
+    let t3 = number(t2, b"   pending chunks of the block", pending_bits(b), 1);
+    number(t3, b"   deadline of the block", b.deadline as u64, 90)
+}
+
+// One flag for all; with a negative delay a pending release is one not pending.
+fn pending_lists(t: Tally) -> Tally {
+    let none = pending_table(0, 0);
+    let a = listed_at(none, 40, chunks(2), true);
+    let name = b"list: pending, none before: refusal (0: none)";
+    let t1 = listed_all(t, name, a, 2, two_numbers(0, 0), 0);
+    let t2 = waits_then(t1, a, 5, 50, 90);
+    let b = listed_at(none, -1, chunks(2), true);
+    let never = b"list: the same with a delay of -1: refusal (0: none)";
+    let t3 = listed_all(t2, never, b, 2, two_numbers(0, 0), 0);
+    waits_then(t3, b, 0, 10, 0)
+}
+
+fn empty_list(t: Tally) -> Tally {
+    let l = listed_at(pending_table(0, 0), 40, chunks(0), true);
+    let t1 = number(
+        t,
+        b"list: empty, pending: refusal (0: none)",
+        refusal(l.reply),
+        0,
+    );
+    let t2 = used_then(t1, l, 5);
+    waits_then(t2, l, 0, 10, 0)
+}
+
+// "19 when the three lengths differ", "checked after 2".
+fn lengths_differ(t: Tally) -> Tally {
+    let lent = two_numbers(6, 6);
+    let a = listed_at(older_table(), 40, uneven(2, 1, 2), true);
+    let t1 = listed_none(t, b"list: a count too few: refusal", a, 19, 2, lent);
+    let b = listed_at(older_table(), 40, uneven(2, 2, 1), true);
+    let one = two_numbers(6, 0);
+    let t2 = listed_none(t1, b"list: an answer too few: refusal", b, 19, 1, one);
+    let c = listed_at(older_table(), 40, uneven(1, 2, 2), true);
+    let t3 = listed_none(t2, b"list: an address too few: refusal", c, 19, 2, lent);
+    let asks = purging_table(1073741824, true);
+    let d = listed_at(asks, 40, uneven(2, 1, 2), true);
+    let t4 = listed_none(
+        t3,
+        b"list: a question, a count too few: refusal",
+        d,
+        2,
+        2,
+        lent,
+    );
+    let many = counted_table(1073741824, 33);
+    let f = listed_at(many, 40, uneven(2, 1, 2), true);
+    listed_none(
+        t4,
+        b"list: 33 arenas, a count too few: refusal",
+        f,
+        1,
+        2,
+        lent,
+    )
+}
+
 fn wishes_table() {
     heading(b"document 02");
     let mut t = tally::none_yet();
@@ -1217,6 +1525,13 @@ fn wishes_table() {
     t = forced_sweeps(t);
     t = told_is_obeyed(t);
     t = rows_with_minus_one(t);
+    t = released_by_list(t);
+    t = items_refused(t);
+    t = items_meet(t);
+    t = two_arenas(t);
+    t = pending_lists(t);
+    t = empty_list(t);
+    t = lengths_differ(t);
     total(t);
 }
 

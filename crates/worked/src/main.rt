@@ -1295,13 +1295,13 @@ fn lists_of(addresses: [u64; 5], counts: [u32; 5], n: usize) -> Lists {
     }
 }
 
-// Chunks 0 and 2 of the arena at 1073741824, the chunk of the block, and two more of the arena.
+// Chunks 0 and 2 of the arena at 1073741824, the chunk of the block, and chunk 0 again.
 fn chunks(n: usize) -> Lists {
     let addresses = [1073741824, 1140850688, 68719476736, 1073741824, 1073741824];
     lists_of(addresses, [1; 5], n)
 }
 
-// Two items, but for one list.
+// Two items; of a list that is shorter the last place is not lent.
 fn uneven(address_count: usize, count_count: usize, answer_count: usize) -> Lists {
     Lists {
         address_count,

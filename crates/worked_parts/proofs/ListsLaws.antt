@@ -1,7 +1,7 @@
 -- What is seen of a list released after a block is adopted. Assumes nothing.
 use Rattle.state.proofs.Prelude.{_≡_, ap, ap₂, _∙_, List, ℕ, getD, Arena, Settings, World, worldOf}
 use Rattle.layer.specs.declared.Reply.{Reply}
-use Rattle.layer.specs.World.{Outcome, replyIn, Leaves}
+use Rattle.layer.specs.World.{replyIn, Leaves}
 use Rattle.layer.specs.Table.{at}
 use Rattle.layer.specs.Step.{adopt, act, step}
 use Rattle.layer.specs.Listing.{Items, ListOutcome, releaseList, LeavesList}

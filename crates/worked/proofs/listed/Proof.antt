@@ -1,10 +1,10 @@
 -- `worked::listed` is safe and ends: a walk of its MIR, by hand. It owns the table and the lists in local arrays, which are lent for one call: the table's whole, of the lists the first places. Assumes nothing.
-use Rattle.walks.proofs.Walking.{_≡_, refl, _∙_, Bool, ℕ, _<_, _≤_, _^_, List, [], _∷_, length, lit<, w32, w64, Val, vint, vbool, URA, SProp, id⊢, ftrue, Memory, Routine, Heap, WpFn, Tables, Atoms, fmOf, Given, Sq, prop, !, ‵, _$_, agg, look, init, stop, from, load, addr, lit, of-opd, and-then, no-more, assigns, land, returns, params1, pass1, pass0, free0, Fun, factI, givenOf, tables, tablesOf, bool, u32, u64, usize, yes, Is, only, uint-vals, uint-tells, uint-makes, bool-vals, bool-tells, plain, Meets, tripleOf, Triple, entered, cited, big-lit, enters, used, room, in-seq}
+use Rattle.walks.proofs.Walking.{_≡_, refl, _∙_, Bool, ℕ, _<_, _≤_, _^_, List, [], _∷_, length, lit<, w32, w64, Val, vint, vbool, URA, SProp, id⊢, ftrue, Memory, Routine, Heap, WpFn, Tables, Atoms, fmOf, Given, Sq, prop, !, ‵, _$_, agg, look, init, stop, from, load, addr, lit, of-opd, and-then, no-more, assigns, land, returns, params1, pass1, pass0, free0, Fun, givenOf, tables, tablesOf, bool, u32, u64, usize, yes, Is, only, uint-vals, uint-tells, uint-makes, bool-vals, bool-tells, plain, Meets, tripleOf, Triple, entered, cited, big-lit, enters, used, room, in-seq}
 use Rattle.state.proofs.Prelude.{_*_, arith}
 use lib.ListN.{replicate, length-replicate, take, drop, length-take}
 use lib.Seq.{length-front}
 use types.Part.{rep}
-use denote.Array.{Array, array-vals, array-tells, array-typed, array-lawful}
+use denote.Array.{Array, array-vals, array-tells, array-typed}
 use denote.Plain.{uint-lawful}
 use denote.Struct.Laws as LL
 use Rattle.arena.specs.declared.Arena.{Arena}

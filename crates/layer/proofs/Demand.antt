@@ -7,7 +7,7 @@ use Rattle.layer.proofs.Shown.{View, calm, committing, purging, viewOf,
 use Rattle.layer.proofs.Keeps.{keeps}
 use Rattle.layer.proofs.Asked.{ServedIn, Asked}
 use Rattle.layer.proofs.Stepped.{passing-facts, sound-test}
-use Rattle.layer.proofs.Lists.{settled, still-open, each-granted, ListComes, turned-down, one-by-one, list-comes}
+use Rattle.layer.proofs.Lists.{settled, still-past-two, each-granted, ListComes, turned-down, one-by-one, list-comes}
 use Rattle.layer.proofs.Joins.{Comes, both-stay, one-table, first-kept, second-moved}
 use Rattle.layer.proofs.Trails.{Good, onTrail, gone, on-rules, follow-sound, follow-not, good-follow, size-follows, list-sound, same-size, join-of-comes, good-ruled, answers-ruled, lists-ruled}
 use Rattle.layer.proofs.Opened.{opening}
@@ -333,7 +333,7 @@ module _ (p : ℕ) (a : Place) (who ns : ℕ) (settings : Settings) (pending : B
   leads (x ∷ xs) (n ∷ counts) t fs ss sized g idle alone r =
       others-led t fs ss sized g idle r x n xs counts
       (leads xs counts (follow t m) (fs ++ fedBy a m) (ss ++ toldBy byRules a t m) (sized ∙ sym (size-follows t m g)) (good-follow t m g)
-      (ap (λ (w : World). w .state .question) (item-world t fs ss sized g idle r x n) ∙ still-open ns settings pending (t .world) (item-passes t fs ss sized g idle r x n, idle) x n .1)
+      (ap (λ (w : World). w .state .question) (item-world t fs ss sized g idle r x n) ∙ still-past-two ns settings pending (t .world) (item-passes t fs ss sized g idle r x n, idle) x n .1)
       (λ e. alone (none-before (fedAt a (releasesAt x n)) (feeds a (entriesIn xs counts)) e))
       (item-along t fs ss sized g idle r x n (λ e. alone (none-behind (fedAt a (releasesAt x n)) (feeds a (entriesIn xs counts)) e))))
     where

@@ -47,11 +47,11 @@ pub record Settled (w : World) (o : Outcome) : Type 0 where
   pub says : said (o .answer) ≡ numberSays (itemNumber (o .answer)) ∷ []
 
 module _ (ns : ℕ) (settings : Settings) (pending : Bool) where
-  -- what row 1 lets pass, with no question open
-  abbrev pub Open : World → Type 0
-  Open w = (sound (sizeOf (w .state)) w (settings .page) ≡ true) × (w .state .question ≡ Idle)
+  -- what rows 1 and 2 let pass
+  abbrev pub PastTwo : World → Type 0
+  PastTwo w = (sound (sizeOf (w .state)) w (settings .page) ≡ true) × (w .state .question ≡ Idle)
 
-  module _ (w : World) (h : Open w) (x n : ℕ) where
+  module _ (w : World) (h : PastTwo w) (x n : ℕ) where
     abbrev pub itemOf : Outcome
     itemOf = releaseOf (sizeOf (w .state)) (w .records) (w .stamps) (w .state .count) (w .state .mark) x n Untold (staysPending settings pending) (nowMs ns) (delayMs (settings .delay))
 
@@ -78,8 +78,8 @@ module _ (ns : ℕ) (settings : Settings) (pending : Bool) where
         x n Untold (staysPending settings pending) _ _)
 
     -- so the next item finds what this one found, and row 1 need not be looked at again
-    pub still-open : Open (releaseItem ns settings pending w x n .world)
-    still-open = (
+    pub still-past-two : PastTwo (releaseItem ns settings pending w x n .world)
+    still-past-two = (
       passing-test _ _ (settings .page) (subst (λ (s : State). Passing (sizeOf s) (releaseItem ns settings pending w x n .world) (settings .page)) (sym (settled .state)) passes),
       ap (λ (s : State). s .question) (settled .state) ∙ h .1,
     )
@@ -92,20 +92,17 @@ module _ (ns : ℕ) (settings : Settings) (pending : Bool) where
   -- ---- item after item
 
   -- what holds of the world before the items, and is kept by each, holds after them
-  pub each-keeps : (Q : World → Type 0) → ((w : World) → Open w → Q w → (x n : ℕ) → Q (releaseItem ns settings pending w x n .world))
-      → (w : World) → Open w → Q w → (xs counts : List ℕ) → Q (releaseEach ns settings pending w xs counts .whole .world)
+  pub each-keeps : (Q : World → Type 0) → ((w : World) → PastTwo w → Q w → (x n : ℕ) → Q (releaseItem ns settings pending w x n .world))
+      → (w : World) → PastTwo w → Q w → (xs counts : List ℕ) → Q (releaseEach ns settings pending w xs counts .whole .world)
   each-keeps Q keep w h q [] counts = q
   each-keeps Q keep w h q (x ∷ xs) [] = q
-  each-keeps Q keep w h q (x ∷ xs) (n ∷ counts) = each-keeps Q keep (releaseItem ns settings pending w x n .world) (still-open w h x n) (keep w h q x n) xs counts
+  each-keeps Q keep w h q (x ∷ xs) (n ∷ counts) = each-keeps Q keep (releaseItem ns settings pending w x n .world) (still-past-two w h x n) (keep w h q x n) xs counts
 
-  pub each-open : (w : World) → Open w → (xs counts : List ℕ) → Open (releaseEach ns settings pending w xs counts .whole .world)
-  each-open w h xs counts = each-keeps Open (λ v g _ x n. still-open v g x n) w h h xs counts
-
-  pub each-sound : (w : World) → Open w → SoundWorld (sizeOf (w .state)) w → (xs counts : List ℕ)
+  pub each-sound : (w : World) → PastTwo w → SoundWorld (sizeOf (w .state)) w → (xs counts : List ℕ)
       → SoundWorld (sizeOf (releaseEach ns settings pending w xs counts .whole .world .state)) (releaseEach ns settings pending w xs counts .whole .world)
   each-sound w h k xs counts = each-keeps (λ (v : World). SoundWorld (sizeOf (v .state)) v) (λ v g z x n. item-kept v g x n z) w h k xs counts
 
-  pub each-state : (w : World) → Open w → (xs counts : List ℕ) → releaseEach ns settings pending w xs counts .whole .world .state ≡ w .state
+  pub each-state : (w : World) → PastTwo w → (xs counts : List ℕ) → releaseEach ns settings pending w xs counts .whole .world .state ≡ w .state
   each-state w h xs counts = each-keeps (λ (v : World). v .state ≡ w .state) (λ v g e x n. settled v g x n .state ∙ e) w h refl xs counts
 
 -- the list itself is granted
@@ -133,6 +130,15 @@ module _ (w : World) (ns : ℕ) (settings : Settings) (t : Items) where
       (λ g. turned-down _ (ap₂ _&&_ e (ap₂ _&&_ f g)) refl))
       (λ f. turned-down _ (ap₂ (λ (a b : Bool). a && (b && listFits t)) e f) refl))
       (λ e. turned-down _ (ap (λ (a : Bool). a && (isIdle (w .state .question) && listFits t)) e) refl)
+
+  -- what holds of the table, and is kept by each item of a list that is granted, holds after it
+  pub list-keeps : (Q : World → Type 0) → ((v : World) → PastTwo ns settings (t .pending) v → Q v → (x n : ℕ) → Q (releaseItem ns settings (t .pending) v x n .world)) → Q w
+      → Q (releaseList w ns settings t .whole .world)
+  list-keeps Q keep q = go list-comes
+    where
+      go : ListComes w ns settings t (releaseList w ns settings t) → Q (releaseList w ns settings t .whole .world)
+      go (turned-down why e is) = subst (λ (u : ListOutcome). Q (u .whole .world)) (sym is) q
+      go (one-by-one e idle fits is) = subst (λ (u : ListOutcome). Q (u .whole .world)) (sym is) (each-keeps ns settings (t .pending) Q keep w (e, idle) q (t .addresses) (t .counts))
 
   -- "1" exactly if row 1 does not let it pass
   pub broken-list : isBroken (releaseList w ns settings t .whole .answer) ≡ not (sound (sizeOf (w .state)) w (settings .page))

@@ -9,7 +9,7 @@ use Rattle.layer.specs.declared.Reply.{Reply}
 use Rattle.layer.specs.World.{sizeOf, Leaves}
 use Rattle.layer.specs.Listing.{items, listOutcome, LeavesList}
 use Rattle.layer.proofs.Calls.{idle-is}
-use Rattle.layer.proofs.Lists.{item-is, settled, still-open, each-granted, each-state}
+use Rattle.layer.proofs.Lists.{item-is, settled, still-past-two, each-granted, each-state}
 use Rattle.state.specs.Ready.{Ready, Stamped}
 use Rattle.state.proofs.Entry.{calm-is, ready, stamps-lent}
 use Rattle.release_lists.specs.Passed.{Passed, LeavesItem}
@@ -59,7 +59,7 @@ module _ (records : List Arena) (stamps addresses counts answers : List ℕ) (st
 
     pub turns : (number : ℕ) (l′ : List Arena) (t′ : List ℕ) → LeavesItem item number l′ t′ → Turned (j + 1) l′ t′ (set given j number)
     turns number l′ t′ says = let one-more : suc j ≡ j + 1 = omega arith in subst (λ (m : ℕ). Turned m l′ t′ (set given j number)) one-more (record {
-      passed = subst (λ (w : World). (sound (sizeOf (w .state)) w (settings .page) ≡ true) × (w .state .question ≡ Idle)) left-is (still-open ns settings pending (worldOf l t state) (inv .passed) x n);
+      passed = subst (λ (w : World). (sound (sizeOf (w .state)) w (settings .page) ≡ true) × (w .state .question ≡ Idle)) left-is (still-past-two ns settings pending (worldOf l t state) (inv .passed) x n);
       world = inv .world ∙ ap (λ (u : ListOutcome). u .whole .world) unrolled ∙ ap (λ (w : World). releaseEach ns settings pending w (drop (suc j) addresses) (drop (suc j) counts) .whole .world) left-is;
       numbers = inv .numbers
           ∙ ap (λ (u : ListOutcome). take j given ++ u .numbers) unrolled

@@ -1,5 +1,5 @@
 -- Option 15, purge_delay: where every call carries a negative delay nothing is purged, over whole histories. No deadline is ever set, so a forced sweep asks nothing either. Assumes nothing.
-use Rattle.layer.proofs.Prelude.{_≡_, refl, sym, ap, _∙_, subst, Bool, true, false, not, _&&_, _||_, true≢false, List, ⊎-elim, ℕ, zero, suc, _+_, _-_, _<_, _≤_, arith, ℕ-discrete, eq-eqb, ℤ, pos, negsuc, ltb, length, set, lt-or-le, by-cond, unless, Refusal, neverPurges, isDue, Arena, Commitment, newArena, reservedArena, managedArena, adoptedArena, grownArena, takeRun, dirtyRun, giveBackRun, commitRun, finishGrant, releaseRun, sweepDue, World, Outcome, worldOf, stateWith, after, blank, at, askMemory, withRecord, withStamps, sweepFrom, sweptReply, failReply, resume, answerTo, answerOf, isFor, Act, claim, reserve, manage, adopt, release, sweep, owns, area, Call, act, query, answer, sweepOf, sweepsNone, actOn, stepOn, rules, byRules, History, begin, next, joining, Lent, left, join, empty, _/_, searchOf, releaseOf, nowMs, delayMs, sound, isIdle, JoinOutcome, isBroken, outcomeBy, isBrokenJoin, joinBy, Side, sideOf, ofFirst, ofSecond, Items, ListOutcome, releaseList, listing, listBy}
+use Rattle.layer.proofs.Prelude.{_≡_, refl, sym, ap, _∙_, subst, Bool, true, false, not, _&&_, _||_, true≢false, List, ⊎-elim, ℕ, zero, suc, _+_, _-_, _<_, _≤_, arith, ℕ-discrete, eq-eqb, ℤ, pos, negsuc, ltb, length, set, lt-or-le, by-cond, unless, Refusal, neverPurges, isDue, Arena, Commitment, newArena, reservedArena, managedArena, adoptedArena, grownArena, takeRun, dirtyRun, giveBackRun, commitRun, finishGrant, releaseRun, sweepDue, World, Outcome, worldOf, stateWith, after, blank, at, askMemory, withRecord, withStamps, sweepFrom, sweptReply, failReply, resume, answerTo, answerOf, isFor, Act, claim, reserve, manage, adopt, release, sweep, owns, area, Call, act, query, answer, sweepOf, sweepsNone, actOn, stepOn, rules, byRules, History, begin, next, joining, Lent, left, join, empty, _/_, searchOf, releaseOf, nowMs, delayMs, sound, isIdle, JoinOutcome, isBroken, outcomeBy, isBrokenJoin, joinBy, Side, sideOf, ofFirst, ofSecond, Items, releaseList, listing, listBy}
 use lib.ListN.{List·getD-eq-default}
 use lib.Seq.{set-out}
 use Rattle.options.proofs.Differences.{never-is-negative}
@@ -19,7 +19,7 @@ use Rattle.layer.proofs.Tools.{at-same, at-other, by-not}
 use Rattle.layer.proofs.Rules.{Again, again}
 use Rattle.layer.proofs.Cases.{register, grant-cases, search-cases, miss-cases, claim-cases, release-in-cases, release-cases, reserve-cases, register-cases, manage-cases, adopt-cases, memory-cases}
 use Rattle.layer.proofs.Sweeps.{all-or-none}
-use Rattle.layer.proofs.Lists.{each-keeps, ListComes, turned-down, one-by-one, list-comes}
+use Rattle.layer.proofs.Lists.{list-keeps}
 use Rattle.layer.proofs.Joins.{Comes, both-stay, one-table, join-comes}
 use Rattle.layer_laws.specs.sweep_runs.Run.{asksPurge, isPurging}
 use Rattle.layer_laws.specs.joined.Join.{OneTable}
@@ -223,13 +223,7 @@ negative-never d h = ap neverPurges (h .1)
 
 -- a list is releases
 list-quiet : (w : World) (ns : ℕ) (settings : Settings) (t : Items) → neverPurges (settings .delay) ≡ true → Quiet w → Quiet (releaseList w ns settings t .whole .world)
-list-quiet w ns settings t n q = go (releaseList w ns settings t) (list-comes w ns settings t)
-  where
-    go : (o : ListOutcome) → ListComes w ns settings t o → Quiet (o .whole .world)
-    go o (turned-down why e is) = subst (λ (u : ListOutcome). Quiet (u .whole .world)) (sym is) q
-    go o (one-by-one e idle fits is) =
-        subst (λ (u : ListOutcome). Quiet (u .whole .world)) (sym is)
-        (each-keeps ns settings (t .pending) Quiet (λ v g p x m. step-fine (sizeOf (v .state)) v ns settings _ p n .0) w (e, idle) q (t .addresses) (t .counts))
+list-quiet w ns settings t n q = list-keeps w ns settings t Quiet (λ v g p x m. step-fine (sizeOf (v .state)) v ns settings _ p n .0) q
 
 quiet : (h : History) → Lent byRules h → EachDelay Negative h → Quiet (left byRules h)
 quiet begin lent each = empty-quiet

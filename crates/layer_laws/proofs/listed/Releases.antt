@@ -1,35 +1,26 @@
 -- Wish 3 of the rules' list: the order of its refusals, that it is single releases in list order, and what follows of these. Assumes nothing.
-use Rattle.layer.proofs.Prelude.{_≡_, refl, sym, ap, ap₂, _∙_, subst, Bool, true, false, not, _&&_, true≢false, List, [], _∷_, _⊎_, inl, inr, ℕ, zero, suc, _<_, _≤_, arith, ℕ-discrete, eq-eqb, eqb-true, leb-true, le-leb, eqb, length, getD, set, when, unless, and-both, Refusal, Broken, QuestionOpen, Zero, NotWhole, PastEnd, ListLength, nowMs, delayMs, Arena, Untold, releaseRun, pendRun, tellRun, giveBackRun, World, Outcome, at, sound, staysPending, byRules, isIdle, isBroken, Items, ListOutcome, itemNumber, releaseEach, releaseItem, listFits, releaseList}
+use Rattle.layer.proofs.Prelude.{never, _≡_, refl, sym, ap, ap₂, _∙_, subst, Bool, true, false, not, _&&_, true≢false, List, [], _∷_, _⊎_, inl, inr, ℕ, zero, suc, _<_, _≤_, arith, ℕ-discrete, eq-eqb, eqb-true, leb-true, le-leb, eqb, length, getD, set, when, unless, and-both, Refusal, Broken, QuestionOpen, Zero, NotWhole, PastEnd, ListLength, nowMs, delayMs, Arena, Untold, releaseRun, pendRun, tellRun, giveBackRun, World, Outcome, at, sound, staysPending, byRules, isIdle, isBroken, Items, ListOutcome, itemNumber, releaseEach, releaseItem, listFits, releaseList}
 use Rattle.refusals.specs.declared.Refusal.the-variants.{NotInside}
 use Rattle.refusals.specs.Number.{number}
 use Rattle.layer.specs.declared.Settings.{Settings}
 use Rattle.layer.specs.declared.Question.the-variants.{Idle}
 use Rattle.layer.specs.declared.Answer.{Answer}
-use Rattle.layer.specs.declared.Answer.the-variants.{Refused, Asks, Registered, Claimed, Released, Swept, Owns, Area}
+use Rattle.layer.specs.declared.Answer.the-variants.{Refused, Released}
 use Rattle.layer.specs.World.{sizeOf}
 use Rattle.layer.proofs.Tools.{at-same, at-other}
 use Rattle.layer.proofs.Stepped.{passing-facts, passing-test}
 use Rattle.layer.proofs.Cases.{release-in-cases, release-cases}
 use Rattle.layer.proofs.Calls.{idle-is}
-use Rattle.layer.proofs.Lists.{Open, item-is, settled, still-open, each-keeps, each-granted, ListComes, turned-down, one-by-one, list-comes, broken-list}
+use Rattle.layer.proofs.Lists.{PastTwo, item-is, settled, still-past-two, each-granted, list-keeps, ListComes, turned-down, one-by-one, list-comes, broken-list}
 use lib.Seq.{ext-getD}
 use Rattle.layer.specs.Step.{Call}
 use Rattle.layer.specs.History.{Layer}
+use Rattle.layer_laws.specs.sweep_runs.Run.{isRefused}
 use Rattle.layer_laws.specs.listed.Releases.{Determined, single, Passes, OneLength, BrokenExactly, OpenExactly, NineteenExactly, GrantedElse, RefusedLeaves, Says, Singly, AsSingles, ReleasesNumber, OnlyReleases, LeavesCommitted, LeavesState, LeavesSound, ReleasesLists}
 
 -- two answers of other numbers
 differ : {A : Type 0} (a b : Answer) → a ≡ b → (itemNumber a ≡ itemNumber b → ⊥) → A
 differ a b e d = absurd (d (ap itemNumber e))
-
-abbrev isRefused : Answer → Bool
-isRefused (Refused why) = true
-isRefused (Asks ask) = false
-isRefused (Registered id) = false
-isRefused (Claimed address fresh committed) = false
-isRefused Released = false
-isRefused (Swept count) = false
-isRefused (Owns whether) = false
-isRefused (Area base bytes) = false
 
 not-both : {A : Type 0} {why : Refusal} → Released ≡ Refused why → A
 not-both e = absurd (true≢false (sym (ap isRefused e)))
@@ -87,30 +78,19 @@ module _ (w : World) (ns : ℕ) (settings : Settings) (t : Items) where
       go true g = differ _ _ (sym (row-none e (ap isIdle idle) g) ∙ is) (λ n. omega (arith, n))
       go false g = differ _ _ (sym (row-nineteen e (ap isIdle idle) g) ∙ is) (λ n. omega (arith, n))
 
-  is-idle-or : (w .state .question ≡ Idle → ⊥) → isIdle (w .state .question) ≡ false
-  is-idle-or none = go (isIdle (w .state .question)) refl
-    where
-      go : (b : Bool) → isIdle (w .state .question) ≡ b → b ≡ false
-      go true e = absurd (none (idle-is (w .state .question) e))
-      go false e = refl
-
-turned-bool : (b : Bool) → (b ≡ true → ⊥) → b ≡ false
-turned-bool true h = absurd (h refl)
-turned-bool false h = refl
-
 broken-exactly : BrokenExactly byRules
 broken-exactly w ns settings t = (
   (λ e p. true≢false (sym (ap isBroken e) ∙ broken-list w ns settings t ∙ ap not p)),
-  (λ h. row-one w ns settings t (turned-bool (sound (sizeOf (w .state)) w (settings .page)) h)),
+  (λ h. row-one w ns settings t (never (sound (sizeOf (w .state)) w (settings .page)) h)),
 )
 
 open-exactly : OpenExactly byRules
-open-exactly w ns settings t p = ((λ e idle. not-two w ns settings t p idle e), (λ h. row-two w ns settings t p (is-idle-or w ns settings t h)))
+open-exactly w ns settings t p = ((λ e idle. not-two w ns settings t p idle e), (λ h. row-two w ns settings t p (never (isIdle (w .state .question)) (λ e. h (idle-is (w .state .question) e)))))
 
 nineteen-exactly : NineteenExactly byRules
 nineteen-exactly w ns settings t p idle = (
   (λ e l. differ _ _ (sym (row-none w ns settings t p (ap isIdle idle) (length-fits t l)) ∙ e) (λ n. omega (arith, n))),
-  (λ h. row-nineteen w ns settings t p (ap isIdle idle) (turned-bool (listFits t) (λ e. h (fits-length t e)))),
+  (λ h. row-nineteen w ns settings t p (ap isIdle idle) (never (listFits t) (λ e. h (fits-length t e)))),
 )
 
 granted-else : GrantedElse byRules
@@ -156,7 +136,7 @@ module _ (ns : ℕ) (settings : Settings) (pending : Bool) where
       go (yes f) = ap (λ (z : ℕ). at (set l i a) z .committed) f ∙ ap (λ (b : Arena). b .committed) (at-same l i a h) ∙ e ∙ ap (λ (z : ℕ). at l z .committed) (sym f)
       go (no f) = ap (λ (b : Arena). b .committed) (at-other l i j a f)
 
-  item : (w : World) → Open ns settings pending w → (x n : ℕ) → Item w (releaseItem ns settings pending w x n)
+  item : (w : World) → PastTwo ns settings pending w → (x n : ℕ) → Item w (releaseItem ns settings pending w x n)
   unfolding ItemSays
   item w h x n =
       subst (Item w) (sym (item-is ns settings pending w h x n))
@@ -206,20 +186,20 @@ module _ (ns : ℕ) (settings : Settings) (pending : Bool) where
   as-many w (x ∷ xs) [] e = absurd (omega (arith, e))
   as-many w (x ∷ xs) (n ∷ counts) e = ap suc (as-many (releaseItem ns settings pending w x n .world) xs counts (let f : length counts ≡ length xs = omega (arith, e) in f))
 
-  stands : (w : World) → Open ns settings pending w → (xs counts : List ℕ) → length counts ≡ length xs → (j : ℕ) → j < length xs
+  stands : (w : World) → PastTwo ns settings pending w → (xs counts : List ℕ) → length counts ≡ length xs → (j : ℕ) → j < length xs
       → Says (itemAt w xs counts j .answer) (getD (each w xs counts .numbers) j 0) × ReleasesNumber (getD (each w xs counts .numbers) j 0)
   unfolding before
   stands w o [] counts e j h = absurd (omega (arith, h))
   stands w o (x ∷ xs) [] e j h = absurd (omega (arith, e))
   stands w o (x ∷ xs) (n ∷ counts) e zero h = says-number _ (item w o x n .says)
   stands w o (x ∷ xs) (n ∷ counts) e (suc j) h =
-      stands (releaseItem ns settings pending w x n .world) (still-open ns settings pending w o x n) xs counts (let f : length counts ≡ length xs = omega (arith, e) in f) j (omega (arith, h))
+      stands (releaseItem ns settings pending w x n .world) (still-past-two ns settings pending w o x n) xs counts (let f : length counts ≡ length xs = omega (arith, e) in f) j (omega (arith, h))
 
 -- ---- so of a list that is granted
 
 -- what it came from
 record Granted (w : World) (ns : ℕ) (settings : Settings) (t : Items) : Type 0 where
-  passes : Open ns settings (t .pending) w
+  passes : PastTwo ns settings (t .pending) w
   lengths : OneLength t
   is : releaseList w ns settings t ≡ releaseEach ns settings (t .pending) w (t .addresses) (t .counts)
 
@@ -251,26 +231,17 @@ only-releases w ns settings t e j h =
 
 -- ---- and of every list
 
--- what holds of the table, and is kept by each item of a list that is granted, holds after it
-list-keeps : (Q : World → Type 0) (w : World) (ns : ℕ) (settings : Settings) (t : Items)
-    → ((v : World) → Open ns settings (t .pending) v → Q v → (x n : ℕ) → Q (releaseItem ns settings (t .pending) v x n .world)) → Q w → Q (releaseList w ns settings t .whole .world)
-list-keeps Q w ns settings t keep q = go (list-comes w ns settings t)
-  where
-    go : ListComes w ns settings t (releaseList w ns settings t) → Q (releaseList w ns settings t .whole .world)
-    go (turned-down why e is) = subst (λ (u : ListOutcome). Q (u .whole .world)) (sym is) q
-    go (one-by-one e idle fits is) = subst (λ (u : ListOutcome). Q (u .whole .world)) (sym is) (each-keeps ns settings (t .pending) Q keep w (e, idle) q (t .addresses) (t .counts))
-
 leaves-committed : LeavesCommitted byRules
 leaves-committed w ns settings t i =
-    list-keeps (λ (v : World). at (v .records) i .committed ≡ at (w .records) i .committed) w ns settings t (λ v o e x n. item ns settings (t .pending) v o x n .committed i ∙ e) refl
+    list-keeps w ns settings t (λ (v : World). at (v .records) i .committed ≡ at (w .records) i .committed) (λ v o e x n. item ns settings (t .pending) v o x n .committed i ∙ e) refl
 
 leaves-state : LeavesState byRules
 leaves-state w ns settings t =
-    list-keeps (λ (v : World). v .state ≡ w .state) w ns settings t (λ v o e x n. settled ns settings (t .pending) v o x n .state ∙ e) refl
+    list-keeps w ns settings t (λ (v : World). v .state ≡ w .state) (λ v o e x n. settled ns settings (t .pending) v o x n .state ∙ e) refl
 
 leaves-sound : LeavesSound byRules
 leaves-sound w ns settings t p page h =
-    let after : Passes (releaseList w ns settings t .whole .world) settings = list-keeps (λ (v : World). Passes v settings) w ns settings t (λ v o e x n. still-open ns settings (t .pending) v o x n .0) p in
+    let after : Passes (releaseList w ns settings t .whole .world) settings = list-keeps w ns settings t (λ (v : World). Passes v settings) (λ v o e x n. still-past-two ns settings (t .pending) v o x n .0) p in
     let f = passing-facts _ (releaseList w ns settings t .whole .world) (settings .page) after in
     passing-test _ (releaseList w ns settings t .whole .world) page
     (record { long = f .long; stamps = f .stamps; page-sound = h; few = f .few; each = f .each; apart = f .apart; question = f .question })

@@ -5,49 +5,12 @@ ghost use mathlib.Core.Bool.{true, false, cond};
 ghost use Prim.Native.Nat.{ℕ, _+_, _<_, _≤_, min};
 ghost use Rattle.bitmap.specs.Bits.{lowOnes, bit, within, LowestBit};
 
-// The masks of n low ones, n from 0 to 32. Only low_ones reads them.
-const LOW_ONES: [u32; 33] = [
-    0,
-    1,
-    3,
-    7,
-    15,
-    31,
-    63,
-    127,
-    255,
-    511,
-    1023,
-    2047,
-    4095,
-    8191,
-    16383,
-    32767,
-    65535,
-    131071,
-    262143,
-    524287,
-    1048575,
-    2097151,
-    4194303,
-    8388607,
-    16777215,
-    33554431,
-    67108863,
-    134217727,
-    268435455,
-    536870911,
-    1073741823,
-    2147483647,
-    4294967295,
-];
-
-// The mask of n low ones.
+// The mask of n low ones. In 64 bits: 1 shifted by 32 does not fit in 32, and would need a branch.
 pub fn low_ones(n: usize) -> u32
     requires { ⌜ n ≤ 32 ⌝ }
     ensures { λ r. ⌜ r ≡ lowOnes n ⌝ }
 {
-    LOW_ONES[n]
+    ((1u64 << n) - 1) as u32
 }
 
 // w with the n bits from lo on set.

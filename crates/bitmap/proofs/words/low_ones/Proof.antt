@@ -1,27 +1,30 @@
--- `bitmap::words::low_ones` meets its contract: the table's rule is a test at each of its 33 entries, which antt computes. Assumes nothing.
-use Rattle.walks.proofs.Prelude.{List, [], _∷_, Bool, ℕ, _-_, _^_, arith, eqb, getD, needs}
-use lib.Dec.{eqb→eq}
-use Rattle.bitmap.proofs.words.Table.{at}
+-- `bitmap::words::low_ones` meets its contract: up to 32 neither the shift in 64 bits nor the cast to 32 loses a bit. Assumes nothing.
+use Rattle.walks.proofs.Prelude.{_≡_, ap, _∙_, ℕ, _-_, _*_, _%_, _^_, _≤_, _<_, arith, needs, pow-pos, pow-mono}
+use lib.Pow.{shl-exact}
+use native.Mathlib.Nat.{one-mul}
 use Rattle.bitmap.proofs.words.low_ones.Statement.{statement}
 use Rattle.bitmap.proofs.words.low_ones.Tie as tie
 
-masks : List ℕ
-masks = 0 ∷ 1 ∷ 3 ∷ 7 ∷ 15 ∷ 31 ∷ 63 ∷ 127 ∷ 255 ∷ 511 ∷ 1023 ∷ 2047 ∷ 4095 ∷ 8191 ∷ 16383 ∷ 32767 ∷ 65535 ∷ 131071 ∷ 262143 ∷ 524287
-    ∷ 1048575 ∷ 2097151 ∷ 4194303 ∷ 8388607 ∷ 16777215 ∷ 33554431 ∷ 67108863 ∷ 134217727 ∷ 268435455 ∷ 536870911 ∷ 1073741823
-    ∷ 2147483647 ∷ 4294967295 ∷ []
+shifted : (n : ℕ) → n ≤ 32 → (1 * 2 ^ n) % 2 ^ 64 ≡ 2 ^ n
+shifted n h = shl-exact 1 n 64 (omega arith) (omega arith) ∙ one-mul (2 ^ n)
 
-right : ℕ → ℕ → Bool
-right k x = eqb x (2 ^ k - 1)
+positive : (n : ℕ) → n ≤ 32 → 1 ≤ (1 * 2 ^ n) % 2 ^ 64
+positive n h = omega (arith, shifted n h, pow-pos n)
 
-mul-result : tie.Need-mul-result
-mul-result c = search needs
+of-32-bits : (n : ℕ) → n ≤ 32 → (1 * 2 ^ n) % 2 ^ 64 - 1 < 2 ^ 32
+of-32-bits n h = omega (arith, shifted n h, pow-pos n, pow-mono h)
 
-array-read-result : tie.Need-array-read-result
-array-read-result c = search needs
+shl-result : tie.Need-shl-result
+shl-result c = search needs
+
+sub-result : tie.Need-sub-result
+sub-result c = positive (c .args .n) (c .pre)
+
+cast-result : tie.Need-cast-result
+cast-result c = record { fits = of-32-bits (c .args .n) (c .pre) }
 
 returns : tie.Need-returns
-unfolding masks right
-returns c = eqb→eq (getD masks (c .args .n) 0) (2 ^ (c .args .n) - 1) (at right masks tt (c .args .n) (omega arith))
+returns c = ap (λ (x : ℕ). x - 1) (shifted (c .args .n) (c .pre))
 
 pub low-ones-spec : {M : Type 1} → statement M
-low-ones-spec = tie.close (tie.spec mul-result array-read-result returns)
+low-ones-spec = tie.close (tie.spec shl-result sub-result cast-result returns)

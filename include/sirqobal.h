@@ -243,7 +243,6 @@ struct sirqobal_reply {
     uint64_t align;    /* memory: the alignment */
     size_t id;         /* the arena that was registered or grown */
     size_t count;      /* a sweep's yes answers */
-    size_t unheld;     /* a release: how many of its chunks were not held before; a list: the sum over its granted items */
     bool fresh;        /* a claim: no chunk was dirty before */
     bool committed;    /* a claim: all chunks are committed */
     bool owns;         /* the address lies in an arena */

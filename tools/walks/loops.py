@@ -131,10 +131,6 @@ class Loop:
         # from 0 on the counter never passes its bound
         self.bounded = begin == "0"
         first = {self.i: begin} | self.lists_now()
-        # another local that starts at a number and that a turn sets
-        for n, name in self.carried.items():
-            if n != self.counter and walk.starting.get(n, "").isdigit():
-                first |= {name: walk.starting[n], f"f-{name}": "omega arith"}
         given = [f"{name} = {first.get(name, name)}" for name, _ in self.record]
         given += (["below = omega arith"] if self.bounded else []) + [f"inv = {walk.script.starts}"]
         walk.emit(f"whiles ! 𝓣 (I @FACTS@ bs) (λ (st : St). {self.k} - st .{self.i}) (turn @FACTS@ bs) (record {{ {'; '.join(given)} }})" + ")" * walk.open)

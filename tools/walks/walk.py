@@ -155,10 +155,6 @@ class Walk:
             self.starting[n] = self.operand(value[1])
             self.kind[n] = PLAIN["usize"]
             read, typed = f"(of-opd ! {self.reads(value[1])})", f"(tt, record {{ fits = f-{self.starting[n]} }})"
-        elif value[0] == "rvOpd" and value[1][0] == "copy" and not items(value[1][1][2]) and n == 0 and self.f.result.form == "number":
-            m = self.operand(value[1])
-            self.emit(f"let result : ℕ = {m} in let f-result : {m} < 2 ^ {self.f.result.width} = f-{m} in")
-            read, typed = f"(of-opd ! {self.local(value[1][1][1])})", "(tt, record { fits = f-result })"
         elif value[0] == "rvOpd" and value[1][0] == "copy" and not items(value[1][1][2]) and n == 0 and self.f.result.form == "named":
             m = self.operand(value[1])
             self.name[n] = m

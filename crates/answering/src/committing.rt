@@ -1,7 +1,6 @@
 // The answer to a commit question: one load, and a store of what each answer makes of the record.
-ghost use Rattle.std.specs.Prelude.{◌≡◌, List, ℕ, ◌+◌, ◌≤◌};
+ghost use Rattle.std.specs.Prelude.{◌≡◌, List, ℕ};
 ghost use Rattle.refusals.specs.declared.Refusal.TheVariants.{CommitRefused};
-ghost use Rattle.arena.specs.Claiming.{give_back_run};
 ghost use Rattle.layer.specs.World.{size_of, Leaves, turn_down, calm};
 ghost use Rattle.layer.specs.Answering.{answer_commit};
 ghost use Rattle.claiming.specs.Search.{RunAt};
@@ -16,14 +15,6 @@ fn commit_refused(state: State) -> Reply
 {
     let answer = Answer::Refused(Refusal::CommitRefused);
     state::settled(answer, state.count, state.mark)
-}
-
-// The run given back. A claim that comes to nothing asks not how many of its chunks were held: all were.
-fn given_back(a: Arena, s: usize, n: usize) -> Arena
-    requires { s + n ≤ 1024 }
-    ensures { result ≡ give_back_run a s n }
-{
-    arena::arena_runs::give_back_run(a, s, n).arena
 }
 
 // The n chunks from s on of arena i: after a yes the run is committed and dirty, and granted; after a no its chunks are free again.
@@ -47,7 +38,7 @@ pub fn answer_commit(
         table::records::store(records, i, held);
         return claiming::grants::granted(h, state, s, fresh, true, size);
     }
-    let freed = given_back(a, s, n);
+    let freed = arena::arena_runs::give_back_run(a, s, n);
     table::records::store(records, i, freed);
     commit_refused(state)
 }

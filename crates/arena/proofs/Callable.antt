@@ -4,16 +4,14 @@ use Rattle.walks.proofs.Walking.{◌≡◌, refl, sym, subst, Bool, true, ℕ, �
 use Rattle.arena.specs.contracts.Arena as T-Arena
 use Rattle.arena.proofs.Arena.TheLaws as L-Arena
 use denote.Struct.Laws as LL
-use Rattle.arena.specs.contracts.arena_runs.GivenBack as T-GivenBack
 use Rattle.arena.specs.contracts.Commitment as T-Commitment
 use Rattle.arena.proofs.Commitment.TheLaws as L-Commitment
 use denote.Enum.Laws as EL
 use Rattle.arena.specs.declared.Arena.{Arena}
 use Rattle.arena.specs.Registering.{adopted_arena, grown_arena, managed_arena}
 use Rattle.arena.specs.Claiming.{finish_grant, give_back_run, take_run, dirty_run}
-use Rattle.arena.specs.declared.arena_runs.GivenBack.{GivenBack}
-use Rattle.arena.specs.Releasing.{unheld_in, given_back, tell_run, pend_run, stamp_run}
 use Rattle.arena.specs.declared.Commitment.{Commitment}
+use Rattle.arena.specs.Releasing.{tell_run, pend_run, stamp_run}
 use Rattle.arena.specs.Record.{with_deadline}
 use Rattle.arena.specs.Sweeping.{disarm, borrow_chunk, return_chunk}
 use Rattle.arena.specs.Stamps.{no_stamps}
@@ -127,12 +125,12 @@ module _ {M : Type 1} {𝓤 : Ura M} {𝓛 : Logic 𝓤} {K : Type 0} {Γ : List
   pub give-back-run-step : K → Site K 𝓛 Γ C E #arena·arena-runs·give-back-run xs G after → (mem : Memory → SProp 𝓤) (run : Routine → Fun 𝓤) → Triple 𝓤 (C #arena·arena-runs·give-back-run) (GiveBackRunSpec 𝓛 mem run)
       → (a : Arena) (v-a : Val) → Is T-Arena.the_row a (v-a ∷ []) → (s : ℕ) → s < 2 ^ 64 → (n : ℕ) → n < 2 ^ 64 → (s + n ≤ 1024)
       → ((hd' : Item 𝓤) → Opds K 𝓛 (hd' ∷ Γ) E xs (v-a ∷ vint w64 s ∷ vint w64 n ∷ []))
-      → ((val' : Val) → Is T-GivenBack.the_row (given_back (give_back_run a s n) (unheld_in a s n)) (val' ∷ []) → Seq K 𝓛 (more ∷ Γ) (after val'))
+      → ((val' : Val) → Is T-Arena.the_row (give_back_run a s n) (val' ∷ []) → Seq K 𝓛 (more ∷ Γ) (after val'))
       → Seq K 𝓛 (more ∷ Γ) G
   give-back-run-step bang site mem run known a v-a g-a s f-s n f-n need ops then' =
-      plain-call bang site T-GivenBack.the_row (plain (λ _. T-Arena.the_row) ∷ plain (λ _. usize) ∷ plain (λ _. usize) ∷ []) (yes, (yes, (yes, tt))) (give-back-run'.clauses 𝓛 mem run) known (a, (s, (n, tt))) (v-a ∷ [], (vint w64 s ∷ [], (vint w64 n ∷ [], tt)))
+      plain-call bang site T-Arena.the_row (plain (λ _. T-Arena.the_row) ∷ plain (λ _. usize) ∷ plain (λ _. usize) ∷ []) (yes, (yes, (yes, tt))) (give-back-run'.clauses 𝓛 mem run) known (a, (s, (n, tt))) (v-a ∷ [], (vint w64 s ∷ [], (vint w64 n ∷ [], tt)))
       (owns_make 𝓛 (T-Arena.the_row ∷ usize ∷ usize ∷ []) (Ises (T-Arena.the_row ∷ usize ∷ usize ∷ [])) (LL.makes T-Arena.the_type L-Arena.the_plain 𝓛, (uint_Makes 𝓛 w64, (uint_Makes 𝓛 w64, tt))) (a, (s, (n, tt))) (v-a ∷ [], (vint w64 s ∷ [], (vint w64 n ∷ [], tt))) (g-a, ((refl, f-s), ((refl, f-n), tt)))) tt (fact_i 𝓤 _ (emp 𝓤) need)
-      (λ out. out ≡ given_back (give_back_run a s n) (unheld_in a s n)) (λ out ws. id⊢ 𝓤 _) ops (λ val' out rel' eq'. then' val' (subst (λ (obj' : GivenBack). Is T-GivenBack.the_row obj' (val' ∷ [])) eq' rel'))
+      (λ out. out ≡ give_back_run a s n) (λ out ws. id⊢ 𝓤 _) ops (λ val' out rel' eq'. then' val' (subst (λ (obj' : Arena). Is T-Arena.the_row obj' (val' ∷ [])) eq' rel'))
 
   pub grant-run-step : K → Site K 𝓛 Γ C E #arena·arena-runs·grant-run xs G after → (mem : Memory → SProp 𝓤) (run : Routine → Fun 𝓤) → Triple 𝓤 (C #arena·arena-runs·grant-run) (GrantRunSpec 𝓛 mem run)
       → (a : Arena) (v-a : Val) → Is T-Arena.the_row a (v-a ∷ []) → (s : ℕ) → s < 2 ^ 64 → (n : ℕ) → n < 2 ^ 64 → (s + n ≤ 1024)
@@ -147,22 +145,22 @@ module _ {M : Type 1} {𝓤 : Ura M} {𝓛 : Logic 𝓤} {K : Type 0} {Γ : List
   pub release-pending-step : K → Site K 𝓛 Γ C E #arena·arena-runs·release-pending xs G after → (mem : Memory → SProp 𝓤) (run : Routine → Fun 𝓤) → Triple 𝓤 (C #arena·arena-runs·release-pending) (ReleasePendingSpec 𝓛 mem run)
       → (a : Arena) (v-a : Val) → Is T-Arena.the_row a (v-a ∷ []) → (s : ℕ) → s < 2 ^ 64 → (n : ℕ) → n < 2 ^ 64 → (told : Commitment) (v-told : Val) → Is T-Commitment.the_row told (v-told ∷ []) → (ms : ℕ) → ms < 2 ^ 32 → (delay : ℕ) → delay < 2 ^ 32 → (s + n ≤ 1024)
       → ((hd' : Item 𝓤) → Opds K 𝓛 (hd' ∷ Γ) E xs (v-a ∷ vint w64 s ∷ vint w64 n ∷ v-told ∷ vint w32 ms ∷ vint w32 delay ∷ []))
-      → ((val' : Val) → Is T-GivenBack.the_row (given_back (pend_run (tell_run (give_back_run a s n) s n told) s n ms delay) (unheld_in a s n)) (val' ∷ []) → Seq K 𝓛 (more ∷ Γ) (after val'))
+      → ((val' : Val) → Is T-Arena.the_row (pend_run (tell_run (give_back_run a s n) s n told) s n ms delay) (val' ∷ []) → Seq K 𝓛 (more ∷ Γ) (after val'))
       → Seq K 𝓛 (more ∷ Γ) G
   release-pending-step bang site mem run known a v-a g-a s f-s n f-n told v-told g-told ms f-ms delay f-delay need ops then' =
-      plain-call bang site T-GivenBack.the_row (plain (λ _. T-Arena.the_row) ∷ plain (λ _. usize) ∷ plain (λ _. usize) ∷ plain (λ _. T-Commitment.the_row) ∷ plain (λ _. u32) ∷ plain (λ _. u32) ∷ []) (yes, (yes, (yes, (yes, (yes, (yes, tt)))))) (release-pending'.clauses 𝓛 mem run) known (a, (s, (n, (told, (ms, (delay, tt)))))) (v-a ∷ [], (vint w64 s ∷ [], (vint w64 n ∷ [], (v-told ∷ [], (vint w32 ms ∷ [], (vint w32 delay ∷ [], tt))))))
+      plain-call bang site T-Arena.the_row (plain (λ _. T-Arena.the_row) ∷ plain (λ _. usize) ∷ plain (λ _. usize) ∷ plain (λ _. T-Commitment.the_row) ∷ plain (λ _. u32) ∷ plain (λ _. u32) ∷ []) (yes, (yes, (yes, (yes, (yes, (yes, tt)))))) (release-pending'.clauses 𝓛 mem run) known (a, (s, (n, (told, (ms, (delay, tt)))))) (v-a ∷ [], (vint w64 s ∷ [], (vint w64 n ∷ [], (v-told ∷ [], (vint w32 ms ∷ [], (vint w32 delay ∷ [], tt))))))
       (owns_make 𝓛 (T-Arena.the_row ∷ usize ∷ usize ∷ T-Commitment.the_row ∷ u32 ∷ u32 ∷ []) (Ises (T-Arena.the_row ∷ usize ∷ usize ∷ T-Commitment.the_row ∷ u32 ∷ u32 ∷ [])) (LL.makes T-Arena.the_type L-Arena.the_plain 𝓛, (uint_Makes 𝓛 w64, (uint_Makes 𝓛 w64, (EL.makes T-Commitment.the_type L-Commitment.the_plain 𝓛, (uint_Makes 𝓛 w32, (uint_Makes 𝓛 w32, tt)))))) (a, (s, (n, (told, (ms, (delay, tt)))))) (v-a ∷ [], (vint w64 s ∷ [], (vint w64 n ∷ [], (v-told ∷ [], (vint w32 ms ∷ [], (vint w32 delay ∷ [], tt)))))) (g-a, ((refl, f-s), ((refl, f-n), (g-told, ((refl, f-ms), ((refl, f-delay), tt))))))) tt (fact_i 𝓤 _ (emp 𝓤) need)
-      (λ out. out ≡ given_back (pend_run (tell_run (give_back_run a s n) s n told) s n ms delay) (unheld_in a s n)) (λ out ws. id⊢ 𝓤 _) ops (λ val' out rel' eq'. then' val' (subst (λ (obj' : GivenBack). Is T-GivenBack.the_row obj' (val' ∷ [])) eq' rel'))
+      (λ out. out ≡ pend_run (tell_run (give_back_run a s n) s n told) s n ms delay) (λ out ws. id⊢ 𝓤 _) ops (λ val' out rel' eq'. then' val' (subst (λ (obj' : Arena). Is T-Arena.the_row obj' (val' ∷ [])) eq' rel'))
 
   pub release-run-step : K → Site K 𝓛 Γ C E #arena·arena-runs·release-run xs G after → (mem : Memory → SProp 𝓤) (run : Routine → Fun 𝓤) → Triple 𝓤 (C #arena·arena-runs·release-run) (ReleaseRunSpec 𝓛 mem run)
       → (a : Arena) (v-a : Val) → Is T-Arena.the_row a (v-a ∷ []) → (s : ℕ) → s < 2 ^ 64 → (n : ℕ) → n < 2 ^ 64 → (told : Commitment) (v-told : Val) → Is T-Commitment.the_row told (v-told ∷ []) → (s + n ≤ 1024)
       → ((hd' : Item 𝓤) → Opds K 𝓛 (hd' ∷ Γ) E xs (v-a ∷ vint w64 s ∷ vint w64 n ∷ v-told ∷ []))
-      → ((val' : Val) → Is T-GivenBack.the_row (given_back (tell_run (give_back_run a s n) s n told) (unheld_in a s n)) (val' ∷ []) → Seq K 𝓛 (more ∷ Γ) (after val'))
+      → ((val' : Val) → Is T-Arena.the_row (tell_run (give_back_run a s n) s n told) (val' ∷ []) → Seq K 𝓛 (more ∷ Γ) (after val'))
       → Seq K 𝓛 (more ∷ Γ) G
   release-run-step bang site mem run known a v-a g-a s f-s n f-n told v-told g-told need ops then' =
-      plain-call bang site T-GivenBack.the_row (plain (λ _. T-Arena.the_row) ∷ plain (λ _. usize) ∷ plain (λ _. usize) ∷ plain (λ _. T-Commitment.the_row) ∷ []) (yes, (yes, (yes, (yes, tt)))) (release-run'.clauses 𝓛 mem run) known (a, (s, (n, (told, tt)))) (v-a ∷ [], (vint w64 s ∷ [], (vint w64 n ∷ [], (v-told ∷ [], tt))))
+      plain-call bang site T-Arena.the_row (plain (λ _. T-Arena.the_row) ∷ plain (λ _. usize) ∷ plain (λ _. usize) ∷ plain (λ _. T-Commitment.the_row) ∷ []) (yes, (yes, (yes, (yes, tt)))) (release-run'.clauses 𝓛 mem run) known (a, (s, (n, (told, tt)))) (v-a ∷ [], (vint w64 s ∷ [], (vint w64 n ∷ [], (v-told ∷ [], tt))))
       (owns_make 𝓛 (T-Arena.the_row ∷ usize ∷ usize ∷ T-Commitment.the_row ∷ []) (Ises (T-Arena.the_row ∷ usize ∷ usize ∷ T-Commitment.the_row ∷ [])) (LL.makes T-Arena.the_type L-Arena.the_plain 𝓛, (uint_Makes 𝓛 w64, (uint_Makes 𝓛 w64, (EL.makes T-Commitment.the_type L-Commitment.the_plain 𝓛, tt)))) (a, (s, (n, (told, tt)))) (v-a ∷ [], (vint w64 s ∷ [], (vint w64 n ∷ [], (v-told ∷ [], tt)))) (g-a, ((refl, f-s), ((refl, f-n), (g-told, tt))))) tt (fact_i 𝓤 _ (emp 𝓤) need)
-      (λ out. out ≡ given_back (tell_run (give_back_run a s n) s n told) (unheld_in a s n)) (λ out ws. id⊢ 𝓤 _) ops (λ val' out rel' eq'. then' val' (subst (λ (obj' : GivenBack). Is T-GivenBack.the_row obj' (val' ∷ [])) eq' rel'))
+      (λ out. out ≡ tell_run (give_back_run a s n) s n told) (λ out ws. id⊢ 𝓤 _) ops (λ val' out rel' eq'. then' val' (subst (λ (obj' : Arena). Is T-Arena.the_row obj' (val' ∷ [])) eq' rel'))
 
   pub take-run-step : K → Site K 𝓛 Γ C E #arena·arena-runs·take-run xs G after → (mem : Memory → SProp 𝓤) (run : Routine → Fun 𝓤) → Triple 𝓤 (C #arena·arena-runs·take-run) (TakeRunSpec 𝓛 mem run)
       → (a : Arena) (v-a : Val) → Is T-Arena.the_row a (v-a ∷ []) → (s : ℕ) → s < 2 ^ 64 → (n : ℕ) → n < 2 ^ 64 → (s + n ≤ 1024)

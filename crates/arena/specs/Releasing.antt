@@ -1,23 +1,13 @@
 -- What a release makes of one arena's record and of its stamps. Document 01, "Releasing": "Clears used bits, held or not. If told, sets or clears
 -- committed bits. If pending, stamps each chunk, sets its pending bit, arms clock + delay, wrapping." Assumes nothing.
 use Rattle.std.specs.Prelude.{Bool, cond, List, ◌++◌, ℕ, ◌+◌, take, drop, replicate}
-use Rattle.bitmap.specs.Counts.{count}
 use Rattle.bitmap.specs.Rows.{set_run, clear_run}
 use Rattle.clock.specs.Clock.{armed, due_at}
 use Rattle.arena.specs.declared.Arena.{Arena}
 use Rattle.arena.specs.declared.Commitment.{Commitment}
 use Rattle.arena.specs.declared.Commitment.TheVariants.{Untold, Committed, Uncommitted}
-use Rattle.arena.specs.declared.arena_runs.GivenBack.{GivenBack}
 use Rattle.arena.specs.Record.{with_committed, with_pending, with_deadline}
-use Rattle.arena.specs.Claiming.{free, give_back_run}
-
--- document 02, wish 5: "the number of chunks in the run whose used bit was clear before"
-abbrev pub unheld_in : Arena → ℕ → ℕ → ℕ
-unheld_in a = count (free a)
-
--- a record after a run is given back, with that number
-abbrev pub given_back : Arena → ℕ → GivenBack
-given_back a unheld = record { arena = a; unheld = unheld }
+use Rattle.arena.specs.Claiming.{give_back_run}
 
 -- a run of the map of committed chunks set, cleared or left
 unfoldable pub told_row : List ℕ → ℕ → ℕ → Commitment → List ℕ

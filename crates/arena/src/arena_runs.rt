@@ -2,7 +2,7 @@
 // used bit is set by the functions that take a run, and cleared by those that give one back.
 ghost use Rattle.std.specs.Prelude.{◌≡◌, true, ◌+◌, ◌≤◌};
 ghost use Rattle.arena.specs.Claiming.{take_run, give_back_run, dirty_run, finish_grant};
-ghost use Rattle.arena.specs.Releasing.{unheld_in, given_back, told_row, tell_run, pend_run};
+ghost use Rattle.arena.specs.Releasing.{told_row, tell_run, pend_run};
 
 use crate::{Arena, Commitment};
 
@@ -48,24 +48,14 @@ pub fn finish_grant(a: Arena, s: usize, n: usize) -> Arena
     }
 }
 
-// A record after a run is given back, and how many of the run's chunks were not held before.
-#[derive(Drop)]
-pub struct GivenBack {
-    pub arena: Arena,
-    pub unheld: usize,
-}
-
 // The run's used bits cleared, held or not.
-pub fn give_back_run(a: Arena, s: usize, n: usize) -> GivenBack
+pub fn give_back_run(a: Arena, s: usize, n: usize) -> Arena
     requires { s + n ≤ 1024 }
-    ensures { result ≡ given_back (give_back_run a s n) (unheld_in a s n) }
+    ensures { result ≡ give_back_run a s n }
 {
     let used = a.used;
-    let cleared = bitmap::rows::cleared_with_count(used, s, n);
-    let row = cleared.row;
-    let unheld = cleared.before;
-    let arena = Arena { used: row, ..a };
-    GivenBack { arena, unheld }
+    let left = bitmap::rows::row_cleared(used, s, n);
+    Arena { used: left, ..a }
 }
 
 // A run of the map of committed chunks set, cleared or left, as the release says.
@@ -81,50 +71,37 @@ fn row_told(row: [u32; 32], s: usize, n: usize, told: Commitment) -> [u32; 32]
 }
 
 // The run released: its used bits cleared, held or not, and its commitment told.
-pub fn release_run(a: Arena, s: usize, n: usize, told: Commitment) -> GivenBack
+pub fn release_run(a: Arena, s: usize, n: usize, told: Commitment) -> Arena
     requires { s + n ≤ 1024 }
-    ensures { result ≡ given_back (tell_run (give_back_run a s n) s n told) (unheld_in a s n) }
+    ensures { result ≡ tell_run (give_back_run a s n) s n told }
 {
     let used = a.used;
     let committed = a.committed;
-    let cleared = bitmap::rows::cleared_with_count(used, s, n);
+    let freed = bitmap::rows::row_cleared(used, s, n);
     let known = row_told(committed, s, n, told);
-    let row = cleared.row;
-    let unheld = cleared.before;
-    let arena = Arena {
-        used: row,
+    Arena {
+        used: freed,
         committed: known,
         ..a
-    };
-    GivenBack { arena, unheld }
+    }
 }
 
 // The same, with its pending bits set and the deadline armed.
-pub fn release_pending(
-    a: Arena,
-    s: usize,
-    n: usize,
-    told: Commitment,
-    ms: u32,
-    delay: u32,
-) -> GivenBack
+pub fn release_pending(a: Arena, s: usize, n: usize, told: Commitment, ms: u32, delay: u32) -> Arena
     requires { s + n ≤ 1024 }
-    ensures { result ≡ given_back (pend_run (tell_run (give_back_run a s n) s n told) s n ms delay) (unheld_in a s n) }
+    ensures { result ≡ pend_run (tell_run (give_back_run a s n) s n told) s n ms delay }
 {
     let used = a.used;
     let committed = a.committed;
     let pending = a.pending;
-    let cleared = bitmap::rows::cleared_with_count(used, s, n);
+    let left = bitmap::rows::row_cleared(used, s, n);
     let known = row_told(committed, s, n, told);
     let waiting = bitmap::rows::row_set(pending, s, n);
-    let row = cleared.row;
-    let unheld = cleared.before;
-    let arena = Arena {
+    Arena {
         deadline: clock::arm(a.deadline, clock::due_at(ms, delay)),
-        used: row,
+        used: left,
         committed: known,
         pending: waiting,
         ..a
-    };
-    GivenBack { arena, unheld }
+    }
 }

@@ -1,4 +1,3 @@
-pub mod CountLaws
 pub mod LowestLaws
 pub mod SearchLaws
 pub mod WalkLaws

@@ -2,4 +2,3 @@ pub mod Lowest
 pub mod Steps
 pub mod Bits
 pub mod Rows
-pub mod Counts

@@ -1,6 +1,5 @@
 -- The history meets the premises of demand 3, and its program is told what its share book says: computed. Assumes nothing.
 use Rattle.layer.proofs.Prelude.{◌≡◌, refl, ap, ◌∙◌, true, false, not, List, [], ◌∷◌, ◌++◌, ℕ, ◌+◌, ◌*◌, arith, lit<, bit, bit_at, within, as_number, pack, write_run, all, least, lowest_run, or_one, now_ms, delay_ms, never_purges, keeps, armed, is_due, arena_allowed, page_size_sound, new_arena, reserved_arena, managed_arena, adopted_arena, grown_arena, find_run, run_committed, run_fresh, take_run, give_back_run, commit_run, dirty_run, finish_grant, tell_run, pend_run, release_run, stamp_run, sweep_due, disarm, young, to_ask, next_asked, borrow_chunk, unpend_chunk, return_chunk, rearm, bytes_of, end_of, is_inside, sound_range, clear_past, clear_past_all, sound_arena, NoRun, World, Outcome, outcome, empty, meets, overlaps, bad_range, find_arena, apart, sound_question, sound_table, sound_lent, chunks_for, too_large, bytes_asked, ask_memory, reserve_reply, bad_count, no_whole_chunk, grows, reserve_of, manage_of, adopt_of, eligible, serves, asks_commit, grant_arena, grant_reply, miss_reply, search_of, claim_of, release_of, purge_reply, swept_reply, visit, sweep_from, is_for, answer_of, join, rules, lowest, Fed, claims, releases as frees, Say, refused, granted, released, enter, say_all, Marked, begin, is_sound, by_rules, Trail, start, in_range, waits, book_of}
-use Rattle.bitmap.specs.Counts.{count}
 use Rattle.layer.specs.declared.Ask.TheVariants.{AskCommit, AskPurge, AskMemory}
 use Rattle.layer.specs.declared.Answer.TheVariants.{Refused, Asks, Registered, Claimed, Released, Swept}
 use Rattle.layer.proofs.Trails.{row-1}
@@ -22,7 +21,7 @@ pub record Calls : Type 0 where
   pub k₂ : Made by_rules (stand w₁ 9 c₀) c₂ (outcome (Claimed base true false) w₂) (outcome (Claimed base true false) w₂)
   pub k₃ : Made by_rules (stand w₂ 7 c₂) c₃ (outcome (Asks (AskCommit (base + S) S)) w₃) (outcome (Asks (AskCommit (base + S) S)) w₃)
   pub k₄ : Made by_rules (stand w₃ 7 c₃) c₄ (outcome (Claimed (base + S) true true) w₄) (outcome (Claimed (base + S) true true) w₄)
-  pub k₅ : Made by_rules (stand w₄ 7 c₃) c₅ (outcome (Released 0) w₅) (outcome (Released 0) w₅)
+  pub k₅ : Made by_rules (stand w₄ 7 c₃) c₅ (outcome (Released) w₅) (outcome (Released) w₅)
   pub k₆ : Made by_rules (stand w₅ 7 c₅) c₆ (outcome (Registered 1) w₆) (outcome (Registered 1) w₆)
   pub k₇ : Made by_rules (stand w₆ 9 c₆) c₇ (outcome (Claimed elsewhere false true) w₇) (outcome (Claimed elsewhere false true) w₇)
   pub k₈ : Made by_rules (stand w₇ 9 c₇) c₈ (outcome (Asks (AskPurge base S false)) w₈) (outcome (Asks (AskPurge base S false)) w₈)
@@ -33,7 +32,7 @@ pub record Calls : Type 0 where
   pub k₁₃ : Made by_rules (stand w₁₀ 7 c₁₂) c₁₃ (outcome (Asks (AskCommit (base + 2 * S) S)) w₁₁) (outcome (Asks (AskCommit (base + 2 * S) S)) w₁₁)
 
 pub computed : Calls
-unfolding count enter in_range bit bit_at within as_number pack write_run all least lowest_run or_one now_ms delay_ms never_purges keeps armed is_due arena_allowed page_size_sound new_arena reserved_arena managed_arena adopted_arena grown_arena find_run run_committed run_fresh take_run give_back_run commit_run dirty_run finish_grant tell_run pend_run release_run stamp_run sweep_due disarm young to_ask next_asked borrow_chunk unpend_chunk return_chunk rearm bytes_of end_of is_inside sound_range clear_past clear_past_all sound_arena empty meets overlaps bad_range find_arena apart sound_question sound_table sound_lent chunks_for too_large bytes_asked ask_memory reserve_reply bad_count no_whole_chunk grows reserve_of manage_of adopt_of eligible serves asks_commit grant_arena grant_reply miss_reply search_of claim_of release_of purge_reply swept_reply visit sweep_from is_for answer_of rules
+unfolding enter in_range bit bit_at within as_number pack write_run all least lowest_run or_one now_ms delay_ms never_purges keeps armed is_due arena_allowed page_size_sound new_arena reserved_arena managed_arena adopted_arena grown_arena find_run run_committed run_fresh take_run give_back_run commit_run dirty_run finish_grant tell_run pend_run release_run stamp_run sweep_due disarm young to_ask next_asked borrow_chunk unpend_chunk return_chunk rearm bytes_of end_of is_inside sound_range clear_past clear_past_all sound_arena empty meets overlaps bad_range find_arena apart sound_question sound_table sound_lent chunks_for too_large bytes_asked ask_memory reserve_reply bad_count no_whole_chunk grows reserve_of manage_of adopt_of eligible serves asks_commit grant_arena grant_reply miss_reply search_of claim_of release_of purge_reply swept_reply visit sweep_from is_for answer_of rules
 computed = record {
   k₀ = record { sound = refl; by-rules = refl; by-layer = refl; passed = refl };
   k₁ = record { sound = refl; by-rules = refl; by-layer = refl; passed = refl };
@@ -72,7 +71,7 @@ worked c =
     let r₂ = begun join c in
     let r₃ = after-made by_rules 7 arena _ (stand w₂ 7 c₂) w₂ _ _ r₂ c₃ (outcome (Asks (AskCommit (base + S) S)) w₃) (outcome (Asks (AskCommit (base + S) S)) w₃) (claims lowest 1 ∷ []) ([]) c.k₃ refl (own-call 7 arena (stand w₂ 7 c₂) c₃ refl refl refl) refl refl in
     let r₄ = after-made by_rules 7 arena _ (stand w₃ 7 c₃) w₃ _ _ r₃ c₄ (outcome (Claimed (base + S) true true) w₄) (outcome (Claimed (base + S) true true) w₄) ([]) (granted (base + S) true ∷ []) c.k₄ refl (own-answer 7 arena (stand w₃ 7 c₃) c₄ refl refl refl) refl refl in
-    let r₅ = after-made by_rules 7 arena _ (stand w₄ 7 c₃) w₄ _ _ r₄ c₅ (outcome (Released 0) w₅) (outcome (Released 0) w₅) (frees base 1 ∷ []) (released ∷ []) c.k₅ refl (own-call 7 arena (stand w₄ 7 c₃) c₅ refl refl refl) refl refl in
+    let r₅ = after-made by_rules 7 arena _ (stand w₄ 7 c₃) w₄ _ _ r₄ c₅ (outcome (Released) w₅) (outcome (Released) w₅) (frees base 1 ∷ []) (released ∷ []) c.k₅ refl (own-call 7 arena (stand w₄ 7 c₃) c₅ refl refl refl) refl refl in
     let r₆ = after-made by_rules 7 arena _ (stand w₅ 7 c₅) w₅ _ _ r₅ c₆ (outcome (Registered 1) w₆) (outcome (Registered 1) w₆) ([]) ([]) c.k₆ refl (others-call 7 arena (stand w₅ 7 c₅) c₆ other refl refl) refl refl in
     let r₇ = after-made by_rules 7 arena _ (stand w₆ 9 c₆) w₆ _ _ r₆ c₇ (outcome (Claimed elsewhere false true) w₇) (outcome (Claimed elsewhere false true) w₇) ([]) ([]) c.k₇ refl (others-call 7 arena (stand w₆ 9 c₆) c₇ other refl refl) refl refl in
     let r₈ = after-made by_rules 7 arena _ (stand w₇ 9 c₇) w₇ _ _ r₇ c₈ (outcome (Asks (AskPurge base S false)) w₈) (outcome (Asks (AskPurge base S false)) w₈) ([]) ([]) c.k₈ refl (others-call 7 arena (stand w₇ 9 c₇) c₈ other refl refl) refl refl in

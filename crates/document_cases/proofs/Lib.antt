@@ -7,5 +7,3 @@ pub mod Joined
 pub mod Never
 pub mod Listed
 pub mod Ring
-pub mod TwoWords
-pub mod Unheld

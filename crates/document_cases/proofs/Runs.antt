@@ -1,6 +1,5 @@
 -- Histories worked through call by call: what the rules and a layer leave is written out after each call, so that each call is computed by itself. Assumes nothing.
 use Rattle.layer.proofs.Prelude.{◌≡◌, refl, sym, ap, ap₂, ◌∙◌, subst, Bool, true, false, cond, ◌&&◌, true≢false, List, [], ◌++◌, inl, inr, ℕ, ◌+◌, ◌*◌, ◌<◌, ◌≤◌, when, unless, World, Outcome, JoinOutcome, empty, step, Fed, Say, say_all, Marked, MarkedJoin, Side, of_first, of_second, History, begin, next, joining, is_sound, both_sound, Layer, outcome_by, join_by, is_broken, is_broken_join, side_of, left, Lent, Trail, open_at, is_idle, follow, start, join_of, leaving, follow_join, ruled, is_joined, unites, entries, said, goes_on, tells, Place, in_range, is_none, feeds, hears, fed_by, told_by, waits, standing, OpensAt, risen, Where, place, fed, told, is_answer, declines, Premises, Keeps, book_of, claimant, chunks_of, Demand3, ListOutcome, release_list, list_fits, MarkedList, ListPremises, listing, list_by, list_of, is_sound_list, is_taken, follow_list, fed_by_list, told_by_list, entries_of_list, said_of_list, not, ◌∷◌, outcome, sound, Items, list_outcome, item_number, release_each, release_item}
-use Rattle.layer.specs.Listing.{unheld_by}
 use Rattle.layer.specs.declared.Settings.{Settings}
 use Rattle.layer.specs.declared.Question.TheVariants.{Idle}
 use Rattle.layer.specs.declared.Answer.{Answer}
@@ -236,17 +235,15 @@ module _ (L : Layer) where
 -- ---- a list, item after item: each is computed by itself, on the table that the item before it leaves
 
 module _ (ns : ℕ) (settings : Settings) where
-  pub then-items : {sum : ℕ} (pending : Bool) (w : World) (x n : ℕ) (a : Answer) (u : World) (xs counts : List ℕ) (v : World) (numbers : List ℕ)
-      → release_item ns settings pending w x n ≡ outcome a u → release_each ns settings pending u xs counts ≡ list_outcome (outcome (Released sum) v) numbers
-      → release_each ns settings pending w (x ∷ xs) (n ∷ counts) ≡ list_outcome (outcome (Released (unheld_by a + sum)) v) (item_number a ∷ numbers)
+  pub then-items : (pending : Bool) (w : World) (x n : ℕ) (a : Answer) (u : World) (xs counts : List ℕ) (v : World) (numbers : List ℕ)
+      → release_item ns settings pending w x n ≡ outcome a u → release_each ns settings pending u xs counts ≡ list_outcome (outcome Released v) numbers
+      → release_each ns settings pending w (x ∷ xs) (n ∷ counts) ≡ list_outcome (outcome Released v) (item_number a ∷ numbers)
   then-items pending w x n a u xs counts v numbers e f =
-      ap (λ (o : Outcome). with_item o.answer (release_each ns settings pending o.world xs counts)) e ∙ ap (with_item a) f
-    where
-      with_item : Answer → ListOutcome → ListOutcome
-      with_item r rest = list_outcome (outcome (Released (unheld_by r + unheld_by rest.whole.answer)) rest.whole.world) (item_number r ∷ rest.numbers)
+      ap (λ (o : Outcome). let rest = release_each ns settings pending o.world xs counts in list_outcome rest.whole (item_number o.answer ∷ rest.numbers)) e
+      ∙ ap (λ (r : ListOutcome). list_outcome r.whole (item_number a ∷ r.numbers)) f
 
-  pub past-rows : {sum : ℕ} (w : World) (t : Items) (v : World) (numbers : List ℕ) → sound (size_of w.state) w settings.page ≡ true → is_idle w.state.question ≡ true → list_fits t ≡ true
-      → release_each ns settings t.pending w t.addresses t.counts ≡ list_outcome (outcome (Released sum) v) numbers → release_list w ns settings t ≡ list_outcome (outcome (Released sum) v) numbers
+  pub past-rows : (w : World) (t : Items) (v : World) (numbers : List ℕ) → sound (size_of w.state) w settings.page ≡ true → is_idle w.state.question ≡ true → list_fits t ≡ true
+      → release_each ns settings t.pending w t.addresses t.counts ≡ list_outcome (outcome Released v) numbers → release_list w ns settings t ≡ list_outcome (outcome Released v) numbers
   unfolding release_list
   past-rows w t v numbers e f g r = unless _ _ _ (ap not e) ∙ unless _ _ _ (ap not f) ∙ unless _ _ _ (ap not g) ∙ r
 

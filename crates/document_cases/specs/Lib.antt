@@ -6,4 +6,3 @@ pub mod Joined
 pub mod Never
 pub mod Listed
 pub mod Ring
-pub mod Unheld

@@ -13,9 +13,9 @@ use Rattle.document_cases.specs.Never.{base, table_of, older, calmer, purge_at, 
 
 -- ---- the lists, at 50 ms. On `older` chunks 0 and 2 of the 4 at `base` are held, and chunk 1 is pending since 10 ms, with the deadline at 20 ms; on `calmer` none is pending
 
--- granted: so many chunks were not held, v is left, and the numbers stand at their places
-abbrev pub Grants : ℤ → World → Items → ℕ → World → List ℕ → Type 0
-Grants d w t unheld v numbers = release_list w 50000000 (at_delay d) t ≡ list_outcome (outcome (Released unheld) v) numbers
+-- granted: v is left, and the numbers stand at their places
+abbrev pub Grants : ℤ → World → Items → World → List ℕ → Type 0
+Grants d w t v numbers = release_list w 50000000 (at_delay d) t ≡ list_outcome (outcome Released v) numbers
 
 -- refused as a whole: all is left, the answers as they were lent
 abbrev pub Refuses : World → Items → Refusal → Type 0
@@ -40,25 +40,25 @@ both_held used others = two (four base used 15 0 0) (four (64 * S) others 15 0 0
 
 pub record ListedCases : Type 0 where
   -- "It leaves what single releases in list order [..] would leave, and each item's number (0 for granted) stands at its place"; "it says nothing of commitment"
-  pub closes : Grants (pos 10) older (not_pending (chunk 0 ∷ chunk 2 ∷ []) (1 ∷ 1 ∷ []) (99 ∷ 99 ∷ [])) 0 (table_of 0 7 2 20 stamp_in0 Idle) (0 ∷ 0 ∷ [])
+  pub closes : Grants (pos 10) older (not_pending (chunk 0 ∷ chunk 2 ∷ []) (1 ∷ 1 ∷ []) (99 ∷ 99 ∷ [])) (table_of 0 7 2 20 stamp_in0 Idle) (0 ∷ 0 ∷ [])
   -- a refused item does not stop the list, and does not undo it
-  pub passes-refused : Grants (pos 10) older (not_pending (chunk 0 ∷ 5 ∷ chunk 2 ∷ []) (1 ∷ 1 ∷ 1 ∷ []) (99 ∷ 99 ∷ 99 ∷ [])) 0 (table_of 0 7 2 20 stamp_in0 Idle) (0 ∷ 8 ∷ 0 ∷ [])
-  pub first-refused : Grants (pos 10) older (not_pending (5 ∷ chunk 0 ∷ []) (1 ∷ 1 ∷ []) (99 ∷ 99 ∷ [])) 0 (table_of 4 7 2 20 stamp_in0 Idle) (8 ∷ 0 ∷ [])
-  pub all-refused : Grants (pos 10) older (not_pending (5 ∷ chunk 0 ∷ []) (1 ∷ 0 ∷ []) (99 ∷ 99 ∷ [])) 0 older (8 ∷ 4 ∷ [])
+  pub passes-refused : Grants (pos 10) older (not_pending (chunk 0 ∷ 5 ∷ chunk 2 ∷ []) (1 ∷ 1 ∷ 1 ∷ []) (99 ∷ 99 ∷ 99 ∷ [])) (table_of 0 7 2 20 stamp_in0 Idle) (0 ∷ 8 ∷ 0 ∷ [])
+  pub first-refused : Grants (pos 10) older (not_pending (5 ∷ chunk 0 ∷ []) (1 ∷ 1 ∷ []) (99 ∷ 99 ∷ [])) (table_of 4 7 2 20 stamp_in0 Idle) (8 ∷ 0 ∷ [])
+  pub all-refused : Grants (pos 10) older (not_pending (5 ∷ chunk 0 ∷ []) (1 ∷ 0 ∷ []) (99 ∷ 99 ∷ [])) older (8 ∷ 4 ∷ [])
   -- 4, 8, 7 and 9, each at its place
-  pub each_number : Grants (pos 10) older (not_pending (chunk 0 ∷ chunk 4 ∷ part ∷ chunk 0 ∷ chunk 2 ∷ []) (0 ∷ 1 ∷ 1 ∷ 5 ∷ 1 ∷ []) (99 ∷ 99 ∷ 99 ∷ 99 ∷ 99 ∷ [])) 0
+  pub each_number : Grants (pos 10) older (not_pending (chunk 0 ∷ chunk 4 ∷ part ∷ chunk 0 ∷ chunk 2 ∷ []) (0 ∷ 1 ∷ 1 ∷ 5 ∷ 1 ∷ []) (99 ∷ 99 ∷ 99 ∷ 99 ∷ 99 ∷ []))
       (table_of 1 7 2 20 stamp_in0 Idle) (4 ∷ 8 ∷ 7 ∷ 9 ∷ 0 ∷ [])
   -- an item twice, and items that overlap: "held or not" as single releases
-  pub twice : Grants (pos 10) older (not_pending (chunk 0 ∷ chunk 0 ∷ []) (1 ∷ 1 ∷ []) (99 ∷ 99 ∷ [])) 1 (table_of 4 7 2 20 stamp_in0 Idle) (0 ∷ 0 ∷ [])
-  pub overlapping : Grants (pos 10) older (not_pending (chunk 0 ∷ chunk 1 ∷ []) (2 ∷ 3 ∷ []) (99 ∷ 99 ∷ [])) 3 (table_of 0 7 2 20 stamp_in0 Idle) (0 ∷ 0 ∷ [])
+  pub twice : Grants (pos 10) older (not_pending (chunk 0 ∷ chunk 0 ∷ []) (1 ∷ 1 ∷ []) (99 ∷ 99 ∷ [])) (table_of 4 7 2 20 stamp_in0 Idle) (0 ∷ 0 ∷ [])
+  pub overlapping : Grants (pos 10) older (not_pending (chunk 0 ∷ chunk 1 ∷ []) (2 ∷ 3 ∷ []) (99 ∷ 99 ∷ [])) (table_of 0 7 2 20 stamp_in0 Idle) (0 ∷ 0 ∷ [])
   -- of several arenas
-  pub both-arenas : Grants (pos 10) (both_held 15 15) (not_pending (chunk 33 ∷ chunk 0 ∷ []) (1 ∷ 2 ∷ []) (99 ∷ 99 ∷ [])) 0 (both_held 12 13) (0 ∷ 0 ∷ [])
+  pub both-arenas : Grants (pos 10) (both_held 15 15) (not_pending (chunk 33 ∷ chunk 0 ∷ []) (1 ∷ 2 ∷ []) (99 ∷ 99 ∷ [])) (both_held 12 13) (0 ∷ 0 ∷ [])
   -- "one pending flag for all": the first item arms, the second finds the deadline set
-  pub pends : Grants (pos 10) calmer (items (chunk 0 ∷ chunk 2 ∷ []) (1 ∷ 1 ∷ []) (99 ∷ 99 ∷ []) true) 0 (table_of 0 7 5 60 (50 ∷ 10 ∷ 50 ∷ replicate 32765 0) Idle) (0 ∷ 0 ∷ [])
+  pub pends : Grants (pos 10) calmer (items (chunk 0 ∷ chunk 2 ∷ []) (1 ∷ 1 ∷ []) (99 ∷ 99 ∷ []) true) (table_of 0 7 5 60 (50 ∷ 10 ∷ 50 ∷ replicate 32765 0) Idle) (0 ∷ 0 ∷ [])
   -- and with a negative delay none is pending
-  pub pends-never : Grants (negsuc 0) calmer (items (chunk 0 ∷ chunk 2 ∷ []) (1 ∷ 1 ∷ []) (99 ∷ 99 ∷ []) true) 0 (table_of 0 7 0 0 stamp_in0 Idle) (0 ∷ 0 ∷ [])
+  pub pends-never : Grants (negsuc 0) calmer (items (chunk 0 ∷ chunk 2 ∷ []) (1 ∷ 1 ∷ []) (99 ∷ 99 ∷ []) true) (table_of 0 7 0 0 stamp_in0 Idle) (0 ∷ 0 ∷ [])
   -- the empty list is granted, and arms nothing
-  pub empty-list : Grants (pos 10) calmer (items [] [] [] true) 0 calmer []
+  pub empty-list : Grants (pos 10) calmer (items [] [] [] true) calmer []
   -- "19 when the three lengths differ": each of the three, and the answers stay as they were lent
   pub few-counts : Refuses older (not_pending (chunk 0 ∷ chunk 0 ∷ []) (1 ∷ []) (99 ∷ 98 ∷ [])) ListLength
   pub few-answers : Refuses older (not_pending (chunk 0 ∷ chunk 0 ∷ []) (1 ∷ 1 ∷ []) (99 ∷ [])) ListLength

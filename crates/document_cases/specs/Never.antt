@@ -73,16 +73,16 @@ freed chunk told = act (release (base + chunk * S) 1 told true)
 
 pub record NeverCases : Type 0 where
   -- "a pending release stamps nothing, marks nothing and arms nothing": the used bit is clear, and the older mark, stamp and deadline stand
-  pub marks-nothing : SaysBelow older (freed 0 Untold) (Released 0) (table_of 4 7 2 20 stamp_in0 Idle)
-  pub arms-nothing : SaysBelow calmer (freed 0 Untold) (Released 0) (table_of 4 7 0 0 stamp_in0 Idle)
+  pub marks-nothing : SaysBelow older (freed 0 Untold) Released (table_of 4 7 2 20 stamp_in0 Idle)
+  pub arms-nothing : SaysBelow calmer (freed 0 Untold) Released (table_of 4 7 0 0 stamp_in0 Idle)
   -- over a chunk that is pending still: it stays so
-  pub unmarks-nothing : SaysBelow older (freed 1 Untold) (Released 1) older
+  pub unmarks-nothing : SaysBelow older (freed 1 Untold) Released older
   -- what is told of commitment is obeyed
-  pub told-committed : SaysBelow older (freed 3 Committed) (Released 1) (table_of 5 15 2 20 stamp_in0 Idle)
-  pub told-uncommitted : SaysBelow older (freed 0 Uncommitted) (Released 0) (table_of 4 6 2 20 stamp_in0 Idle)
+  pub told-committed : SaysBelow older (freed 3 Committed) Released (table_of 5 15 2 20 stamp_in0 Idle)
+  pub told-uncommitted : SaysBelow older (freed 0 Uncommitted) Released (table_of 4 6 2 20 stamp_in0 Idle)
   -- 0 is not below 0: it stamps, marks and arms
-  pub zero-marks : Says (pos 0) older (freed 0 Untold) (Released 0) (table_of 4 7 3 20 (50 ∷ 10 ∷ replicate 32766 0) Idle)
-  pub zero-arms : Says (pos 0) calmer (freed 0 Untold) (Released 0) (table_of 4 7 1 50 (50 ∷ 10 ∷ replicate 32766 0) Idle)
+  pub zero-marks : Says (pos 0) older (freed 0 Untold) Released (table_of 4 7 3 20 (50 ∷ 10 ∷ replicate 32766 0) Idle)
+  pub zero-arms : Says (pos 0) calmer (freed 0 Untold) Released (table_of 4 7 1 50 (50 ∷ 10 ∷ replicate 32766 0) Idle)
   -- "an unforced sweep puts no question and leaves deadlines", due ones too
   pub leaves-due : SaysBelow older (act (sweep false)) (Swept 0) older
   pub zero-asks : Says (pos 0) older (act (sweep false)) (Asks (AskPurge (33 * S) S false)) (table_of 7 7 2 0 stamp_in0 (purge_at false 1 0))

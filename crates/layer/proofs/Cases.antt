@@ -1,5 +1,5 @@
 -- The case principle of each call: to prove P of what comes out, prove it of each outcome, with what is known there. Assumes nothing.
-use Rattle.layer.proofs.Prelude.{◌≡◌, refl, Bool, true, false, cond, not, ◌&&◌, ◌||◌, List, [], ◌∷◌, ℕ, ◌+◌, ◌-◌, ◌*◌, ◌/◌, ◌%◌, ◌<◌, arith, leb-false, eqb-true, eqb-false, eqb, leb, ℤ, set, Refusal, Zero, ArenasOff, Range, NotWhole, PastEnd, NoRun, ChunkCount, TableFull, NoWholeChunk, by_cond, Found, At, Nothing, least, First, first_says, and_both, arena_allowed, Arena, Commitment, reserved_arena, managed_arena, adopted_arena, find_run, run_committed, run_fresh, take_run, dirty_run, unheld_in, release_run, stamp_run, is_inside, Settings, Committing, Reserving, Waiting, Reserve, Claim, Unusable, Count, Misaligned, Full, AskCommit, Asks, Claimed, Released, Reply, Outcome, state_with, world_of, reply, after, turn_down, calm, refuse, first_of, at, is_at, bad_range, find_arena, too_large, ask_memory, bad_count, first_whole, past_whole, no_whole_chunk, grows, reserve_reply, reserve_of, manage_of, adopt_of, serves, is_negative, asks_commit, grant_arena, grant_reply, miss_reply, grant_found, search_at, search_of, claim_of, release_of, give_back_reply, resume, answer_memory}
+use Rattle.layer.proofs.Prelude.{◌≡◌, refl, Bool, true, false, cond, not, ◌&&◌, ◌||◌, List, [], ◌∷◌, ℕ, ◌+◌, ◌-◌, ◌*◌, ◌/◌, ◌%◌, ◌<◌, arith, leb-false, eqb-true, eqb-false, eqb, leb, ℤ, set, Refusal, Zero, ArenasOff, Range, NotWhole, PastEnd, NoRun, ChunkCount, TableFull, NoWholeChunk, by_cond, Found, At, Nothing, least, First, first_says, and_both, arena_allowed, Arena, Commitment, reserved_arena, managed_arena, adopted_arena, find_run, run_committed, run_fresh, take_run, dirty_run, release_run, stamp_run, is_inside, Settings, Committing, Reserving, Waiting, Reserve, Claim, Unusable, Count, Misaligned, Full, AskCommit, Asks, Claimed, Released, Reply, Outcome, state_with, world_of, reply, after, turn_down, calm, refuse, first_of, at, is_at, bad_range, find_arena, too_large, ask_memory, bad_count, first_whole, past_whole, no_whole_chunk, grows, reserve_reply, reserve_of, manage_of, adopt_of, serves, is_negative, asks_commit, grant_arena, grant_reply, miss_reply, grant_found, search_at, search_of, claim_of, release_of, give_back_reply, resume, answer_memory}
 use Rattle.refusals.specs.declared.Refusal.TheVariants.{NotInside, HostRefused}
 use Rattle.layer.specs.Table.{id_found}
 use Rattle.layer.specs.Registering.{registered, grown}
@@ -17,7 +17,7 @@ module _ (S : ℕ) (l : List Arena) (stamps : List ℕ) (k : ℕ) (mark : Bool) 
   release_in i offset n told pending now delay =
       let w = world_of l stamps (calm k mark) in
       first_of (refuse w NotWhole (not (eqb (offset % S) 0)) ∷ refuse w PastEnd (not (leb (offset / S + n) (at l i).chunks)) ∷ [])
-      (after (reply (Released (unheld_in (at l i) (offset / S) n)) (calm k mark)) (set l i (release_run (at l i) (offset / S) n told pending now delay))
+      (after (reply Released (calm k mark)) (set l i (release_run (at l i) (offset / S) n told pending now delay))
       (cond pending (stamp_run stamps (1024 * i + offset / S) n now) stamps))
 
   -- turned down, and no question open
@@ -82,7 +82,7 @@ module _ (S : ℕ) (l : List Arena) (stamps : List ℕ) (k : ℕ) (mark : Bool) 
     pub release-in-cases : (i offset : ℕ) → (eqb (offset % S) 0 ≡ false → P (down S l stamps k mark NotWhole))
         → (eqb (offset % S) 0 ≡ true → leb (offset / S + m) (at l i).chunks ≡ false → P (down S l stamps k mark PastEnd))
         → (eqb (offset % S) 0 ≡ true → leb (offset / S + m) (at l i).chunks ≡ true
-        → P (after (reply (Released (unheld_in (at l i) (offset / S) m)) (calm k mark)) (set l i (release_run (at l i) (offset / S) m told pending now delay))
+        → P (after (reply Released (calm k mark)) (set l i (release_run (at l i) (offset / S) m told pending now delay))
         (cond pending (stamp_run stamps (1024 * i + offset / S) m now) stamps)))
         → P (release_in S l stamps k mark i offset m told pending now delay)
     unfolding release_in

@@ -12,10 +12,10 @@ module _ (a : Place) (some : 0 < a.size) where
   spot s = ap (λ (x : ℕ). x / a.size) (let z : a.base + s * a.size - a.base ≡ s * a.size = omega arith in z) ∙ mul-div_cancel s some
 
   -- a book of the place
-  pub record Of (b : Book) : Type 0 where
-    pub size : b.size ≡ a.size
-    pub base : b.base ≡ a.base
-    pub chunks : b.chunks ≡ a.chunks
+  record Of (b : Book) : Type 0 where
+    size : b.size ≡ a.size
+    base : b.base ≡ a.base
+    chunks : b.chunks ≡ a.chunks
 
   record Entered (b : Book) (f : Fed) (t : Turn) : Type 0 where
     of : Of t.book
@@ -42,11 +42,11 @@ module _ (a : Place) (some : 0 < a.size) where
       (λ g. record { of = o; held = λ fs ss. refl }))
       (λ f. record { of = o; held = λ fs ss. refl }))
 
-  pub record After (b c : Book) (fs : List Fed) (ss : List Say) : Type 0 where
-    pub of : Of c
-    pub held : held_from a b.held fs ss ≡ c.held
+  record After (b c : Book) (fs : List Fed) (ss : List Say) : Type 0 where
+    of : Of c
+    held : held_from a b.held fs ss ≡ c.held
 
-  pub after-all : (b : Book) → Of b → (fs : List Fed) → After b (enter_all b fs) fs (say_all b fs)
+  after-all : (b : Book) → Of b → (fs : List Fed) → After b (enter_all b fs) fs (say_all b fs)
   after-all b o [] = record { of = o; held = refl }
   after-all b o (f ∷ fs) =
       let e = entered b o f in

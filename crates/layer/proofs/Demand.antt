@@ -1,10 +1,7 @@
 -- Demand 3, over every history from the empty layer, of every layer that answers and leaves what the rules say: what is told is what the book says. Assumes nothing.
 use Rattle.layer.proofs.Prelude.{◌+◌, ◌<◌, arith, and_both, World, JoinOutcome, joined_world, MarkedJoin, of_first, of_second, joining, both_sound, by_rules, is_joined, join_of, leaving, follow_join, unites, risen, ◌≡◌, refl, sym, ap, ap₂, ◌∙◌, subst, Bool, true, false, cond, ◌&&◌, true≢false, List, [], ◌∷◌, ◌++◌, append_assoc, append-nil, inl, inr, ℕ, ne_eqb, eqb, ℤ, pos, negsuc, length, by_cond, when, unless, Arena, is_on, Question, Idle, Committing, Purging, Reserving, GivingBack, Reserve, Claim, Kind, ForCommit, ForPurge, ForMemory, ForGiveBack, ForNone, Answer, Refused, Asks, Registered, Claimed, Released, Swept, Owns, Area, Outcome, at, is_for, Act, reserve, manage, adopt, claim, release, sweep, Call, act, query, answer, step_on, Book, lowest, Fed, claims, Say, enter, enter_all, say_all, Marked, History, begin, next, is_sound, Layer, outcome_by, Lent, Trail, open_at, is_idle, follow, ruled, entries_of, entries, said, goes_on, tells, Place, is_none, feeds, hears, fed_by, told_by, standing, Where, place, fed, told, Premises, Keeps, book_of, ByTheBook, Settings, page_size_sound, Untold, release_each, release_item, item_number, number_says, ListOutcome, list_fits, MarkedList, ListPremises, listing, is_sound_list, is_taken, list_by, list_of, follow_list, fed_by_list, told_by_list, entries_in, entries_of_list, said_of_list}
 use mathlib.Core.List.{map}
-use Rattle.layer.specs.History.{Entry, claims_at, releases_at, fed_at, bytes_in, in_range}
-use Rattle.layer.specs.Book.{releases}
-use Rattle.layer.specs.Listing.{unheld_by}
-use Rattle.layer.specs.Unheld.{lacks, lacks_all, AllInRange}
+use Rattle.layer.specs.History.{Entry, claims_at, releases_at, fed_at, bytes_in}
 use Rattle.layer.proofs.Facts.{SoundTable}
 use Rattle.layer.proofs.Shown.{View, calm, committing, purging, view_of, waits_in, owed_in, Mine, Role, closing, aside, ends, role, fed_of, heard, told_as, Stays, book_in as book_shown, book_at, owed_at, Inv, Fits}
 use Rattle.layer.proofs.Keeps.{keeps}
@@ -30,7 +27,7 @@ say-append b (f ∷ x) y = ap (λ (l : List Say). (enter b f).say ∷ l) (say-ap
 said-cases : (P : List Say → Type 0) → P [] → ((s : Say) → P (s ∷ [])) → (r : Answer) → P (said r)
 said-cases P none one (Refused why) = one _
 said-cases P none one (Claimed address fresh committed) = one _
-said-cases P none one (Released unheld) = one _
+said-cases P none one Released = one _
 said-cases P none one (Asks ask) = none
 said-cases P none one (Registered id) = none
 said-cases P none one (Swept count) = none
@@ -160,10 +157,10 @@ module _ (p : ℕ) (a : Place) where
   owed t = owed_at a.size p a.id a.base a.chunks t.world.records (open_at t)
 
   -- from t to u by a call that feeds fs and tells ss
-  pub record Moves (t : Trail) (fs : List Fed) (ss : List Say) (u : Trail) : Type 0 where
-    pub inv : InvAt u
-    pub book : book_in u ≡ enter_all (book_in t) fs
-    pub says : owed t ++ say_all (book_in t) fs ≡ ss ++ owed u
+  record Moves (t : Trail) (fs : List Fed) (ss : List Say) (u : Trail) : Type 0 where
+    inv : InvAt u
+    book : book_in u ≡ enter_all (book_in t) fs
+    says : owed t ++ say_all (book_in t) fs ≡ ss ++ owed u
 
   fed-role : (q : Question) (c : Call) → feeds a (entries c) ≡ fed_of (role a q c)
   fed-role q (act x) = refl
@@ -175,29 +172,21 @@ module _ (p : ℕ) (a : Place) where
   told-role t (query c) r g v = refl
   told-role t (answer kind accepted base) r g v = told-answer a (bytes_in t) t.world.records v.stays.exclusive (open_at t) t.asked kind r g.asked
 
-  fits : (t : Trail) → a.size ≡ bytes_in t → (m : Marked) → Good t → InvAt t → Premises p a t m → is_sound m ≡ true
-      → Fits a.size p a.id a.base a.chunks t.world.records (open_at t) m.who t.asker (role a (open_at t) m.call) (on_trail t m)
-  fits t sized m g v k e =
-      subst (λ (S : ℕ). Fits a.size p a.id a.base a.chunks t.world.records (open_at t) m.who t.asker (role a (open_at t) m.call)
-      (step_on S t.world.records t.world.stamps (standing t) t.world.state.mark (open_at t) m.ns m.settings m.call)) sized
-      (keeps a.size p a.id a.base a.chunks a.managed t.world.records t.world.stamps (standing t) t.world.state.mark
-      (subst (λ (S : ℕ). SoundTable S t.world.records (standing t)) (sym sized) g.world.table) m.who t.asker (open_at t) m.ns m.settings m.call
-      g.world.question v (λ f. k.alone (ap is_none (when (is_sound m) _ _ e ∙ fed-role (open_at t) m.call) ∙ f))
-      k.none_open (λ f. k.agreed f e))
-
-  -- what a call that feeds the book says was not held
-  pub one-lacks : (t : Trail) → a.size ≡ bytes_in t → (m : Marked) → Good t → InvAt t → Premises p a t m → is_sound m ≡ true → is_none (fed_by a m) ≡ false
-      → unheld_by (on_trail t m).answer ≡ lacks_all (book_in t) (fed_by a m)
-  one-lacks t sized m g v k e f =
-      let fs : fed_by a m ≡ fed_of (role a (open_at t) m.call) = when (is_sound m) _ _ e ∙ fed-role (open_at t) m.call in
-      (fits t sized m g v k e).unheld (sym (ap is_none fs) ∙ f) ∙ ap (lacks_all (book_in t)) (sym fs)
-
-  pub one : (t : Trail) → a.size ≡ bytes_in t → (m : Marked) (L : Layer) → Good t → InvAt t → Premises p a t m → (is_sound m ≡ true → outcome_by L m ≡ on_trail t m) → Moves t (fed_by a m) (told_by L a t m) (follow t m)
+  one : (t : Trail) → a.size ≡ bytes_in t → (m : Marked) (L : Layer) → Good t → InvAt t → Premises p a t m → (is_sound m ≡ true → outcome_by L m ≡ on_trail t m) → Moves t (fed_by a m) (told_by L a t m) (follow t m)
   one t sized m L g v k is = go (is_sound m) refl
     where
+      fits : is_sound m ≡ true → Fits a.size p a.id a.base a.chunks t.world.records (open_at t) m.who t.asker (role a (open_at t) m.call) (on_trail t m)
+      fits e =
+          subst (λ (S : ℕ). Fits a.size p a.id a.base a.chunks t.world.records (open_at t) m.who t.asker (role a (open_at t) m.call)
+          (step_on S t.world.records t.world.stamps (standing t) t.world.state.mark (open_at t) m.ns m.settings m.call)) sized
+          (keeps a.size p a.id a.base a.chunks a.managed t.world.records t.world.stamps (standing t) t.world.state.mark
+          (subst (λ (S : ℕ). SoundTable S t.world.records (standing t)) (sym sized) g.world.table) m.who t.asker (open_at t) m.ns m.settings m.call
+          g.world.question v (λ f. k.alone (ap is_none (when (is_sound m) _ _ e ∙ fed-role (open_at t) m.call) ∙ f))
+          k.none_open (λ f. k.agreed f e))
+
       go : (b : Bool) → is_sound m ≡ b → Moves t (fed_by a m) (told_by L a t m) (follow t m)
       go true e =
-          let f = fits t sized m g v k e in
+          let f = fits e in
           let fs : fed_by a m ≡ fed_of (role a (open_at t) m.call) = when (is_sound m) _ _ e ∙ fed-role (open_at t) m.call in
           let ss : told_by L a t m ≡ told_as (role a (open_at t) m.call) (on_trail t m).answer =
           ap (λ (b : Bool). cond (b && tells t m.call) (hears a (entries (goes_on t m.call)) (said (outcome_by L m).answer)) []) e
@@ -274,7 +263,6 @@ module _ (p : ℕ) (a : Place) (who ns : ℕ) (settings : Settings) (pending : B
     world : to.world ≡ (release_each ns settings pending w xs counts).whole.world
     idle : open_at to ≡ Idle
     along : Along p a (fs ++ feeds a (entries_in xs counts)) (ss ++ hears a (entries_in xs counts) (map number_says (release_each ns settings pending w xs counts).numbers)) to
-    lacking : AllInRange a xs → unheld_by (release_each ns settings pending w xs counts).whole.answer ≡ lacks_all (enter_all (book_of a) fs) (feeds a (entries_in xs counts))
 
   nothing-led : (t : Trail) (fs : List Fed) (ss : List Say) → Along p a fs ss t → Along p a (fs ++ []) (ss ++ []) t
   nothing-led t fs ss r = subst (λ (x : List Fed). Along p a x (ss ++ []) t) (sym (append-nil fs)) (subst (λ (x : List Say). Along p a fs x t) (sym (append-nil ss)) r)
@@ -301,33 +289,18 @@ module _ (p : ℕ) (a : Place) (who ns : ℕ) (settings : Settings) (pending : B
     item-world : (follow t item_call).world ≡ item.world
     item-world = ap (λ (u : Trail). u.world) (when (is_sound item_call) _ _ item-passes)
 
-    item-premises : (is_none (fed_at a (releases_at x n) ++ []) ≡ false → who ≡ p) → Premises p a t item_call
-    item-premises alone = record { alone = λ e. alone (sym (ap is_none item-fed) ∙ e); sound-lent = λ _. item-passes; none_open = λ _ _. idle; agreed = λ _ _. refl }
-
-    -- in the range: what the item says was not held, and the book after it
-    item-lacks : (is_none (fed_at a (releases_at x n) ++ []) ≡ false → who ≡ p) → in_range a x ≡ true → unheld_by item.answer ≡ lacks (enter_all (book_of a) fs) (releases x n)
-    item-lacks alone e =
-        let there : fed_by a item_call ≡ releases x n ∷ [] = item-fed ∙ append-nil (fed_at a (releases_at x n)) ∙ when _ _ _ e in
-        ap (λ (o : Outcome). unheld_by o.answer) (on-rules t item_call g item-passes)
-        ∙ one-lacks p a t sized item_call g r.inv (item-premises alone) item-passes (ap is_none there)
-        ∙ ap₂ lacks_all r.book there
-        ∙ (let z : lacks (enter_all (book_of a) fs) (releases x n) + 0 ≡ lacks (enter_all (book_of a) fs) (releases x n) = omega arith in z)
-
     item-along : (is_none (fed_at a (releases_at x n) ++ []) ≡ false → who ≡ p) → Along p a (fs ++ fed_by a item_call) (ss ++ told_by by_rules a t item_call) (follow t item_call)
     item-along alone =
         go_on p a fs (fed_by a item_call) ss (told_by by_rules a t item_call) t (follow t item_call) r
-        (one p a t sized item_call by_rules g r.inv (item-premises alone) (λ e. on-rules t item_call g e))
+        (one p a t sized item_call by_rules g r.inv
+        (record { alone = λ e. alone (sym (ap is_none item-fed) ∙ e); sound-lent = λ _. item-passes; none_open = λ _ _. idle; agreed = λ _ _. refl })
+        (λ e. on-rules t item_call g e))
 
-    others-led : (xs counts : List ℕ) → (is_none (fed_at a (releases_at x n) ++ []) ≡ false → who ≡ p) → Led (follow t item_call).world (fs ++ fed_by a item_call) (ss ++ told_by by_rules a t item_call) xs counts → Led t.world fs ss (x ∷ xs) (n ∷ counts)
-    others-led xs counts alone l = go (subst (λ (w : World). Led w (fs ++ fed_by a item_call) (ss ++ told_by by_rules a t item_call) xs counts) item-world l)
+    others-led : (xs counts : List ℕ) → Led (follow t item_call).world (fs ++ fed_by a item_call) (ss ++ told_by by_rules a t item_call) xs counts → Led t.world fs ss (x ∷ xs) (n ∷ counts)
+    others-led xs counts l = go (subst (λ (w : World). Led w (fs ++ fed_by a item_call) (ss ++ told_by by_rules a t item_call) xs counts) item-world l)
       where
         rest : List Say
         rest = hears a (entries_in xs counts) (map number_says (release_each ns settings pending item.world xs counts).numbers)
-
-        book-then : in_range a x ≡ true → enter_all (book_of a) (fs ++ fed_by a item_call) ≡ (enter (enter_all (book_of a) fs) (releases x n)).book
-        book-then e =
-            ap (λ (ys : List Fed). enter_all (book_of a) (fs ++ ys)) (item-fed ∙ append-nil (fed_at a (releases_at x n)) ∙ when _ _ _ e)
-            ∙ enter-append (book_of a) fs (releases x n ∷ [])
 
         feeds-both : (fs ++ fed_by a item_call) ++ feeds a (entries_in xs counts) ≡ fs ++ (fed_at a (releases_at x n) ++ feeds a (entries_in xs counts))
         feeds-both =
@@ -351,17 +324,14 @@ module _ (p : ℕ) (a : Place) (who ns : ℕ) (settings : Settings) (pending : B
           idle = l.idle;
           along = subst (λ (y : List Fed). Along p a y (ss ++ cond (is_none (fed_at a (releases_at x n))) rest (number_says (item_number item.answer) ∷ rest)) l.to) feeds-both
               (subst (λ (y : List Say). Along p a ((fs ++ fed_by a item_call) ++ feeds a (entries_in xs counts)) y l.to) says_both l.along);
-          lacking = λ e.
-              ap₂ ◌+◌ (item-lacks alone e.0) (l.lacking e.1 ∙ ap (λ (b : Book). lacks_all b (feeds a (entries_in xs counts))) (book-then e.0))
-              ∙ sym (ap (λ (ys : List Fed). lacks_all (enter_all (book_of a) fs) (ys ++ feeds a (entries_in xs counts))) (when _ _ _ e.0));
         }
 
   leads : (xs counts : List ℕ) (t : Trail) (fs : List Fed) (ss : List Say) → a.size ≡ bytes_in t → Good t → open_at t ≡ Idle
       → (is_none (feeds a (entries_in xs counts)) ≡ false → who ≡ p) → Along p a fs ss t → Led t.world fs ss xs counts
-  leads [] counts t fs ss sized g idle alone r = record { to = t; world = refl; idle = idle; along = nothing-led t fs ss r; lacking = λ _. refl }
-  leads (x ∷ xs) [] t fs ss sized g idle alone r = record { to = t; world = refl; idle = idle; along = nothing-led t fs ss r; lacking = λ _. refl }
+  leads [] counts t fs ss sized g idle alone r = record { to = t; world = refl; idle = idle; along = nothing-led t fs ss r }
+  leads (x ∷ xs) [] t fs ss sized g idle alone r = record { to = t; world = refl; idle = idle; along = nothing-led t fs ss r }
   leads (x ∷ xs) (n ∷ counts) t fs ss sized g idle alone r =
-      others-led t fs ss sized g idle r x n xs counts (λ e. alone (none-behind (fed_at a (releases_at x n)) (feeds a (entries_in xs counts)) e))
+      others-led t fs ss sized g idle r x n xs counts
       (leads xs counts (follow t m) (fs ++ fed_by a m) (ss ++ told_by by_rules a t m) (sized ∙ sym (size-follows t m g)) (good-follow t m g)
       (ap (λ (w : World). w.state.question) (item-world t fs ss sized g idle r x n) ∙ (still-past-two ns settings pending t.world (item-passes t fs ss sized g idle r x n, idle) x n).1)
       (λ e. alone (none_before (fed_at a (releases_at x n)) (feeds a (entries_in xs counts)) e))
@@ -422,19 +392,6 @@ module _ (p : ℕ) (a : Place) (fs : List Fed) (ss : List Say) (t : Trail) (m : 
       go false e =
           subst (Along p a (fs ++ fed_by_list a t m) (ss ++ told_by_list by_rules a t m)) (sym (unless (is_sound_list m) _ _ e))
           (none-of-it (ap (λ (x : Bool). x && (is_idle (open_at t) && list_fits m.items)) e) r)
-
-  -- what a list of the arena's alone says was not held
-  pub list-lacks : a.size ≡ bytes_in t → Good t → ListPremises p a t m → Along p a fs ss t → AllInRange a m.items.addresses → is_sound_list m ≡ true → (o : ListOutcome)
-      → ListComes t.world m.ns m.settings m.items o → unheld_by o.whole.answer ≡ lacks_all (enter_all (book_of a) fs) (fed_by_list a t m)
-  list-lacks sized g k r inside e o (turned_down why f z) =
-      ap (λ (x : ListOutcome). unheld_by x.whole.answer) z
-      ∙ sym (ap (lacks_all (enter_all (book_of a) fs)) (unless (is_taken t m) _ _ (ap (λ (x : Bool). x && (is_idle (open_at t) && list_fits m.items)) (e ∙ sym (list-sound t m g e)) ∙ f)))
-  list-lacks sized g k r inside e o (one_by_one f idle fits z) =
-      let taken : is_taken t m ≡ true = ap₂ ◌&&◌ e (ap₂ ◌&&◌ (ap is_idle idle) fits) in
-      ap (λ (x : ListOutcome). unheld_by x.whole.answer) z
-      ∙ (leads p a m.who m.ns m.settings m.items.pending (passing-facts (bytes_in t) t.world m.settings.page f).page-sound m.items.addresses m.items.counts t fs ss sized g idle
-      (λ u. k.alone (ap is_none (when (is_taken t m) _ _ taken) ∙ u)) r).lacking inside
-      ∙ sym (ap (lacks_all (enter_all (book_of a) fs)) (when (is_taken t m) _ _ taken))
 
 -- ---- joins, for each side
 

@@ -1,8 +1,7 @@
 -- What one call does to the share book of any arena below the count, shared or exclusive, and by which call: demand 3's exclusive arena is a case (`Keeps`).
 -- Assumes nothing.
-use Rattle.layer.proofs.Prelude.{◌≡◌, refl, sym, ap, ap₂, ◌∙◌, subst, Bool, true, false, cond, ◌&&◌, true≢false, List, [], ◌∷◌, ◌++◌, ◌⊎◌, inl, inr, ⊎_elim, ℕ, suc, ◌+◌, ◌-◌, ◌*◌, ◌/◌, ◌%◌, ◌≤◌, ◌<◌, div-add-mod', arith, ℕ_discrete, eq-eqb, ne_eqb, eqb-true, eqb-false, leb-true, ℤ, pos, negsuc, eqb, leb, set, length-set, Refusal, QuestionOpen, Zero, NotWhole, PastEnd, NoRun, CommitRefused, lt-or-le, when, unless, Found, At, Nothing, lowest_run, now_ms, delay_ms, arena_allowed, Arena, is_on, Commitment, grown_arena, find_run, give_back_run, bytes_of, end_of, is_inside, Rows, never, return-rows, Settings, Sweep, Question, Idle, Committing, Purging, Reserving, GivingBack, Waiting, Reserve, Claim, Kind, ForCommit, ForPurge, ForMemory, ForGiveBack, ForNone, Answer, Refused, Registered, Released, Outcome, state_with, reply, after, turn_down, at, is_at, with_record, with_stamps, grows as grows_by, eligible, serves, miss_reply, claim_of, release_of, visit, sweep_from, is_for, counted, resume, answer_commit, answer_purge, answer_of, Act, reserve, manage, adopt, claim, release, sweep, Call, act, query, answer, act_on, step_on, Eligible, Book, lowest, Fed, claims, releases, Say, refused, released, Turn, turn, unheld, hold, unhold, claimed, enter, is_idle, said, in_range, is_answer, stays_pending, sweeps_none, sweep_of}
+use Rattle.layer.proofs.Prelude.{◌≡◌, refl, sym, ap, ap₂, ◌∙◌, subst, Bool, true, false, cond, ◌&&◌, true≢false, List, [], ◌∷◌, ◌++◌, ◌⊎◌, inl, inr, ⊎_elim, ℕ, suc, ◌+◌, ◌-◌, ◌*◌, ◌/◌, ◌%◌, ◌≤◌, ◌<◌, div-add-mod', arith, ℕ_discrete, eq-eqb, ne_eqb, eqb-true, eqb-false, leb-true, ℤ, pos, negsuc, eqb, leb, set, length-set, Refusal, QuestionOpen, Zero, NotWhole, PastEnd, NoRun, CommitRefused, lt-or-le, when, unless, Found, At, Nothing, lowest_run, now_ms, delay_ms, arena_allowed, Arena, is_on, Commitment, grown_arena, find_run, give_back_run, bytes_of, end_of, is_inside, Rows, never, return-rows, Settings, Sweep, Question, Idle, Committing, Purging, Reserving, GivingBack, Waiting, Reserve, Claim, Kind, ForCommit, ForPurge, ForMemory, ForGiveBack, ForNone, Answer, Refused, Registered, Released, Outcome, state_with, reply, after, turn_down, at, is_at, with_record, with_stamps, grows as grows_by, eligible, serves, miss_reply, claim_of, release_of, visit, sweep_from, is_for, counted, resume, answer_commit, answer_purge, answer_of, Act, reserve, manage, adopt, claim, release, sweep, Call, act, query, answer, act_on, step_on, Eligible, Book, lowest, Fed, claims, releases, Say, refused, released, turn, unheld, hold, unhold, claimed, enter, is_idle, said, in_range, is_answer, stays_pending, sweeps_none, sweep_of}
 use Rattle.refusals.specs.Number.{number}
-use Rattle.layer.specs.Unheld.{is_release, lacks}
 use Rattle.arena.proofs.PlaceLaws.{Within, inside-facts}
 use Rattle.layer.proofs.Tools.{at_same, by-not}
 use Rattle.layer.proofs.Facts.{SoundTable, SoundQuestion}
@@ -101,7 +100,7 @@ module _ (S i : ℕ) (l : List Arena) (q : Question) (call : Call) (o : Outcome)
     pub room : s + n ≤ (at l i).chunks
     pub feeds : Is (feeding (releases address n ∷ []))
     pub by-book : enter book_before (releases address n) ≡ turn released (unhold book_before s n)
-    pub answered : o.answer ≡ Released (lacks book_before (releases address n))
+    pub answered : o.answer ≡ Released
     pub closed : o.world.state.question ≡ Idle
 
   -- the no to the commit question about the run
@@ -377,10 +376,6 @@ module _ (S id : ℕ) (l : List Arena) (stamps : List ℕ) (k : ℕ) (mark : Boo
       s : ℕ
       s = (x - (at l id).base) / S
 
-      by-book : eqb m 0 ≡ false → eqb ((x - (at l id).base) % S) 0 ≡ true → leb (s + m) (at l id).chunks ≡ true
-          → enter (book_in S calm (at l id)) (releases x m) ≡ turn released (unhold (book_in S calm (at l id)) s m)
-      by-book z f g = unless (eqb m 0) _ _ z ∙ when (eqb ((x - (at l id).base) % S) 0) _ _ f ∙ when (leb (s + m) (at l id).chunks) _ _ g
-
       inside : eqb m 0 ≡ false → P (release_in S l stamps k mark id (x - (at l id).base) m tell stays now delay)
       inside z =
           release-in-cases S l stamps k mark P m tell stays now delay id (x - (at l id).base)
@@ -400,8 +395,8 @@ module _ (S id : ℕ) (l : List Arena) (stamps : List ℕ) (k : ℕ) (mark : Boo
               some = eqb-false m 0 z;
               room = leb-true (s + m) (at l id).chunks g;
               feeds = names;
-              by-book = by-book z f g;
-              answered = ap Released (sym (when _ _ _ (ap (λ (y : Turn). is_release y.say) (by-book z f g))));
+              by-book = unless (eqb m 0) _ _ z ∙ when (eqb ((x - (at l id).base) % S) 0) _ _ f ∙ when (leb (s + m) (at l id).chunks) _ _ g;
+              answered = refl;
               closed = refl;
             };
             low = low;

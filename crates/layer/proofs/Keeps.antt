@@ -1,9 +1,7 @@
 -- One call keeps the invariant, moves the book as it is fed, and tells its program what the book says: of all that a call can do to an arena (`Does`), what is
 -- left where the arena is exclusive and its program keeps the premises. Assumes nothing.
-use Rattle.layer.proofs.Prelude.{◌≡◌, refl, sym, ap, ap₂, ◌∙◌, subst, Bool, false, cond, true≢false, List, [], ◌∷◌, ◌++◌, append-nil, ◌⊎◌, inl, inr, ℕ, ◌+◌, ◌<◌, arith, eq-eqb, ne_eqb, eqb, pos, negsuc, unless, At, Arena, is_on, Settings, Question, Idle, Committing, Purging, Reserving, GivingBack, Answer, Refused, Asks, Registered, Claimed, Released, Swept, Owns, Area, Outcome, at, is_for, Call, act, query, answer, step_on, Book, lowest, Fed, claims, releases, Say, refused, released, Turn, turn, unhold, claimed, enter, is_idle, entries_of, said, Place, is_none, feeds, is_answer, declines}
+use Rattle.layer.proofs.Prelude.{◌≡◌, refl, sym, ap, ap₂, ◌∙◌, subst, Bool, false, cond, true≢false, List, [], ◌∷◌, ◌++◌, append-nil, ◌⊎◌, inl, inr, ℕ, ◌<◌, arith, eq-eqb, ne_eqb, eqb, pos, negsuc, unless, At, Arena, is_on, Settings, Question, Idle, Committing, Purging, Reserving, GivingBack, Answer, Outcome, at, is_for, Call, act, query, answer, step_on, Book, lowest, Fed, claims, releases, Say, refused, released, Turn, turn, unhold, claimed, enter, is_idle, entries_of, said, Place, is_none, feeds, is_answer, declines}
 use Rattle.refusals.specs.Number.{number}
-use Rattle.layer.specs.Listing.{unheld_by}
-use Rattle.layer.specs.Unheld.{is_release, lacks}
 use Rattle.layer.proofs.Facts.{SoundTable, SoundQuestion}
 use Rattle.layer.proofs.Shown.{View, calm, committing, purging, view_of, waits_in, owed_in, Role, feeding, closing, aside, role, fed_of, asker_after, book_in, Mine, Same, book_at, owed_at, Inv, Fits}
 use Rattle.layer.proofs.View.{view-commit}
@@ -26,21 +24,6 @@ mine-kept p id (Committing i s c) who z m = m
 mine-kept p id (Purging i j w) who z m = m
 mine-kept p id (Reserving chunks bytes commit exclusive waiting) who z m = m
 mine-kept p id (GivingBack cause waiting) who z m = m
-
--- an answer that is told as no release has no number of a release
-not-released : (r : Answer) (s : Say) (ws : List Say) → s ∷ [] ≡ said r ++ ws → is_release s ≡ false → unheld_by r ≡ 0
-not-released (Refused why) s ws e f = refl
-not-released (Asks ask) s ws e f = refl
-not-released (Registered i) s ws e f = refl
-not-released (Claimed address fresh committed) s ws e f = refl
-not-released (Released unheld) s ws e f = let g : s ≡ released = cc in absurd (true≢false (sym (ap is_release g) ∙ f))
-not-released (Swept count) s ws e f = refl
-not-released (Owns whether) s ws e f = refl
-not-released (Area base bytes) s ws e f = refl
-
-lacks-none : (b : Book) (f : Fed) → is_release (enter b f).say ≡ false → lacks b f ≡ 0
-lacks-none b (claims how m) e = refl
-lacks-none b (releases x m) e = unless _ _ _ e
 
 module _ (S p id b n : ℕ) (managed : Bool) where
   abbrev there : Place
@@ -97,7 +80,7 @@ module _ (S p id b n : ℕ) (managed : Bool) where
         -- nothing of the arena's
         left : role there q c ≡ aside → book_in S (view_of id later) record' ≡ before → owed_in S (view_of id later) record' ≡ owed_at S p id b n l q
             → Inv S p id b n o.world.records o.world.state.count later (asker_after q who z) → Fits S p id b n l q who z (role there q c) o
-        left is e owed i = fits aside is (record { inv = i; book = e; says = append-nil (owed_at S p id b n l q) ∙ sym owed; unheld = λ f. absurd (true≢false f) })
+        left is e owed i = fits aside is (record { inv = i; book = e; says = append-nil (owed_at S p id b n l q) ∙ sym owed })
 
         -- the question is as it was
         asker-kept : later ≡ q → Mine p (asker_after q who z) (view_of id later)
@@ -122,22 +105,15 @@ module _ (S p id b n : ℕ) (managed : Bool) where
 
         -- the book's turn
         entered : (f : Fed) (x : Turn) → role there q c ≡ feeding (f ∷ []) → q ≡ Idle → enter before f ≡ x → book_in S (view_of id later) record' ≡ x.book
-            → x.say ∷ [] ≡ said o.answer ++ owed_in S (view_of id later) record' → unheld_by o.answer ≡ lacks before f → id < o.world.state.count
-            → Same (at l id) (at l id).chunks record' → Fits S p id b n l q who z (role there q c) o
-        entered f x is i e book says missing low s =
+            → x.say ∷ [] ≡ said o.answer ++ owed_in S (view_of id later) record' → id < o.world.state.count → Same (at l id) (at l id).chunks record'
+            → Fits S p id b n l q who z (role there q c) o
+        entered f x is i e book says low s =
             fits (feeding (f ∷ [])) is
             (record {
               inv = inv low s (mine-own p (asker_after q who z) (view_of id later) (ap (λ (y : Question). asker_after y who z) i ∙ alone (ap (λ (y : Role). is_none (fed_of y)) is)));
               book = book ∙ ap (λ (y : Turn). y.book) (sym e);
               says = ap (λ (ws : List Say). ws ++ ((enter before f).say ∷ [])) (no-debt q (at l id) i) ∙ ap (λ (y : Turn). y.say ∷ []) e ∙ says;
-              unheld = λ _. missing ∙ (let z : lacks before f ≡ lacks before f + 0 = omega arith in z);
             })
-
-        -- what is no release lacks nothing
-        nothing-lacks : (f : Fed) (x : Turn) → enter before f ≡ x → x.say ∷ [] ≡ said o.answer ++ owed_in S (view_of id later) record' → is_release x.say ≡ false
-            → unheld_by o.answer ≡ lacks before f
-        nothing-lacks f x e says none =
-            not-released o.answer x.say _ says none ∙ sym (lacks-none before f (ap (λ (y : Turn). is_release y.say) e ∙ none))
 
         -- each change: a claim is not undone, and the arena does not grow
         by : (what : Change) → changed what before (book_in S (view_of id later) record') → Because S id l q c o what → id < o.world.state.count
@@ -145,15 +121,13 @@ module _ (S p id b n : ℕ) (managed : Bool) where
         by still e (passes is owed none) low s = left (is-role ∙ is managed) e owed (inv low s (whose none))
         by still e (shut busy not_answer owed kept) low s = left (gated c not_answer alone idle busy) e owed (inv low s (asker-kept kept))
         by still e (turned_down f why is i turns answered closed) low s =
-            let told = sym (ap₂ (λ (r : Answer) (ws : List Say). said r ++ ws) answered (no-debt later record' closed)) in
-            entered f (turn (refused (number why)) before) (is-role ∙ is managed) i turns e told (nothing-lacks f _ turns told refl) low s
+            entered f (turn (refused (number why)) before) (is-role ∙ is managed) i turns e (sym (ap₂ (λ (r : Answer) (ws : List Say). said r ++ ws) answered (no-debt later record' closed))) low s
         by still e (says-yes is says closed) low s =
             fits closing (is-role ∙ is managed)
             (record {
               inv = inv low s (whose (inl (ap (λ (x : Question). waits_in (view_of id x)) closed)));
               book = e;
               says = append-nil (owed_at S p id b n l q) ∙ sym (ap₂ ◌++◌ says (no-debt later record' closed) ∙ append-nil (owed_at S p id b n l q));
-              unheld = λ f. absurd (true≢false f);
             })
         by (holds s m) e x low w = go x.by
           where
@@ -163,13 +137,12 @@ module _ (S p id b n : ℕ) (managed : Bool) where
             go : Claims S id l q c o m → Fits S p id b n l q who z (role there q c) o
             go (by-claim (pos y) commits i is some named) =
                 entered (claims lowest m) (claimed before m (At s))
-                (ap (role there q) is ∙ ap (λ (z : Bool). feeding (cond z (claims lowest m ∷ []) [] ++ [])) (eq-eqb y id (sym named))) i (turns some) e x.says
-                (nothing-lacks (claims lowest m) _ (turns some) x.says refl) low w
+                (ap (role there q) is ∙ ap (λ (z : Bool). feeding (cond z (claims lowest m ∷ []) [] ++ [])) (eq-eqb y id (sym named))) i (turns some) e x.says low w
             go (by-claim (negsuc y) commits i is some not-exclusive) = absurd (shared not-exclusive)
             go (by-memory chunks bytes base commit exclusive commits i is not-exclusive) = absurd (shared not-exclusive)
         by (drops s m) e x low w =
             entered (releases x.address m) (turn released (unhold before s m)) (is-role ∙ x.feeds managed) x.idle x.by-book e
-            (sym (ap₂ (λ (r : Answer) (ws : List Say). said r ++ ws) x.answered (no-debt later record' x.closed))) (ap unheld_by x.answered) low w
+            (sym (ap₂ (λ (r : Answer) (ws : List Say). said r ++ ws) x.answered (no-debt later record' x.closed))) low w
         by (undoes s m) e x low w =
             absurd (true≢false (sym (ap₂ declines x.open_is x.is ∙ (unfold is_for in refl)) ∙ agrees
             (subst (Mine p z) (ap (view_of id) x.open_is ∙ view-commit id s m) v.mine)))

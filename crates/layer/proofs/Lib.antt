@@ -29,4 +29,3 @@ pub mod Unjoined
 pub mod Questions
 pub mod Standing
 pub mod Elsewhere
-pub mod Unheld

@@ -1,11 +1,6 @@
 -- A list of releases: by its rows; and item after item, each of which leaves a sound table sound and the state as it was. So row 1 is looked at once. Assumes nothing.
-use Rattle.layer.proofs.Prelude.{◌≡◌, refl, sym, ap, ap₂, ◌∙◌, subst, Bool, true, false, not, ◌&&◌, List, [], ◌∷◌, ℕ, when, unless, length, Refusal, now_ms, delay_ms, Settings, Idle, Refused, Released, Untold, World, Outcome, outcome, calm, sound, release_of, stays_pending, is_broken, is_idle, said, number_says, Items, ListOutcome, item_number, list_outcome, release_each, release_item, list_fits, release_list, ◌+◌, ◌-◌, ◌*◌, ◌/◌, ◌<◌, ◌≤◌, arith, leb-true, cond, set, length-set, by_cond, Arena, SoundArena, Commitment, release_run, stamp_run, world_of, at, after, turn_down, refused, Say, Zero, NotWhole, PastEnd}
-use Rattle.refusals.specs.Number.{number}
-use Rattle.refusals.specs.declared.Refusal.TheVariants.{NotInside}
+use Rattle.layer.proofs.Prelude.{◌≡◌, refl, sym, ap, ap₂, ◌∙◌, subst, Bool, true, false, not, ◌&&◌, List, [], ◌∷◌, ℕ, when, unless, length, Refusal, now_ms, delay_ms, Settings, Idle, Refused, Released, Untold, World, Outcome, outcome, calm, sound, release_of, stays_pending, is_broken, is_idle, said, number_says, Items, ListOutcome, item_number, list_outcome, release_each, release_item, list_fits, release_list, ◌+◌, ◌-◌, ◌*◌, ◌/◌, ◌<◌, ◌≤◌, arith, leb-true, cond, set, length-set, by_cond, Arena, SoundArena, Commitment, release_run, stamp_run, world_of, at}
 use Rattle.layer.specs.World.{size_of}
-use Rattle.layer.specs.Listing.{unheld_by}
-use Rattle.bitmap.proofs.runs.CountLaws.{count-le}
-use Rattle.arena.specs.Claiming.{free}
 use Rattle.layer.specs.declared.State.{State}
 use Rattle.arena.proofs.StaysSound.{release-sound}
 use Rattle.layer.proofs.Tools.{by-not, by-set}
@@ -50,7 +45,6 @@ module _ (S : ℕ) (l : List Arena) (stamps : List ℕ) (k : ℕ) (mark : Bool) 
 pub record Settled (w : World) (o : Outcome) : Type 0 where
   pub state : o.world.state ≡ w.state
   pub says : said o.answer ≡ number_says (item_number o.answer) ∷ []
-  pub few : unheld_by o.answer ≤ 1024
 
 module _ (ns : ℕ) (settings : Settings) (pending : Bool) where
   -- what rows 1 and 2 let pass
@@ -67,20 +61,12 @@ module _ (ns : ℕ) (settings : Settings) (pending : Bool) where
     item-settled : Settled w item_of
     item-settled =
         release-cases _ _ _ _ _ (Settled w) n Untold (stays_pending settings pending) (now_ms ns) (delay_ms settings.delay) x
-        (λ e. turned Zero refl) (λ e f. turned NotInside refl)
+        (λ e. record { state = same; says = refl }) (λ e f. record { state = same; says = refl })
         (λ i e u f. release-in-cases _ _ _ _ _ (Settled w) n Untold (stays_pending settings pending) (now_ms ns) (delay_ms settings.delay) i _
-        (λ g. turned NotWhole refl) (λ g v. turned PastEnd refl)
-        (λ g v. record {
-          state = same;
-          says = refl;
-          few = omega (arith, count-le (free (at w.records i)) ((x - (at w.records i).base) / size_of w.state) n, leb-true ((x - (at w.records i).base) / size_of w.state + n) (at w.records i).chunks v, ((passing-facts (size_of w.state) w settings.page h.0).each i u).range.few);
-        }))
+        (λ g. record { state = same; says = refl }) (λ g v. record { state = same; says = refl }) (λ g v. record { state = same; says = refl }))
       where
         same : calm w.state.count w.state.mark ≡ w.state
         same = ap (λ (v : World). v.state) (calm-world w h.1)
-
-        turned : (why : Refusal) → refused (number why) ≡ number_says (number why) → Settled w (after (turn_down why (calm w.state.count w.state.mark)) w.records w.stamps)
-        turned why e = record { state = same; says = ap (λ (z : Say). z ∷ []) e; few = omega arith }
 
     pub settled : Settled w (release_item ns settings pending w x n)
     settled = subst (Settled w) (sym item-is) item-settled
@@ -120,11 +106,10 @@ module _ (ns : ℕ) (settings : Settings) (pending : Bool) where
   each-state w h xs counts = each_keeps (λ (v : World). v.state ≡ w.state) (λ v g e x n. (settled v g x n).state ∙ e) w h refl xs counts
 
 -- the list itself is granted
-pub each-granted : (ns : ℕ) (settings : Settings) (pending : Bool) (w : World) (xs counts : List ℕ)
-    → (release_each ns settings pending w xs counts).whole.answer ≡ Released (unheld_by (release_each ns settings pending w xs counts).whole.answer)
+pub each-granted : (ns : ℕ) (settings : Settings) (pending : Bool) (w : World) (xs counts : List ℕ) → (release_each ns settings pending w xs counts).whole.answer ≡ Released
 each-granted ns settings pending w [] counts = refl
 each-granted ns settings pending w (x ∷ xs) [] = refl
-each-granted ns settings pending w (x ∷ xs) (n ∷ counts) = refl
+each-granted ns settings pending w (x ∷ xs) (n ∷ counts) = each-granted ns settings pending (release_item ns settings pending w x n).world xs counts
 
 -- ---- by its rows
 

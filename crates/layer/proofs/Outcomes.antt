@@ -73,7 +73,7 @@ module _ (S : ℕ) (l : List Arena) (k : ℕ) where
   Tells n named (Asks ask) w = Unit {0}
   Tells n named (Registered i) w = Unit {0}
   Tells n named (Claimed x fresh committed) w = SoundTable S l k → Away n named x
-  Tells n named (Released unheld) w = Unit {0}
+  Tells n named Released w = Unit {0}
   Tells n named (Swept count) w = Unit {0}
   Tells n named (Owns whether) w = Unit {0}
   Tells n named (Area base bytes) w = Unit {0}
@@ -208,7 +208,7 @@ not-broken S l k n named (Refused why) w h = h
 not-broken S l k n named (Asks ask) w h = refl
 not-broken S l k n named (Registered i) w h = refl
 not-broken S l k n named (Claimed x fresh committed) w h = refl
-not-broken S l k n named (Released unheld) w h = refl
+not-broken S l k n named Released w h = refl
 not-broken S l k n named (Swept count) w h = refl
 not-broken S l k n named (Owns whether) w h = refl
 not-broken S l k n named (Area base bytes) w h = refl

@@ -39,7 +39,6 @@ unfoldable pub use Rattle.arena.specs.Place.{bytes_of, end_of, is_inside}
 pub use Rattle.arena.specs.Registering.{each_bit, no_bits}
 unfoldable pub use Rattle.arena.specs.Registering.{adopted_arena, grown_arena, managed_arena, new_arena, reserved_arena}
 unfoldable pub use Rattle.arena.specs.Releasing.{pend_run, release_run, stamp_run, tell_run}
-pub use Rattle.arena.specs.Releasing.{unheld_in}
 pub use Rattle.arena.specs.Rows.{Rows}
 unfoldable pub use Rattle.arena.specs.Soundness.{clear_past, clear_past_all, sound_arena, sound_range}
 unfoldable pub use Rattle.arena.specs.Stamps.{stamps_of}

@@ -1,8 +1,6 @@
 -- The share book that a record and what is open about it show; what a call is to one arena; the invariant of a history, and what one call does to it. The book
 -- shown knows no id and no table. Assumes nothing.
-use Rattle.layer.proofs.Prelude.{◌≡◌, Bool, true, false, cond, not, ◌&&◌, ◌||◌, List, [], ◌∷◌, ◌++◌, ℕ, ◌+◌, ◌*◌, ◌<◌, eqb, bit_at, within, Arena, is_on, run_fresh, Question, Idle, Committing, Purging, Reserving, GivingBack, Kind, Answer, Outcome, at, is_for, Call, act, query, answer, Book, lowest, Fed, claims, Say, granted, enter_all, say_all, is_idle, entries_of, said, Place, is_none, feeds}
-use Rattle.layer.specs.Listing.{unheld_by}
-use Rattle.layer.specs.Unheld.{lacks_all}
+use Rattle.layer.proofs.Prelude.{◌≡◌, Bool, true, false, cond, not, ◌&&◌, ◌||◌, List, [], ◌∷◌, ◌++◌, ℕ, ◌+◌, ◌*◌, ◌<◌, eqb, bit_at, within, Arena, is_on, run_fresh, Question, Idle, Committing, Purging, Reserving, GivingBack, Kind, Answer, Outcome, at, is_for, Call, act, query, answer, Book, lowest, Fed, claims, Say, granted, enter_all, say_all, is_idle, entries_of, said, Place, feeds}
 
 -- ---- what is open about an arena
 
@@ -135,4 +133,3 @@ module _ (S p id b n : ℕ) where
     pub inv : Inv o.world.records o.world.state.count o.world.state.question (asker_after q who z)
     pub book : book_at o.world.records o.world.state.question ≡ enter_all (book_at l q) (fed_of r)
     pub says : owed_at l q ++ say_all (book_at l q) (fed_of r) ≡ told_as r o.answer ++ owed_at o.world.records o.world.state.question
-    pub unheld : is_none (fed_of r) ≡ false → unheld_by o.answer ≡ lacks_all (book_at l q) (fed_of r)

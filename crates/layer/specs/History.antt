@@ -96,7 +96,7 @@ is_broken (Refused why) = eqb (number why) 1
 is_broken (Asks ask) = false
 is_broken (Registered id) = false
 is_broken (Claimed address fresh committed) = false
-is_broken (Released unheld) = false
+is_broken Released = false
 is_broken (Swept count) = false
 is_broken (Owns whether) = false
 is_broken (Area base bytes) = false
@@ -207,7 +207,7 @@ entries (answer kind accepted base) = []
 abbrev pub said : Answer → List Say
 said (Refused why) = refused (number why) ∷ []
 said (Claimed address fresh committed) = granted address fresh ∷ []
-said (Released unheld) = released ∷ []
+said Released = released ∷ []
 said (Asks ask) = []
 said (Registered id) = []
 said (Swept count) = []
@@ -226,7 +226,7 @@ number_says zero = released
 number_says (suc n) = refused (suc n)
 
 abbrev pub said_of_list : List Entry → Answer → List ℕ → List Say
-said_of_list es (Released unheld) numbers = map number_says numbers
+said_of_list es Released numbers = map number_says numbers
 said_of_list es (Refused why) numbers = map (λ e. refused (number why)) es
 said_of_list es (Claimed address fresh committed) numbers = []
 said_of_list es (Asks ask) numbers = []

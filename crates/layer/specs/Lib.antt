@@ -15,4 +15,3 @@ pub mod Demand
 pub mod Ten
 pub mod Questions
 pub mod Standing
-pub mod Unheld

@@ -1,6 +1,6 @@
 -- A list of releases, wish 3 of document 02: the rules of the call on any lent table and any lent lists. Its items are releases of `step`, so it stands beside it.
 -- Assumes nothing.
-use Rattle.layer.specs.Prelude.{◌≡◌, Bool, not, ◌&&◌, List, [], ◌∷◌, ℕ, ◌+◌, eqb, leb, length, Refusal, Broken, QuestionOpen, ListLength, Arena, Untold, Settings, Answer, Refused, Asks, Registered, Claimed, Released, Swept, Owns, Area, Reply}
+use Rattle.layer.specs.Prelude.{◌≡◌, Bool, not, ◌&&◌, List, [], ◌∷◌, ℕ, eqb, leb, length, Refusal, Broken, QuestionOpen, ListLength, Arena, Untold, Settings, Answer, Refused, Asks, Registered, Claimed, Released, Swept, Owns, Area, Reply}
 use Rattle.refusals.specs.Number.{number}
 use Rattle.layer.specs.World.{World, Outcome, size_of, outcome, Leaves, Row, row, first_of}
 use Rattle.layer.specs.Table.{sound}
@@ -32,7 +32,7 @@ refuse_list w t why holds = row (list_outcome (outcome (Refused why) w) t.answer
 -- "each item's number (0 for granted) stands at its place"; a release is granted or turned down, so the other answers are none of an item's
 abbrev pub item_number : Answer → ℕ
 item_number (Refused why) = number why
-item_number (Released unheld) = 0
+item_number Released = 0
 item_number (Asks ask) = 0
 item_number (Registered id) = 0
 item_number (Claimed address fresh committed) = 0
@@ -40,29 +40,18 @@ item_number (Swept count) = 0
 item_number (Owns whether) = 0
 item_number (Area base bytes) = 0
 
--- wish 5: how many chunks a release found not held; it "comes with a grant only"
-abbrev pub unheld_by : Answer → ℕ
-unheld_by (Released unheld) = unheld
-unheld_by (Refused why) = 0
-unheld_by (Asks ask) = 0
-unheld_by (Registered id) = 0
-unheld_by (Claimed address fresh committed) = 0
-unheld_by (Swept count) = 0
-unheld_by (Owns whether) = 0
-unheld_by (Area base bytes) = 0
-
 -- one item is a release of `step`, not told
 abbrev pub release_item : ℕ → Settings → Bool → World → ℕ → ℕ → Outcome
 release_item ns settings pending w address n = step w ns settings (act (release address n Untold pending))
 
--- "It leaves what single releases in list order at the same clock and settings would leave", and wish 5: "the list of Wish 3 gives the sum over granted items beside its answers"
+-- "It leaves what single releases in list order at the same clock and settings would leave"
 abbrev pub release_each : ℕ → Settings → Bool → World → List ℕ → List ℕ → ListOutcome
 release_each ns settings pending w (x ∷ xs) (n ∷ counts) =
     let o = release_item ns settings pending w x n in
     let rest = release_each ns settings pending o.world xs counts in
-    list_outcome (outcome (Released (unheld_by o.answer + unheld_by rest.whole.answer)) rest.whole.world) (item_number o.answer ∷ rest.numbers)
-release_each ns settings pending w [] counts = list_outcome (outcome (Released 0) w) []
-release_each ns settings pending w (x ∷ xs) [] = list_outcome (outcome (Released 0) w) []
+    list_outcome rest.whole (item_number o.answer ∷ rest.numbers)
+release_each ns settings pending w [] counts = list_outcome (outcome Released w) []
+release_each ns settings pending w (x ∷ xs) [] = list_outcome (outcome Released w) []
 
 -- "19 when the three lengths differ or pass 32,768"
 unfoldable pub list_fits : Items → Bool

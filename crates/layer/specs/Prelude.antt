@@ -14,7 +14,7 @@ pub use Rattle.arena.specs.declared.Commitment.TheVariants.{Untold}
 pub use Rattle.arena.specs.Flags.{is_on}
 pub use Rattle.arena.specs.Registering.{no_bits, reserved_arena, managed_arena, adopted_arena, grown_arena}
 pub use Rattle.arena.specs.Claiming.{find_run, run_committed, run_fresh, take_run, dirty_run, give_back_run, finish_grant}
-pub use Rattle.arena.specs.Releasing.{unheld_in, release_run, stamp_run}
+pub use Rattle.arena.specs.Releasing.{release_run, stamp_run}
 pub use Rattle.arena.specs.Sweeping.{sweep_due, disarm, next_asked, borrow_chunk, return_chunk, rearm}
 pub use Rattle.arena.specs.Stamps.{stamps_of}
 pub use Rattle.arena.specs.Moving.{overwritten}

@@ -124,8 +124,7 @@ pub enum Answer {
         fresh: bool,
         committed: bool,
     },
-    // how many of the run's chunks were not held before; of a list, the sum over its granted items
-    Released(usize),
+    Released,
     Swept(usize),
     Owns(bool),
     Area {

@@ -4,4 +4,3 @@ pub mod sweep_runs
 pub mod joined
 pub mod never
 pub mod listed
-pub mod unheld

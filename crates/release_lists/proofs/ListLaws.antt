@@ -1,5 +1,5 @@
 -- A list turn by turn, and its rows. Assumes nothing.
-use Rattle.layer.proofs.Prelude.{◌≡◌, refl, sym, ap, ap₂, ◌∙◌, subst, Bool, true, false, not, ◌&&◌, List, [], ◌∷◌, ◌++◌, append_assoc, append-nil, ℕ, suc, ◌+◌, ◌<◌, arith, eqb-true, eqb, leb, length, get_or, set, take, drop, when, unless, and_both, Broken, QuestionOpen, ListLength, now_ms, delay_ms, Arena, Untold, World, Outcome, world_of, reply, calm, turn_down, sound, release_of, stays_pending, is_idle, ListOutcome, item_number, release_each, release_item, list_fits, release_list, ◌≤◌, ◌*◌, ◌^◌, leb-true}
+use Rattle.layer.proofs.Prelude.{◌≡◌, refl, sym, ap, ap₂, ◌∙◌, subst, Bool, true, false, not, ◌&&◌, List, [], ◌∷◌, ◌++◌, append_assoc, append-nil, ℕ, suc, ◌+◌, ◌<◌, arith, eqb-true, eqb, leb, length, get_or, set, take, drop, when, unless, and_both, Broken, QuestionOpen, ListLength, now_ms, delay_ms, Arena, Untold, World, Outcome, world_of, reply, calm, turn_down, sound, release_of, stays_pending, is_idle, ListOutcome, item_number, release_each, release_item, list_fits, release_list}
 use lib.Seq.{drop-cons, drop-length, take-length, take-suc-set}
 use Rattle.layer.specs.declared.State.{State}
 use Rattle.layer.specs.declared.Settings.{Settings}
@@ -7,12 +7,12 @@ use Rattle.layer.specs.declared.Question.TheVariants.{Idle}
 use Rattle.layer.specs.declared.Answer.TheVariants.{Released}
 use Rattle.layer.specs.declared.Reply.{Reply}
 use Rattle.layer.specs.World.{size_of, Leaves}
-use Rattle.layer.specs.Listing.{items, unheld_by, list_outcome, LeavesList}
+use Rattle.layer.specs.Listing.{items, list_outcome, LeavesList}
 use Rattle.layer.proofs.Calls.{idle-is}
 use Rattle.layer.proofs.Lists.{item-is, settled, still-past-two, each-granted, each-state}
 use Rattle.state.specs.Ready.{Ready, Stamped}
 use Rattle.state.proofs.Entry.{calm-is, ready, stamps-lent}
-use Rattle.release_lists.specs.Passed.{Passed}
+use Rattle.release_lists.specs.Passed.{Passed, LeavesItem}
 
 -- what the core of an item is handed
 pub core-ready : (l : List Arena) (stamps : List ℕ) (state : State) (ns : ℕ) (settings : Settings) → Passed l stamps state settings → Ready l state × Stamped stamps
@@ -24,9 +24,10 @@ core-ready l stamps state ns settings p = (ready l stamps state ns settings p.0 
 pub item-left : (l : List Arena) (stamps : List ℕ) (state : State) (ns : ℕ) (settings : Settings) (x n : ℕ) (pending : Bool) → Passed l stamps state settings
     → (r : Reply) (l' : List Arena) (t' : List ℕ)
     → Leaves (release_of (size_of state) l stamps state.count state.mark x n Untold (stays_pending settings pending) (now_ms ns) (delay_ms settings.delay)) r l' t'
-    → Leaves (release_item ns settings pending (world_of l stamps state) x n) r l' t'
+    → LeavesItem (release_item ns settings pending (world_of l stamps state) x n) (item_number r.answer) l' t'
 item-left l stamps state ns settings x n pending p r l' t' says =
-    subst (λ (o : Outcome). Leaves o r l' t') (sym (item-is ns settings pending (world_of l stamps state) p x n)) says
+    subst (λ (o : Outcome). LeavesItem o (item_number r.answer) l' t') (sym (item-is ns settings pending (world_of l stamps state) p x n))
+    (ap (λ (u : Reply). item_number u.answer) says.0, says.1, says.2)
 
 -- ---- turn by turn
 
@@ -34,18 +35,16 @@ module _ (records : List Arena) (stamps addresses counts answers : List ℕ) (st
   abbrev pub each : List Arena → List ℕ → List ℕ → List ℕ → ListOutcome
   each l t xs cs = release_each ns settings pending (world_of l t state) xs cs
 
-  -- before the turn of item j: what is left to do leads to where all of it leads, the numbers of the items before it stand, and u of their chunks were not held
-  pub record Turned (j u : ℕ) (l : List Arena) (t given : List ℕ) : Type 0 where
+  -- before the turn of item j: what is left to do leads to where all of it leads, and the numbers of the items before it stand
+  pub record Turned (j : ℕ) (l : List Arena) (t given : List ℕ) : Type 0 where
     pub passed : Passed l t state settings
     pub world : (each records stamps addresses counts).whole.world ≡ (each l t (drop j addresses) (drop j counts)).whole.world
     pub numbers : (each records stamps addresses counts).numbers ≡ take j given ++ (each l t (drop j addresses) (drop j counts)).numbers
-    pub sums : unheld_by (each records stamps addresses counts).whole.answer ≡ u + unheld_by (each l t (drop j addresses) (drop j counts)).whole.answer
-    pub few : u ≤ 1024 * j
 
-  pub first-turn : Passed records stamps state settings → Turned 0 0 records stamps answers
-  first-turn p = record { passed = p; world = refl; numbers = refl; sums = omega arith; few = omega arith }
+  pub first-turn : Passed records stamps state settings → Turned 0 records stamps answers
+  first-turn p = record { passed = p; world = refl; numbers = refl }
 
-  module _ (j u : ℕ) (l : List Arena) (t given : List ℕ) (inv : Turned j u l t given) (lt : j < length addresses) (same : length counts ≡ length addresses) (long : length given ≡ length addresses) where
+  module _ (j : ℕ) (l : List Arena) (t given : List ℕ) (inv : Turned j l t given) (lt : j < length addresses) (same : length counts ≡ length addresses) (long : length given ≡ length addresses) where
     abbrev x : ℕ
     x = get_or addresses j 0
 
@@ -58,35 +57,17 @@ module _ (records : List Arena) (stamps addresses counts answers : List ℕ) (st
     abbrev rest : World → List ℕ
     rest w = (release_each ns settings pending w (drop (suc j) addresses) (drop (suc j) counts)).numbers
 
-    -- at most 1,024 of an item
-    item-few : (r : Reply) (l' : List Arena) (t' : List ℕ) → Leaves item r l' t' → unheld_by r.answer ≤ 1024
-    item-few r l' t' says = subst (λ (x : ℕ). x ≤ 1024) (sym (ap (λ (x : Reply). unheld_by x.answer) says.0)) (settled ns settings pending (world_of l t state) inv.passed x n).few
-
-    pub sum_fits : j < 32768 → (r : Reply) (l' : List Arena) (t' : List ℕ) → Leaves item r l' t' → u + unheld_by r.answer < 2 ^ 64
-    sum_fits small r l' t' says = omega (arith, item-few r l' t' says, inv.few, small)
-
-    pub turns : (r : Reply) (l' : List Arena) (t' : List ℕ) → Leaves item r l' t' → Turned (j + 1) (u + unheld_by r.answer) l' t' (set given j (item_number r.answer))
-    turns r l' t' says = let one_more : suc j ≡ j + 1 = omega arith in subst (λ (m : ℕ). Turned m (u + unheld_by r.answer) l' t' (set given j number)) one_more (record {
+    pub turns : (number : ℕ) (l' : List Arena) (t' : List ℕ) → LeavesItem item number l' t' → Turned (j + 1) l' t' (set given j number)
+    turns number l' t' says = let one_more : suc j ≡ j + 1 = omega arith in subst (λ (m : ℕ). Turned m l' t' (set given j number)) one_more (record {
       passed = subst (λ (w : World). (sound (size_of w.state) w settings.page ≡ true) × (w.state.question ≡ Idle)) left_is (still-past-two ns settings pending (world_of l t state) inv.passed x n);
       world = inv.world ∙ ap (λ (u : ListOutcome). u.whole.world) unrolled ∙ ap (λ (w : World). (release_each ns settings pending w (drop (suc j) addresses) (drop (suc j) counts)).whole.world) left_is;
       numbers = inv.numbers
           ∙ ap (λ (u : ListOutcome). take j given ++ u.numbers) unrolled
           ∙ sym (append_assoc (take j given) (item_number item.answer ∷ []) (rest item.world))
-          ∙ ap₂ (λ (u : ℕ) (w : World). (take j given ++ (u ∷ [])) ++ rest w) (sym (ap (λ (x : Reply). item_number x.answer) says.0)) left_is
+          ∙ ap₂ (λ (u : ℕ) (w : World). (take j given ++ (u ∷ [])) ++ rest w) (sym says.0) left_is
           ∙ ap (λ (u : List ℕ). u ++ rest (world_of l' t' state)) (sym (take-suc-set given j number (omega (arith, lt, long))));
-      sums = inv.sums
-          ∙ ap (λ (z : ListOutcome). u + unheld_by z.whole.answer) unrolled
-          ∙ ap₂ (λ (y : ℕ) (w : World). u + (y + over w)) (sym (ap (λ (x : Reply). unheld_by x.answer) says.0)) left_is
-          ∙ (let z : u + (unheld_by r.answer + over (world_of l' t' state)) ≡ u + unheld_by r.answer + over (world_of l' t' state) = omega arith in z);
-      few = omega (arith, inv.few, item-few r l' t' says);
     })
       where
-        number : ℕ
-        number = item_number r.answer
-
-        over : World → ℕ
-        over w = unheld_by (release_each ns settings pending w (drop (suc j) addresses) (drop (suc j) counts)).whole.answer
-
         left_is : item.world ≡ world_of l' t' state
         left_is =
             ap (λ (z : State). world_of item.world.records item.world.stamps z) (settled ns settings pending (world_of l t state) inv.passed x n).state
@@ -96,16 +77,15 @@ module _ (records : List Arena) (stamps addresses counts answers : List ℕ) (st
         unrolled = ap₂ (each l t) (drop-cons addresses j 0 lt) (drop-cons counts j 0 (omega (arith, lt, same)))
 
   -- after the last turn
-  pub last_turn : (m u : ℕ) (l : List Arena) (t given : List ℕ) → m ≡ length addresses → Turned m u l t given → length given ≡ length addresses
-      → (u ≡ unheld_by (each records stamps addresses counts).whole.answer) × (l ≡ (each records stamps addresses counts).whole.world.records) × (t ≡ (each records stamps addresses counts).whole.world.stamps) × (given ≡ (each records stamps addresses counts).numbers)
-  last_turn m u l t given is inv long = (
-    sym (inv.sums ∙ ap (λ (z : ListOutcome). u + unheld_by z.whole.answer) ended ∙ (let z : u + 0 ≡ u = omega arith in z)),
+  pub last_turn : (m : ℕ) (l : List Arena) (t given : List ℕ) → m ≡ length addresses → Turned m l t given → length given ≡ length addresses
+      → (l ≡ (each records stamps addresses counts).whole.world.records) × (t ≡ (each records stamps addresses counts).whole.world.stamps) × (given ≡ (each records stamps addresses counts).numbers)
+  last_turn m l t given is inv long = (
     sym (ap (λ (u : World). u.records) inv.world ∙ ap (λ (u : ListOutcome). u.whole.world.records) ended),
     sym (ap (λ (u : World). u.stamps) inv.world ∙ ap (λ (u : ListOutcome). u.whole.world.stamps) ended),
     sym (inv.numbers ∙ ap₂ (λ (u : List ℕ) (v : ListOutcome). u ++ v.numbers) (ap (λ (k : ℕ). take k given) (is ∙ sym long) ∙ take-length given) ended ∙ append-nil given),
   )
     where
-      ended : each l t (drop m addresses) (drop m counts) ≡ list_outcome (record { answer = Released 0; world = world_of l t state }) []
+      ended : each l t (drop m addresses) (drop m counts) ≡ list_outcome (record { answer = Released; world = world_of l t state }) []
       ended = ap (λ (xs : List ℕ). each l t xs (drop m counts)) (ap (λ (k : ℕ). drop k addresses) is ∙ drop-length addresses)
 
 -- ---- the rows
@@ -140,15 +120,15 @@ module _ (records : List Arena) (stamps addresses counts answers : List ℕ) (st
   -- behind the rows the items
   pub items-ready : sound (size_of state) w settings.page ≡ true → is_idle state.question ≡ true
       → (eqb (length counts) (length addresses) && (eqb (length answers) (length addresses) && leb (length addresses) 32768)) ≡ true
-      → Passed records stamps state settings × (length counts ≡ length addresses) × (length answers ≡ length addresses) × (length addresses ≤ 32768)
+      → Passed records stamps state settings × (length counts ≡ length addresses) × (length answers ≡ length addresses)
   items-ready e f g =
       let a = and_both (eqb (length counts) (length addresses)) _ g in
       let b = and_both (eqb (length answers) (length addresses)) _ a.1 in
-      ((e, idle-is state.question f), eqb-true (length counts) (length addresses) a.0, eqb-true (length answers) (length addresses) b.0, leb-true (length addresses) 32768 b.1)
+      ((e, idle-is state.question f), eqb-true (length counts) (length addresses) a.0, eqb-true (length answers) (length addresses) b.0)
 
   pub released-row : sound (size_of state) w settings.page ≡ true → is_idle state.question ≡ true
       → (eqb (length counts) (length addresses) && (eqb (length answers) (length addresses) && leb (length addresses) 32768)) ≡ true
-      → LeavesList all (reply (Released (unheld_by released.whole.answer)) (calm state.count state.mark)) released.whole.world.records released.whole.world.stamps released.numbers
+      → LeavesList all (reply Released (calm state.count state.mark)) released.whole.world.records released.whole.world.stamps released.numbers
   unfolding release_list list_fits
   released-row e f g =
       comes _ _ _ _ _ (unless _ _ _ (ap not e) ∙ unless _ _ _ (ap not f) ∙ unless _ _ _ (ap not g)) (

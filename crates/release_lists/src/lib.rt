@@ -2,11 +2,11 @@
 // answers. Document 02, wish 3: "It leaves what single releases in list order at the same clock and settings would
 // leave". Rows 1, 2 and 19 are looked at once: a release keeps the table sound and puts no question, so behind them
 // each item is the release's core.
-ghost use Rattle.std.specs.Prelude.{◌≡◌, ◌&&◌, ◌+◌, ◌^◌, ◌<◌, ◌≤◌, eqb, leb, length, get_or, set};
+ghost use Rattle.std.specs.Prelude.{◌≡◌, ◌&&◌, ◌<◌, ◌≤◌, eqb, leb, length, get_or, set};
 ghost use Rattle.arena.specs.declared.Commitment.TheVariants.{Untold};
-ghost use Rattle.layer.specs.World.{world_of, Leaves};
-ghost use Rattle.layer.specs.Listing.{items, item_number, unheld_by, release_item, release_each, release_list, LeavesList};
-ghost use Rattle.release_lists.specs.Passed.{Passed};
+ghost use Rattle.layer.specs.World.{world_of};
+ghost use Rattle.layer.specs.Listing.{items, item_number, release_item, release_each, release_list, LeavesList};
+ghost use Rattle.release_lists.specs.Passed.{Passed, LeavesItem};
 
 use arena::{Arena, Commitment};
 use layer::{Answer, Reply, Settings, State};
@@ -67,36 +67,11 @@ fn number_of(r: Reply) -> u32
         Answer::Asks(_) => 0,
         Answer::Registered(_) => 0,
         Answer::Claimed { .. } => 0,
-        Answer::Released(_) => 0,
+        Answer::Released => 0,
         Answer::Swept(_) => 0,
         Answer::Owns(_) => 0,
         Answer::Area { .. } => 0,
     }
-}
-
-// How many of its chunks were not held: wish 5, "the sum over granted items".
-fn unheld_of(r: Reply) -> usize
-    ensures { result ≡ unheld_by r.answer }
-{
-    let answer = r.answer;
-    match answer {
-        Answer::Refused(_) => 0,
-        Answer::Asks(_) => 0,
-        Answer::Registered(_) => 0,
-        Answer::Claimed { .. } => 0,
-        Answer::Released(unheld) => unheld,
-        Answer::Swept(_) => 0,
-        Answer::Owns(_) => 0,
-        Answer::Area { .. } => 0,
-    }
-}
-
-// The sum with one item more.
-fn with_item(sum: usize, unheld: usize) -> usize
-    requires { sum + unheld < 2 ^ 64 }
-    ensures { result ≡ sum + unheld }
-{
-    sum + unheld
 }
 
 // "it says nothing of commitment"
@@ -106,7 +81,7 @@ fn untold() -> Commitment
     Commitment::Untold
 }
 
-// The item's release, not told, by the core.
+// The item's release, not told, by the core; its number.
 fn release_item(
     records: &mut [Arena],
     stamps: &mut [u32],
@@ -116,15 +91,16 @@ fn release_item(
     address: u64,
     count: u32,
     pending: bool,
-) -> Reply
+) -> u32
     requires { Passed records.old stamps.old state settings }
-    ensures { Leaves (release_item ns settings «pending» (world_of records.old stamps.old state) address count) result records.new stamps.new }
+    ensures { LeavesItem (release_item ns settings «pending» (world_of records.old stamps.old state) address count) result records.new stamps.new }
 {
     let told = untold();
     let n = as_number(count);
-    releasing::release(
+    let r = releasing::release(
         records, stamps, state, ns, settings, address, n, told, pending,
-    )
+    );
+    number_of(r)
 }
 
 // ---- item after item
@@ -140,34 +116,27 @@ fn release_each(
     ns: u64,
     settings: Settings,
     pending: bool,
-) -> usize
-    requires { Passed records.old stamps.old state settings × (n ≡ length addresses.now) × (length counts.now ≡ length addresses.now) × (length answers.old ≡ length addresses.now) × (n ≤ 32768) }
-    ensures { (result ≡ unheld_by (release_each ns settings «pending» (world_of records.old stamps.old state) addresses.now counts.now).whole.answer)
-        × (records.new ≡ (release_each ns settings «pending» (world_of records.old stamps.old state) addresses.now counts.now).whole.world.records)
+)
+    requires { Passed records.old stamps.old state settings × (n ≡ length addresses.now) × (length counts.now ≡ length addresses.now) × (length answers.old ≡ length addresses.now) }
+    ensures { (records.new ≡ (release_each ns settings «pending» (world_of records.old stamps.old state) addresses.now counts.now).whole.world.records)
         × (stamps.new ≡ (release_each ns settings «pending» (world_of records.old stamps.old state) addresses.now counts.now).whole.world.stamps)
         × (answers.new ≡ (release_each ns settings «pending» (world_of records.old stamps.old state) addresses.now counts.now).numbers) }
 {
-    let mut sum = 0;
     let mut j = 0;
     while j < n {
         let address = address_at(addresses, j);
         let count = count_at(counts, j);
-        let r = release_item(
+        let number = release_item(
             records, stamps, state, ns, settings, address, count, pending,
         );
-        let number = number_of(r);
-        let unheld = unheld_of(r);
         put_number(answers, j, number);
-        sum = with_item(sum, unheld);
         j = j + 1;
     }
-    sum
 }
 
 // ---- the entry point
 
-// Releases in list order, each answered at its place; all pending, or none. It says nothing of commitment. Granted, it
-// says how many chunks of the granted items were not held.
+// Releases in list order, each answered at its place; all pending, or none. It says nothing of commitment.
 pub fn chunk_release_list(
     records: &mut [Arena],
     stamps: &mut [u32],
@@ -192,8 +161,8 @@ pub fn chunk_release_list(
         return state::refuse(Refusal::ListLength, state);
     }
     let n = addresses.len();
-    let unheld = release_each(
+    release_each(
         records, stamps, addresses, counts, answers, n, state, ns, settings, pending,
     );
-    releasing::released(state, unheld)
+    releasing::released(state)
 }

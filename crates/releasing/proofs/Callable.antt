@@ -1,25 +1,22 @@
--- Functions of `releasing` that a walk calls, each in one step: arena-of-step, chunk-release-step, delay-of-step, fits-step, is-untold-step, is-whole-step, offset-of-step, release-step, release-in-step, released-step, start-of-step, stays-pending-step, unheld-of-step. Written by tools/walks.
+-- Functions of `releasing` that a walk calls, each in one step: chunk-release-step, delay-of-step, fits-step, is-untold-step, is-whole-step, offset-of-step, release-step, release-in-step, released-step, start-of-step, stays-pending-step. Written by tools/walks.
 -- Assumes `Logic`, the callee's theorem, and that the table of calls is monotone under a frame.
 use Rattle.walks.proofs.Walking.{◌≡◌, refl, sym, ◌∙◌, ap, subst, Bool, ℕ, ◌<◌, ◌≤◌, ◌+◌, ◌*◌, ◌^◌, List, [], ◌∷◌, eqb, leb, length, set, w32, w64, Operand, Val, vint, vbool, Ura, SProp, emp, id⊢, Memory, Routine, Env, Calls, Item, Goal, Seq, ‵, ◌⊛◌, Opds, Fun, fact_i, bool, u32, u64, usize, yes, Is, Ises, owns_make, uint_Makes, bool_Tells, bool_Makes, plain, only, triple_of, Contract, Triple, Loan, lent, slice_of, Site, plain-call, mut2-call}
-use Rattle.arena.specs.contracts.arena_runs.GivenBack as T-GivenBack
-use Rattle.arena.proofs.arena_runs.GivenBack.TheLaws as L-GivenBack
-use denote.Struct.Laws as LL
-use Rattle.arena.specs.contracts.Arena as T-Arena
 use Rattle.layer.specs.contracts.State as T-State
 use Rattle.layer.proofs.State.TheLaws as L-State
+use denote.Struct.Laws as LL
 use Rattle.layer.specs.contracts.Settings as T-Settings
 use Rattle.layer.proofs.Settings.TheLaws as L-Settings
 use Rattle.arena.specs.contracts.Commitment as T-Commitment
 use Rattle.arena.proofs.Commitment.TheLaws as L-Commitment
 use denote.Enum.Laws as EL
+use Rattle.arena.specs.contracts.Arena as T-Arena
 use Rattle.layer.specs.contracts.Reply as T-Reply
 use Rattle.table.specs.contracts.heads.Head as T-Head
 use Rattle.table.proofs.heads.Head.TheLaws as L-Head
-use Rattle.arena.specs.declared.arena_runs.GivenBack.{GivenBack}
-use Rattle.arena.specs.declared.Arena.{Arena}
 use Rattle.layer.specs.declared.State.{State}
 use Rattle.layer.specs.declared.Settings.{Settings}
 use Rattle.arena.specs.declared.Commitment.{Commitment}
+use Rattle.arena.specs.declared.Arena.{Arena}
 use Rattle.layer.specs.declared.Reply.{Reply}
 use Rattle.layer.specs.World.{world_of, Leaves, size_of, reply, calm}
 use Rattle.layer.specs.Step.{release, step, act, stays_pending}
@@ -30,11 +27,9 @@ use Prim.Native.Nat.{◌%◌, ◌-◌, ◌/◌}
 use Rattle.layer.specs.Releasing.{release_of}
 use Rattle.state.specs.Ready.{Ready, Stamped}
 use mathlib.Core.Bool.{cond}
-use Rattle.arena.specs.Releasing.{unheld_in, release_run, stamp_run}
+use Rattle.arena.specs.Releasing.{release_run, stamp_run}
 use Rattle.layer.specs.declared.Answer.TheVariants.{Released}
 use Rattle.layer.specs.Table.{at}
-use Rattle.releasing.specs.contracts.arena_of as arena-of'
-use Rattle.releasing.proofs.arena_of.Symbol.{name as #releasing·arena-of}
 use Rattle.releasing.specs.contracts.chunk_release as chunk-release'
 use Rattle.releasing.proofs.chunk_release.Symbol.{name as #releasing·chunk-release}
 use Rattle.releasing.specs.contracts.delay_of as delay-of'
@@ -57,15 +52,10 @@ use Rattle.releasing.specs.contracts.start_of as start-of'
 use Rattle.releasing.proofs.start_of.Symbol.{name as #releasing·start-of}
 use Rattle.releasing.specs.contracts.stays_pending as stays-pending'
 use Rattle.releasing.proofs.stays_pending.Symbol.{name as #releasing·stays-pending}
-use Rattle.releasing.specs.contracts.unheld_of as unheld-of'
-use Rattle.releasing.proofs.unheld_of.Symbol.{name as #releasing·unheld-of}
 use types.Logic.{Logic}
 
 -- the contracts that a walk cites
 module _ {M : Type 1} {𝓤 : Ura M} (𝓛 : Logic 𝓤) (mem : Memory → SProp 𝓤) (run : Routine → Fun 𝓤) where
-  abbrev pub ArenaOfSpec : Contract 𝓤
-  ArenaOfSpec = triple_of 𝓛 arena-of'.signature (arena-of'.spec 𝓛 mem run)
-
   abbrev pub ChunkReleaseSpec : Contract 𝓤
   ChunkReleaseSpec = triple_of 𝓛 chunk-release'.signature (chunk-release'.spec 𝓛 mem run)
 
@@ -99,20 +89,7 @@ module _ {M : Type 1} {𝓤 : Ura M} (𝓛 : Logic 𝓤) (mem : Memory → SProp
   abbrev pub StaysPendingSpec : Contract 𝓤
   StaysPendingSpec = triple_of 𝓛 stays-pending'.signature (stays-pending'.spec 𝓛 mem run)
 
-  abbrev pub UnheldOfSpec : Contract 𝓤
-  UnheldOfSpec = triple_of 𝓛 unheld-of'.signature (unheld-of'.spec 𝓛 mem run)
-
 module _ {M : Type 1} {𝓤 : Ura M} {𝓛 : Logic 𝓤} {K : Type 0} {Γ : List (Item 𝓤)} {C : Calls 𝓤 𝓛.H} {E : Env 𝓤 𝓛.H} {xs : List Operand} {G : Goal 𝓤 𝓛.H} {after : Val → Goal 𝓤 𝓛.H} {more : Item 𝓤} where
-  pub arena-of-step : K → Site K 𝓛 Γ C E #releasing·arena-of xs G after → (mem : Memory → SProp 𝓤) (run : Routine → Fun 𝓤) → Triple 𝓤 (C #releasing·arena-of) (ArenaOfSpec 𝓛 mem run)
-      → (given : GivenBack) (v-given : Val) → Is T-GivenBack.the_row given (v-given ∷ [])
-      → ((hd' : Item 𝓤) → Opds K 𝓛 (hd' ∷ Γ) E xs (v-given ∷ []))
-      → ((val' : Val) → Is T-Arena.the_row given.arena (val' ∷ []) → Seq K 𝓛 (more ∷ Γ) (after val'))
-      → Seq K 𝓛 (more ∷ Γ) G
-  arena-of-step bang site mem run known given v-given g-given ops then' =
-      plain-call bang site T-Arena.the_row (plain (λ _. T-GivenBack.the_row) ∷ []) (yes, tt) (arena-of'.clauses 𝓛 mem run) known (given, tt) (v-given ∷ [], tt)
-      (owns_make 𝓛 (T-GivenBack.the_row ∷ []) (Ises (T-GivenBack.the_row ∷ [])) (LL.makes T-GivenBack.the_type L-GivenBack.the_plain 𝓛, tt) (given, tt) (v-given ∷ [], tt) (g-given, tt)) tt (id⊢ 𝓤 _)
-      (λ out. out ≡ given.arena) (λ out ws. id⊢ 𝓤 _) ops (λ val' out rel' eq'. then' val' (subst (λ (obj' : Arena). Is T-Arena.the_row obj' (val' ∷ [])) eq' rel'))
-
   pub chunk-release-step : K → Site K 𝓛 Γ C E #releasing·chunk-release xs G after → (mem : Memory → SProp 𝓤) (run : Routine → Fun 𝓤) → Triple 𝓤 (C #releasing·chunk-release) (ChunkReleaseSpec 𝓛 mem run)
       → (L-records : Loan) (records : List Arena) → (L-stamps : Loan) (stamps : List ℕ) → (state : State) (v-state : Val) → Is T-State.the_row state (v-state ∷ []) → (ns : ℕ) → ns < 2 ^ 64 → (settings : Settings) (v-settings : Val) → Is T-Settings.the_row settings (v-settings ∷ []) → (address : ℕ) → address < 2 ^ 64 → (n : ℕ) → n < 2 ^ 64 → (told : Commitment) (v-told : Val) → Is T-Commitment.the_row told (v-told ∷ []) → (pending : Bool)
       → ((hd' : Item 𝓤) → Opds K 𝓛 (hd' ∷ Γ) E xs (slice_of L-records ∷ slice_of L-stamps ∷ v-state ∷ vint w64 ns ∷ v-settings ∷ vint w64 address ∷ vint w64 n ∷ v-told ∷ vbool pending ∷ []))
@@ -186,22 +163,22 @@ module _ {M : Type 1} {𝓤 : Ura M} {𝓛 : Logic 𝓤} {K : Type 0} {Γ : List
   pub release-in-step : K → Site K 𝓛 Γ C E #releasing·release-in xs G after → (mem : Memory → SProp 𝓤) (run : Routine → Fun 𝓤) → Triple 𝓤 (C #releasing·release-in) (ReleaseInSpec 𝓛 mem run)
       → (L-records : Loan) (records : List Arena) → (L-stamps : Loan) (stamps : List ℕ) → (state : State) (v-state : Val) → Is T-State.the_row state (v-state ∷ []) → (ns : ℕ) → ns < 2 ^ 64 → (settings : Settings) (v-settings : Val) → Is T-Settings.the_row settings (v-settings ∷ []) → (i : ℕ) → i < 2 ^ 64 → (s : ℕ) → s < 2 ^ 64 → (n : ℕ) → n < 2 ^ 64 → (told : Commitment) (v-told : Val) → Is T-Commitment.the_row told (v-told ∷ []) → (pending : Bool) → ((i < 32) × (length records ≡ 32) × (s + n ≤ 1024) × Stamped stamps)
       → ((hd' : Item 𝓤) → Opds K 𝓛 (hd' ∷ Γ) E xs (slice_of L-records ∷ slice_of L-stamps ∷ v-state ∷ vint w64 ns ∷ v-settings ∷ vint w64 i ∷ vint w64 s ∷ vint w64 n ∷ v-told ∷ vbool pending ∷ []))
-      → ((val' : Val) → Is T-Reply.the_row (reply (Released (unheld_in (at records i) s n)) (calm state.count state.mark)) (val' ∷ []) → length (set records i (release_run (at records i) s n told (stays_pending settings pending) (now_ms ns) (delay_ms settings.delay))) ≡ length records → length (cond (stays_pending settings pending) (stamp_run stamps (1024 * i + s) n (now_ms ns)) stamps) ≡ length stamps → Seq K 𝓛 ((‵ (lent T-Arena.the_row L-records (set records i (release_run (at records i) s n told (stays_pending settings pending) (now_ms ns) (delay_ms settings.delay)))) ⊛ (‵ (lent u32 L-stamps (cond (stays_pending settings pending) (stamp_run stamps (1024 * i + s) n (now_ms ns)) stamps)) ⊛ more)) ∷ Γ) (after val'))
+      → ((val' : Val) → Is T-Reply.the_row (reply Released (calm state.count state.mark)) (val' ∷ []) → length (set records i (release_run (at records i) s n told (stays_pending settings pending) (now_ms ns) (delay_ms settings.delay))) ≡ length records → length (cond (stays_pending settings pending) (stamp_run stamps (1024 * i + s) n (now_ms ns)) stamps) ≡ length stamps → Seq K 𝓛 ((‵ (lent T-Arena.the_row L-records (set records i (release_run (at records i) s n told (stays_pending settings pending) (now_ms ns) (delay_ms settings.delay)))) ⊛ (‵ (lent u32 L-stamps (cond (stays_pending settings pending) (stamp_run stamps (1024 * i + s) n (now_ms ns)) stamps)) ⊛ more)) ∷ Γ) (after val'))
       → Seq K 𝓛 ((‵ (lent T-Arena.the_row L-records records) ⊛ (‵ (lent u32 L-stamps stamps) ⊛ more)) ∷ Γ) G
   release-in-step bang site mem run known L-records records L-stamps stamps state v-state g-state ns f-ns settings v-settings g-settings i f-i s f-s n f-n told v-told g-told pending need ops then' =
       mut2-call bang site T-Arena.the_row u32 L-records L-stamps T-Reply.the_row (plain (λ _. T-State.the_row) ∷ plain (λ _. u64) ∷ plain (λ _. T-Settings.the_row) ∷ plain (λ _. usize) ∷ plain (λ _. usize) ∷ plain (λ _. usize) ∷ plain (λ _. T-Commitment.the_row) ∷ plain (λ _. bool) ∷ []) (yes, (yes, (yes, (yes, (yes, (yes, (yes, (yes, tt)))))))) (release-in'.clauses 𝓛 mem run) known records stamps (λ _. (state, (ns, (settings, (i, (s, (n, (told, (pending, tt))))))))) (λ _. (v-state ∷ [], (vint w64 ns ∷ [], (v-settings ∷ [], (vint w64 i ∷ [], (vint w64 s ∷ [], (vint w64 n ∷ [], (v-told ∷ [], (vbool pending ∷ [], tt)))))))))
       (λ _. owns_make 𝓛 (T-State.the_row ∷ u64 ∷ T-Settings.the_row ∷ usize ∷ usize ∷ usize ∷ T-Commitment.the_row ∷ bool ∷ []) (Ises (T-State.the_row ∷ u64 ∷ T-Settings.the_row ∷ usize ∷ usize ∷ usize ∷ T-Commitment.the_row ∷ bool ∷ [])) (LL.makes T-State.the_type L-State.the_plain 𝓛, (uint_Makes 𝓛 w64, (LL.makes T-Settings.the_type L-Settings.the_plain 𝓛, (uint_Makes 𝓛 w64, (uint_Makes 𝓛 w64, (uint_Makes 𝓛 w64, (EL.makes T-Commitment.the_type L-Commitment.the_plain 𝓛, (bool_Makes 𝓛, tt)))))))) (state, (ns, (settings, (i, (s, (n, (told, (pending, tt)))))))) (v-state ∷ [], (vint w64 ns ∷ [], (v-settings ∷ [], (vint w64 i ∷ [], (vint w64 s ∷ [], (vint w64 n ∷ [], (v-told ∷ [], (vbool pending ∷ [], tt)))))))) (g-state, ((refl, f-ns), (g-settings, ((refl, f-i), ((refl, f-s), ((refl, f-n), (g-told, (refl, tt))))))))) (λ _ _ _. tt) (λ _ _ _. fact_i 𝓤 _ (emp 𝓤) need)
-      (λ out records-exit stamps-exit. (out ≡ reply (Released (unheld_in (at records i) s n)) (calm state.count state.mark)) × (records-exit ≡ set records i (release_run (at records i) s n told (stays_pending settings pending) (now_ms ns) (delay_ms settings.delay))) × (stamps-exit ≡ cond (stays_pending settings pending) (stamp_run stamps (1024 * i + s) n (now_ms ns)) stamps)) (λ _ _ _ out ws. id⊢ 𝓤 _) (λ hd' _. ops hd') (λ val' out records-exit stamps-exit rel' eq' l-records l-stamps. subst (λ (lst' : List Arena). Seq K 𝓛 ((‵ (lent T-Arena.the_row L-records lst') ⊛ (‵ (lent u32 L-stamps stamps-exit) ⊛ more)) ∷ Γ) (after val')) (sym eq'.1) (subst (λ (lst' : List ℕ). Seq K 𝓛 ((‵ (lent T-Arena.the_row L-records (set records i (release_run (at records i) s n told (stays_pending settings pending) (now_ms ns) (delay_ms settings.delay)))) ⊛ (‵ (lent u32 L-stamps lst') ⊛ more)) ∷ Γ) (after val')) (sym eq'.2) (then' val' (subst (λ (obj' : Reply). Is T-Reply.the_row obj' (val' ∷ [])) eq'.0 rel') (subst (λ (lst' : List Arena). length lst' ≡ length records) eq'.1 l-records) (subst (λ (lst' : List ℕ). length lst' ≡ length stamps) eq'.2 l-stamps))))
+      (λ out records-exit stamps-exit. (out ≡ reply Released (calm state.count state.mark)) × (records-exit ≡ set records i (release_run (at records i) s n told (stays_pending settings pending) (now_ms ns) (delay_ms settings.delay))) × (stamps-exit ≡ cond (stays_pending settings pending) (stamp_run stamps (1024 * i + s) n (now_ms ns)) stamps)) (λ _ _ _ out ws. id⊢ 𝓤 _) (λ hd' _. ops hd') (λ val' out records-exit stamps-exit rel' eq' l-records l-stamps. subst (λ (lst' : List Arena). Seq K 𝓛 ((‵ (lent T-Arena.the_row L-records lst') ⊛ (‵ (lent u32 L-stamps stamps-exit) ⊛ more)) ∷ Γ) (after val')) (sym eq'.1) (subst (λ (lst' : List ℕ). Seq K 𝓛 ((‵ (lent T-Arena.the_row L-records (set records i (release_run (at records i) s n told (stays_pending settings pending) (now_ms ns) (delay_ms settings.delay)))) ⊛ (‵ (lent u32 L-stamps lst') ⊛ more)) ∷ Γ) (after val')) (sym eq'.2) (then' val' (subst (λ (obj' : Reply). Is T-Reply.the_row obj' (val' ∷ [])) eq'.0 rel') (subst (λ (lst' : List Arena). length lst' ≡ length records) eq'.1 l-records) (subst (λ (lst' : List ℕ). length lst' ≡ length stamps) eq'.2 l-stamps))))
 
   pub released-step : K → Site K 𝓛 Γ C E #releasing·released xs G after → (mem : Memory → SProp 𝓤) (run : Routine → Fun 𝓤) → Triple 𝓤 (C #releasing·released) (ReleasedSpec 𝓛 mem run)
-      → (state : State) (v-state : Val) → Is T-State.the_row state (v-state ∷ []) → (unheld : ℕ) → unheld < 2 ^ 64
-      → ((hd' : Item 𝓤) → Opds K 𝓛 (hd' ∷ Γ) E xs (v-state ∷ vint w64 unheld ∷ []))
-      → ((val' : Val) → Is T-Reply.the_row (reply (Released unheld) (calm state.count state.mark)) (val' ∷ []) → Seq K 𝓛 (more ∷ Γ) (after val'))
+      → (state : State) (v-state : Val) → Is T-State.the_row state (v-state ∷ [])
+      → ((hd' : Item 𝓤) → Opds K 𝓛 (hd' ∷ Γ) E xs (v-state ∷ []))
+      → ((val' : Val) → Is T-Reply.the_row (reply Released (calm state.count state.mark)) (val' ∷ []) → Seq K 𝓛 (more ∷ Γ) (after val'))
       → Seq K 𝓛 (more ∷ Γ) G
-  released-step bang site mem run known state v-state g-state unheld f-unheld ops then' =
-      plain-call bang site T-Reply.the_row (plain (λ _. T-State.the_row) ∷ plain (λ _. usize) ∷ []) (yes, (yes, tt)) (released'.clauses 𝓛 mem run) known (state, (unheld, tt)) (v-state ∷ [], (vint w64 unheld ∷ [], tt))
-      (owns_make 𝓛 (T-State.the_row ∷ usize ∷ []) (Ises (T-State.the_row ∷ usize ∷ [])) (LL.makes T-State.the_type L-State.the_plain 𝓛, (uint_Makes 𝓛 w64, tt)) (state, (unheld, tt)) (v-state ∷ [], (vint w64 unheld ∷ [], tt)) (g-state, ((refl, f-unheld), tt))) tt (id⊢ 𝓤 _)
-      (λ out. out ≡ reply (Released unheld) (calm state.count state.mark)) (λ out ws. id⊢ 𝓤 _) ops (λ val' out rel' eq'. then' val' (subst (λ (obj' : Reply). Is T-Reply.the_row obj' (val' ∷ [])) eq' rel'))
+  released-step bang site mem run known state v-state g-state ops then' =
+      plain-call bang site T-Reply.the_row (plain (λ _. T-State.the_row) ∷ []) (yes, tt) (released'.clauses 𝓛 mem run) known (state, tt) (v-state ∷ [], tt)
+      (owns_make 𝓛 (T-State.the_row ∷ []) (Ises (T-State.the_row ∷ [])) (LL.makes T-State.the_type L-State.the_plain 𝓛, tt) (state, tt) (v-state ∷ [], tt) (g-state, tt)) tt (id⊢ 𝓤 _)
+      (λ out. out ≡ reply Released (calm state.count state.mark)) (λ out ws. id⊢ 𝓤 _) ops (λ val' out rel' eq'. then' val' (subst (λ (obj' : Reply). Is T-Reply.the_row obj' (val' ∷ [])) eq' rel'))
 
   pub start-of-step : K → Site K 𝓛 Γ C E #releasing·start-of xs G after → (mem : Memory → SProp 𝓤) (run : Routine → Fun 𝓤) → Triple 𝓤 (C #releasing·start-of) (StartOfSpec 𝓛 mem run)
       → (offset : ℕ) → offset < 2 ^ 64 → (chunk-size : ℕ) → chunk-size < 2 ^ 64 → (0 < chunk-size)
@@ -222,13 +199,3 @@ module _ {M : Type 1} {𝓤 : Ura M} {𝓛 : Logic 𝓤} {K : Type 0} {Γ : List
       plain-call bang site bool (plain (λ _. T-Settings.the_row) ∷ plain (λ _. bool) ∷ []) (yes, (yes, tt)) (stays-pending'.clauses 𝓛 mem run) known (settings, (pending, tt)) (v-settings ∷ [], (vbool pending ∷ [], tt))
       (owns_make 𝓛 (T-Settings.the_row ∷ bool ∷ []) (Ises (T-Settings.the_row ∷ bool ∷ [])) (LL.makes T-Settings.the_type L-Settings.the_plain 𝓛, (bool_Makes 𝓛, tt)) (settings, (pending, tt)) (v-settings ∷ [], (vbool pending ∷ [], tt)) (g-settings, (refl, tt))) tt (id⊢ 𝓤 _)
       (λ out. out ≡ stays_pending settings pending) (λ out ws. id⊢ 𝓤 _) ops (λ val' out rel' eq'. subst (λ (new' : Val). Seq K 𝓛 (more ∷ Γ) (after new')) (sym (ap only (bool_Tells out (val' ∷ []) rel') ∙ ap vbool eq')) (then'))
-
-  pub unheld-of-step : K → Site K 𝓛 Γ C E #releasing·unheld-of xs G after → (mem : Memory → SProp 𝓤) (run : Routine → Fun 𝓤) → Triple 𝓤 (C #releasing·unheld-of) (UnheldOfSpec 𝓛 mem run)
-      → (given : GivenBack) (v-given : Val) → Is T-GivenBack.the_row given (v-given ∷ [])
-      → ((hd' : Item 𝓤) → Opds K 𝓛 (hd' ∷ Γ) E xs (v-given ∷ []))
-      → (given.unheld < 2 ^ 64 → Seq K 𝓛 (more ∷ Γ) (after (vint w64 given.unheld)))
-      → Seq K 𝓛 (more ∷ Γ) G
-  unheld-of-step bang site mem run known given v-given g-given ops then' =
-      plain-call bang site usize (plain (λ _. T-GivenBack.the_row) ∷ []) (yes, tt) (unheld-of'.clauses 𝓛 mem run) known (given, tt) (v-given ∷ [], tt)
-      (owns_make 𝓛 (T-GivenBack.the_row ∷ []) (Ises (T-GivenBack.the_row ∷ [])) (LL.makes T-GivenBack.the_type L-GivenBack.the_plain 𝓛, tt) (given, tt) (v-given ∷ [], tt) (g-given, tt)) tt (id⊢ 𝓤 _)
-      (λ out. out ≡ given.unheld) (λ out ws. id⊢ 𝓤 _) ops (λ val' out rel' eq'. subst (λ (new' : Val). Seq K 𝓛 (more ∷ Γ) (after new')) (sym (ap only rel'.0 ∙ ap (vint w64) eq')) (then' (subst (λ (num' : ℕ). num' < 2 ^ 64) eq' rel'.1)))

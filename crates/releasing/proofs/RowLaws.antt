@@ -1,7 +1,6 @@
 -- A release row by row: what is known of the arena that the address lies in, and that each return is the definition's. Assumes nothing.
 use Rattle.state.proofs.Prelude.{◌≡◌, refl, sym, ap, ◌∙◌, subst, Bool, true, false, not, cond, true≢false, List, [], ◌∷◌, ℕ, ◌+◌, ◌-◌, ◌*◌, ◌/◌, ◌%◌, ◌<◌, ◌≤◌, div-lt_iff_lt-mul, arith, leb-true, eqb, leb, length, set, Refusal, Zero, NotInside, NotWhole, PastEnd, when, unless, now_ms, delay_ms, Found, At, Nothing, First, first_says, Arena, Commitment, stays_pending, release_run, stamp_run, is_inside, inside-facts, Released, Settings, State, Outcome, size_of, world_of, after, Leaves, reply, turn_down, calm, at, is_at, id_found, find_arena, release_of}
 use Rattle.arena.proofs.PlaceLaws.{Within}
-use Rattle.arena.specs.Releasing.{unheld_in}
 use Rattle.layer.specs.World.{refuse, first_of}
 use Rattle.state.specs.Ready.{Standing, Ready}
 use Rattle.state.proofs.Entry.{size_fits, calm-is, stands, comes}
@@ -87,7 +86,7 @@ module _ (l : List Arena) (stamps : List ℕ) (state : State) (ns : ℕ) (settin
       ∷ refuse w NotWhole (not (eqb (offset % S) 0))
       ∷ refuse w PastEnd (not (leb (offset / S + n) (at l i).chunks))
       ∷ [])
-      (after (reply (Released (unheld_in (at l i) (offset / S) n)) (calm k state.mark)) (set l i (release_run (at l i) (offset / S) n told stays ms delay))
+      (after (reply Released (calm k state.mark)) (set l i (release_run (at l i) (offset / S) n told stays ms delay))
       (cond stays (stamp_run stamps (1024 * i + offset / S) n ms) stamps))
 
   by_place : (f : Found) → find_arena S l k address ≡ f → out ≡ by f
@@ -118,5 +117,5 @@ module _ (l : List Arena) (stamps : List ℕ) (state : State) (ns : ℕ) (settin
         abbrev stamped : List ℕ
         stamped = cond stays (stamp_run stamps (1024 * i + offset / S) n ms) stamps
 
-        pub released : inside ≡ true → Leaves out (reply (Released (unheld_in (at l i) (offset / S) n)) (calm k state.mark)) new stamped
+        pub released : inside ≡ true → Leaves out (reply Released (calm k state.mark)) new stamped
         released e = comes out _ new stamped (by_place (At i) found ∙ unless _ _ _ some ∙ unless _ _ _ (ap not whole) ∙ unless _ _ _ (ap not e))

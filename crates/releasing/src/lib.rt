@@ -2,7 +2,7 @@
 // record that the address lies in.
 ghost use Rattle.std.specs.Prelude.{◌≡◌, cond, ◌+◌, ◌-◌, ◌*◌, ◌/◌, ◌%◌, ◌<◌, ◌≤◌, eqb, leb, length, set};
 ghost use Rattle.clock.specs.Clock.{now_ms, delay_ms};
-ghost use Rattle.arena.specs.Releasing.{unheld_in, release_run, stamp_run};
+ghost use Rattle.arena.specs.Releasing.{release_run, stamp_run};
 ghost use Rattle.layer.specs.declared.Answer.TheVariants.{Released};
 ghost use Rattle.layer.specs.World.{size_of, world_of, Leaves, reply, calm};
 ghost use Rattle.layer.specs.Table.{at};
@@ -11,7 +11,6 @@ ghost use Rattle.layer.specs.Step.{stays_pending, release, step, act};
 ghost use Rattle.state.specs.Ready.{Ready, Stamped};
 ghost use Rattle.releasing.specs.Told.{is_untold};
 
-use arena::arena_runs::GivenBack;
 use arena::{Arena, Commitment};
 use layer::{Answer, Reply, Settings, State};
 use refusals::Refusal;
@@ -77,24 +76,11 @@ fn stays_pending(settings: Settings, pending: bool) -> bool
     pending && !clock::never_purges(settings.delay)
 }
 
-// The run is released, so many of its chunks not having been held, and no question is open.
-pub fn released(state: State, unheld: usize) -> Reply
-    ensures { result ≡ reply (Released unheld) (calm state.count state.mark) }
+// The run is released, and no question is open.
+pub fn released(state: State) -> Reply
+    ensures { result ≡ reply Released (calm state.count state.mark) }
 {
-    state::settled(Answer::Released(unheld), state.count, state.mark)
-}
-
-// The record, and the number of chunks that were not held.
-fn arena_of(given: GivenBack) -> Arena
-    ensures { result ≡ given.arena }
-{
-    given.arena
-}
-
-fn unheld_of(given: GivenBack) -> usize
-    ensures { result ≡ given.unheld }
-{
-    given.unheld
+    state::settled(Answer::Released, state.count, state.mark)
 }
 
 // The run of n from s on in arena i. Clock and delay are worked out only where it stays pending.
@@ -111,31 +97,25 @@ fn release_in(
     pending: bool,
 ) -> Reply
     requires { (i < 32) × (length records.old ≡ 32) × (s + n ≤ 1024) × Stamped stamps.old }
-    ensures { (result ≡ reply (Released (unheld_in (at records.old i) s n)) (calm state.count state.mark)) × (records.new ≡ set records.old i (release_run (at records.old i) s n told (stays_pending settings «pending») (now_ms ns) (delay_ms settings.delay))) × (stamps.new ≡ cond (stays_pending settings «pending») (stamp_run stamps.old (1024 * i + s) n (now_ms ns)) stamps.old) }
+    ensures { (result ≡ reply Released (calm state.count state.mark)) × (records.new ≡ set records.old i (release_run (at records.old i) s n told (stays_pending settings «pending») (now_ms ns) (delay_ms settings.delay))) × (stamps.new ≡ cond (stays_pending settings «pending») (stamp_run stamps.old (1024 * i + s) n (now_ms ns)) stamps.old) }
 {
     let a = table::records::load(records, i);
     if stays_pending(settings, pending) {
         let ms = clock::now_ms(ns);
         let delay = delay_of(settings);
         let waiting = arena::arena_runs::release_pending(a, s, n, told, ms, delay);
-        let waiting_arena = arena_of(waiting);
-        let unheld = unheld_of(waiting);
-        table::records::store(records, i, waiting_arena);
+        table::records::store(records, i, waiting);
         arena::purge::stamp_run_of(stamps, i, s, n, ms);
-        return released(state, unheld);
+        return released(state);
     }
     if is_untold(told) {
         let freed = arena::arena_runs::give_back_run(a, s, n);
-        let freed_arena = arena_of(freed);
-        let unheld = unheld_of(freed);
-        table::records::store(records, i, freed_arena);
-        return released(state, unheld);
+        table::records::store(records, i, freed);
+        return released(state);
     }
-    let known = arena::arena_runs::release_run(a, s, n, told);
-    let known_arena = arena_of(known);
-    let unheld = unheld_of(known);
-    table::records::store(records, i, known_arena);
-    released(state, unheld)
+    let left = arena::arena_runs::release_run(a, s, n, told);
+    table::records::store(records, i, left);
+    released(state)
 }
 
 // ---- the core

@@ -12,8 +12,6 @@ use Rattle.layer.specs.Step.{reserve, manage, adopt, owns, area, step_on}
 use Rattle.layer.specs.Listing.{Items, ListOutcome, list_outcome, release_list}
 use Rattle.layer.specs.Joining.{JoinOutcome, join_outcome, join}
 use Rattle.layer.specs.Demand.{Demand3}
-use Rattle.layer.specs.Unheld.{SaysUnheld}
-use Rattle.layer.proofs.Unheld.{says-unheld}
 use Rattle.layer.proofs.Tools.{by-not}
 use Rattle.layer.proofs.Rules.{Again, again}
 use Rattle.layer.proofs.Cases.{register, grant-cases, search-cases, miss-cases, claim-cases, release-in-cases, release-cases, reserve-cases, register-cases, manage-cases, adopt-cases, memory-cases}
@@ -36,7 +34,7 @@ Shape g (Refused why) = Unit {0}
 Shape g (Asks ask) = Unit {0}
 Shape g (Registered id) = g ≡ registering
 Shape g (Claimed address fresh committed) = g ≡ claiming
-Shape g (Released unheld) = g ≡ releasing
+Shape g Released = g ≡ releasing
 Shape g (Swept count) = g ≡ sweeping
 Shape g (Owns whether) = g ≡ owning
 Shape g (Area base bytes) = g ≡ lying
@@ -146,7 +144,7 @@ answer-read g (Asks (AskMemory bytes align commit large)) st h = refl
 answer-read g (Asks (AskGiveBack address bytes)) st h = refl
 answer-read g (Registered id) st h = ap (λ (x : Grant). granting x (answer_numbers (Registered id) st)) h
 answer-read g (Claimed address fresh committed) st h = ap (λ (x : Grant). granting x (answer_numbers (Claimed address fresh committed) st)) h
-answer-read g (Released unheld) st h = ap (λ (x : Grant). granting x (answer_numbers (Released unheld) st)) h
+answer-read g Released st h = ap (λ (x : Grant). granting x (answer_numbers Released st)) h
 answer-read g (Swept count) st h = ap (λ (x : Grant). granting x (answer_numbers (Swept count) st)) h
 answer-read g (Owns whether) st h = ap (λ (x : Grant). granting x (answer_numbers (Owns whether) st)) h
 answer-read g (Area base bytes) st h = ap (λ (x : Grant). granting x (answer_numbers (Area base bytes) st)) h
@@ -160,7 +158,7 @@ reply-state (Asks (AskMemory bytes align commit large)) st = refl
 reply-state (Asks (AskGiveBack address bytes)) st = refl
 reply-state (Registered id) st = refl
 reply-state (Claimed address fresh committed) st = refl
-reply-state (Released unheld) st = refl
+reply-state Released st = refl
 reply-state (Swept count) st = refl
 reply-state (Owns whether) st = refl
 reply-state (Area base bytes) st = refl
@@ -230,10 +228,6 @@ exported-join w v ns settings =
     ∙ (λ i. join_outcome (join-answer-read o.answer f g i)
     (world_of o.first.records o.first.stamps ((ap state_of (first-state o.answer f g) ∙ state-read o.first.state) i))
     (world_of o.second.records o.second.stamps ((ap state_of (second-state o.answer f g) ∙ state-read o.second.state) i)))
-
--- WISH 5 in an exclusive arena, of what people link
-pub says-unheld-exported : SaysUnheld exported
-says-unheld-exported = says-unheld exported exported-rules exported-list exported-join
 
 -- DEMAND 3, of what people link
 pub demand3-exported : Demand3 exported

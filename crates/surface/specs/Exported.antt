@@ -75,7 +75,7 @@ grant_of q (answer kind accepted base) = grant_of_question q
 abbrev pub granting : Grant → ReplyNumbers → Answer
 granting registering r = Registered r.id
 granting claiming r = Claimed r.address r.fresh r.committed
-granting releasing r = Released r.unheld
+granting releasing r = Released
 granting sweeping r = Swept r.count
 granting owning r = Owns r.owns
 granting lying r = Area r.address r.bytes

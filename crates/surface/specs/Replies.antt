@@ -18,8 +18,8 @@ use Rattle.surface.specs.declared.reply.ReplyNumbers.{ReplyNumbers}
 
 -- ---- the answer
 
-abbrev pub reply_numbers : ℕ → ℕ → ℕ → ℕ → ℕ → ℕ → ℕ → ℕ → Bool → Bool → Bool → Bool → Bool → Bool → StateNumbers → ReplyNumbers
-reply_numbers number kind address bytes align id count unheld fresh committed owns decommit commit large state =
+abbrev pub reply_numbers : ℕ → ℕ → ℕ → ℕ → ℕ → ℕ → ℕ → Bool → Bool → Bool → Bool → Bool → Bool → StateNumbers → ReplyNumbers
+reply_numbers number kind address bytes align id count fresh committed owns decommit commit large state =
     record {
       number = number;
       kind = kind;
@@ -28,7 +28,6 @@ reply_numbers number kind address bytes align id count unheld fresh committed ow
       align = align;
       id = id;
       count = count;
-      unheld = unheld;
       fresh = fresh;
       committed = committed;
       owns = owns;
@@ -39,22 +38,22 @@ reply_numbers number kind address bytes align id count unheld fresh committed ow
       state = state;
     }
 
--- number, kind; address, bytes, align, id, count, unheld; fresh, committed, owns; decommit, commit, large
+-- number, kind; address, bytes, align, id, count; fresh, committed, owns; decommit, commit, large
 abbrev pub ask_numbers : Ask → StateNumbers → ReplyNumbers
-ask_numbers (AskCommit address bytes) = reply_numbers 255 1 address bytes 0 0 0 0 false false false false false false
-ask_numbers (AskPurge address bytes decommit) = reply_numbers 255 2 address bytes 0 0 0 0 false false false decommit false false
-ask_numbers (AskMemory bytes align commit large) = reply_numbers 255 3 0 bytes align 0 0 0 false false false false commit large
-ask_numbers (AskGiveBack address bytes) = reply_numbers 255 4 address bytes 0 0 0 0 false false false false false false
+ask_numbers (AskCommit address bytes) = reply_numbers 255 1 address bytes 0 0 0 false false false false false false
+ask_numbers (AskPurge address bytes decommit) = reply_numbers 255 2 address bytes 0 0 0 false false false decommit false false
+ask_numbers (AskMemory bytes align commit large) = reply_numbers 255 3 0 bytes align 0 0 false false false false commit large
+ask_numbers (AskGiveBack address bytes) = reply_numbers 255 4 address bytes 0 0 0 false false false false false false
 
 abbrev pub answer_numbers : Answer → StateNumbers → ReplyNumbers
-answer_numbers (Refused why) = reply_numbers (number why) 0 0 0 0 0 0 0 false false false false false false
+answer_numbers (Refused why) = reply_numbers (number why) 0 0 0 0 0 0 false false false false false false
 answer_numbers (Asks ask) = ask_numbers ask
-answer_numbers (Registered id) = reply_numbers 0 0 0 0 0 id 0 0 false false false false false false
-answer_numbers (Claimed address fresh committed) = reply_numbers 0 0 address 0 0 0 0 0 fresh committed false false false false
-answer_numbers (Released unheld) = reply_numbers 0 0 0 0 0 0 0 unheld false false false false false false
-answer_numbers (Swept count) = reply_numbers 0 0 0 0 0 0 count 0 false false false false false false
-answer_numbers (Owns owns) = reply_numbers 0 0 0 0 0 0 0 0 false false owns false false false
-answer_numbers (Area base bytes) = reply_numbers 0 0 base bytes 0 0 0 0 false false false false false false
+answer_numbers (Registered id) = reply_numbers 0 0 0 0 0 id 0 false false false false false false
+answer_numbers (Claimed address fresh committed) = reply_numbers 0 0 address 0 0 0 0 fresh committed false false false false
+answer_numbers Released = reply_numbers 0 0 0 0 0 0 0 false false false false false false
+answer_numbers (Swept count) = reply_numbers 0 0 0 0 0 0 count false false false false false false
+answer_numbers (Owns owns) = reply_numbers 0 0 0 0 0 0 0 false false owns false false false
+answer_numbers (Area base bytes) = reply_numbers 0 0 base bytes 0 0 0 false false false false false false
 
 -- row 1, with all as it came
 abbrev pub broken_numbers : StateNumbers → ReplyNumbers

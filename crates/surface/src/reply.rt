@@ -17,7 +17,6 @@ pub struct ReplyNumbers {
     pub align: u64,
     pub id: usize,
     pub count: usize,
-    pub unheld: usize,
     pub fresh: bool,
     pub committed: bool,
     pub owns: bool,
@@ -30,7 +29,7 @@ pub struct ReplyNumbers {
 }
 
 fn refused(number: u32, state: StateNumbers) -> ReplyNumbers
-    ensures { result ≡ reply_numbers number 0 0 0 0 0 0 0 false false false false false false state }
+    ensures { result ≡ reply_numbers number 0 0 0 0 0 0 false false false false false false state }
 {
     ReplyNumbers {
         number,
@@ -40,7 +39,6 @@ fn refused(number: u32, state: StateNumbers) -> ReplyNumbers
         align: 0,
         id: 0,
         count: 0,
-        unheld: 0,
         fresh: false,
         committed: false,
         owns: false,
@@ -62,7 +60,7 @@ fn asked(
     large: bool,
     state: StateNumbers,
 ) -> ReplyNumbers
-    ensures { result ≡ reply_numbers 255 kind address bytes align 0 0 0 false false false decommit commit large state }
+    ensures { result ≡ reply_numbers 255 kind address bytes align 0 0 false false false decommit commit large state }
 {
     ReplyNumbers {
         number: 255,
@@ -72,7 +70,6 @@ fn asked(
         align,
         id: 0,
         count: 0,
-        unheld: 0,
         fresh: false,
         committed: false,
         owns: false,
@@ -89,13 +86,12 @@ fn granted(
     bytes: u64,
     id: usize,
     count: usize,
-    unheld: usize,
     fresh: bool,
     committed: bool,
     owns: bool,
     state: StateNumbers,
 ) -> ReplyNumbers
-    ensures { result ≡ reply_numbers 0 0 address bytes 0 id count unheld fresh committed owns false false false state }
+    ensures { result ≡ reply_numbers 0 0 address bytes 0 id count fresh committed owns false false false state }
 {
     ReplyNumbers {
         number: 0,
@@ -105,7 +101,6 @@ fn granted(
         align: 0,
         id,
         count,
-        unheld,
         fresh,
         committed,
         owns,
@@ -147,16 +142,16 @@ fn answer_numbers(answer: Answer, state: StateNumbers) -> ReplyNumbers
     match answer {
         Answer::Refused(why) => refused(refusals::refusal_number(why), state),
         Answer::Asks(ask) => ask_numbers(ask, state),
-        Answer::Registered(id) => granted(0, 0, id, 0, 0, false, false, false, state),
+        Answer::Registered(id) => granted(0, 0, id, 0, false, false, false, state),
         Answer::Claimed {
             address,
             fresh,
             committed,
-        } => granted(address, 0, 0, 0, 0, fresh, committed, false, state),
-        Answer::Released(unheld) => granted(0, 0, 0, 0, unheld, false, false, false, state),
-        Answer::Swept(count) => granted(0, 0, 0, count, 0, false, false, false, state),
-        Answer::Owns(owns) => granted(0, 0, 0, 0, 0, false, false, owns, state),
-        Answer::Area { base, bytes } => granted(base, bytes, 0, 0, 0, false, false, false, state),
+        } => granted(address, 0, 0, 0, fresh, committed, false, state),
+        Answer::Released => granted(0, 0, 0, 0, false, false, false, state),
+        Answer::Swept(count) => granted(0, 0, 0, count, false, false, false, state),
+        Answer::Owns(owns) => granted(0, 0, 0, 0, false, false, owns, state),
+        Answer::Area { base, bytes } => granted(base, bytes, 0, 0, false, false, false, state),
     }
 }
 

@@ -261,7 +261,7 @@ fn idle() -> Reply {
         question: Question::Idle,
     };
     Reply {
-        answer: Answer::Released(0),
+        answer: Answer::Released,
         state,
     }
 }

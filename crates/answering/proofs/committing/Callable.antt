@@ -1,31 +1,22 @@
--- Functions of `answering` that a walk calls, each in one step: commit-refused-step, given-back-step. Written by tools/walks.
+-- Functions of `answering` that a walk calls, each in one step: commit-refused-step. Written by tools/walks.
 -- Assumes `Logic`, the callee's theorem, and that the table of calls is monotone under a frame.
-use Rattle.walks.proofs.Walking.{◌≡◌, refl, subst, ℕ, ◌<◌, ◌≤◌, ◌+◌, ◌^◌, List, [], ◌∷◌, w64, Operand, Val, vint, Ura, SProp, emp, id⊢, Memory, Routine, Env, Calls, Item, Goal, Seq, Opds, Fun, fact_i, usize, yes, Is, Ises, owns_make, uint_Makes, plain, triple_of, Contract, Triple, Site, plain-call}
+use Rattle.walks.proofs.Walking.{◌≡◌, subst, List, [], ◌∷◌, Operand, Val, Ura, SProp, id⊢, Memory, Routine, Env, Calls, Item, Goal, Seq, Opds, Fun, yes, Is, Ises, owns_make, plain, triple_of, Contract, Triple, Site, plain-call}
 use Rattle.layer.specs.contracts.State as T-State
 use Rattle.layer.proofs.State.TheLaws as L-State
 use denote.Struct.Laws as LL
 use Rattle.layer.specs.contracts.Reply as T-Reply
-use Rattle.arena.specs.contracts.Arena as T-Arena
-use Rattle.arena.proofs.Arena.TheLaws as L-Arena
 use Rattle.layer.specs.declared.State.{State}
 use Rattle.layer.specs.declared.Reply.{Reply}
 use Rattle.refusals.specs.declared.Refusal.TheVariants.{CommitRefused}
 use Rattle.layer.specs.World.{turn_down, calm}
-use Rattle.arena.specs.declared.Arena.{Arena}
-use Rattle.arena.specs.Claiming.{give_back_run}
 use Rattle.answering.specs.contracts.committing.commit_refused as commit-refused'
 use Rattle.answering.proofs.committing.commit_refused.Symbol.{name as #answering·committing·commit-refused}
-use Rattle.answering.specs.contracts.committing.given_back as given-back'
-use Rattle.answering.proofs.committing.given_back.Symbol.{name as #answering·committing·given-back}
 use types.Logic.{Logic}
 
 -- the contracts that a walk cites
 module _ {M : Type 1} {𝓤 : Ura M} (𝓛 : Logic 𝓤) (mem : Memory → SProp 𝓤) (run : Routine → Fun 𝓤) where
   abbrev pub CommitRefusedSpec : Contract 𝓤
   CommitRefusedSpec = triple_of 𝓛 commit-refused'.signature (commit-refused'.spec 𝓛 mem run)
-
-  abbrev pub GivenBackSpec : Contract 𝓤
-  GivenBackSpec = triple_of 𝓛 given-back'.signature (given-back'.spec 𝓛 mem run)
 
 module _ {M : Type 1} {𝓤 : Ura M} {𝓛 : Logic 𝓤} {K : Type 0} {Γ : List (Item 𝓤)} {C : Calls 𝓤 𝓛.H} {E : Env 𝓤 𝓛.H} {xs : List Operand} {G : Goal 𝓤 𝓛.H} {after : Val → Goal 𝓤 𝓛.H} {more : Item 𝓤} where
   pub commit-refused-step : K → Site K 𝓛 Γ C E #answering·committing·commit-refused xs G after → (mem : Memory → SProp 𝓤) (run : Routine → Fun 𝓤) → Triple 𝓤 (C #answering·committing·commit-refused) (CommitRefusedSpec 𝓛 mem run)
@@ -37,13 +28,3 @@ module _ {M : Type 1} {𝓤 : Ura M} {𝓛 : Logic 𝓤} {K : Type 0} {Γ : List
       plain-call bang site T-Reply.the_row (plain (λ _. T-State.the_row) ∷ []) (yes, tt) (commit-refused'.clauses 𝓛 mem run) known (state, tt) (v-state ∷ [], tt)
       (owns_make 𝓛 (T-State.the_row ∷ []) (Ises (T-State.the_row ∷ [])) (LL.makes T-State.the_type L-State.the_plain 𝓛, tt) (state, tt) (v-state ∷ [], tt) (g-state, tt)) tt (id⊢ 𝓤 _)
       (λ out. out ≡ turn_down CommitRefused (calm state.count state.mark)) (λ out ws. id⊢ 𝓤 _) ops (λ val' out rel' eq'. then' val' (subst (λ (obj' : Reply). Is T-Reply.the_row obj' (val' ∷ [])) eq' rel'))
-
-  pub given-back-step : K → Site K 𝓛 Γ C E #answering·committing·given-back xs G after → (mem : Memory → SProp 𝓤) (run : Routine → Fun 𝓤) → Triple 𝓤 (C #answering·committing·given-back) (GivenBackSpec 𝓛 mem run)
-      → (a : Arena) (v-a : Val) → Is T-Arena.the_row a (v-a ∷ []) → (s : ℕ) → s < 2 ^ 64 → (n : ℕ) → n < 2 ^ 64 → (s + n ≤ 1024)
-      → ((hd' : Item 𝓤) → Opds K 𝓛 (hd' ∷ Γ) E xs (v-a ∷ vint w64 s ∷ vint w64 n ∷ []))
-      → ((val' : Val) → Is T-Arena.the_row (give_back_run a s n) (val' ∷ []) → Seq K 𝓛 (more ∷ Γ) (after val'))
-      → Seq K 𝓛 (more ∷ Γ) G
-  given-back-step bang site mem run known a v-a g-a s f-s n f-n need ops then' =
-      plain-call bang site T-Arena.the_row (plain (λ _. T-Arena.the_row) ∷ plain (λ _. usize) ∷ plain (λ _. usize) ∷ []) (yes, (yes, (yes, tt))) (given-back'.clauses 𝓛 mem run) known (a, (s, (n, tt))) (v-a ∷ [], (vint w64 s ∷ [], (vint w64 n ∷ [], tt)))
-      (owns_make 𝓛 (T-Arena.the_row ∷ usize ∷ usize ∷ []) (Ises (T-Arena.the_row ∷ usize ∷ usize ∷ [])) (LL.makes T-Arena.the_type L-Arena.the_plain 𝓛, (uint_Makes 𝓛 w64, (uint_Makes 𝓛 w64, tt))) (a, (s, (n, tt))) (v-a ∷ [], (vint w64 s ∷ [], (vint w64 n ∷ [], tt))) (g-a, ((refl, f-s), ((refl, f-n), tt)))) tt (fact_i 𝓤 _ (emp 𝓤) need)
-      (λ out. out ≡ give_back_run a s n) (λ out ws. id⊢ 𝓤 _) ops (λ val' out rel' eq'. then' val' (subst (λ (obj' : Arena). Is T-Arena.the_row obj' (val' ∷ [])) eq' rel'))

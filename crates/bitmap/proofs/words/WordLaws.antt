@@ -12,10 +12,10 @@ or-as-cond false false = refl
 
 module _ (lo n : ℕ) (fits : lo + n ≤ 32) where
   -- nothing of the mask is shifted out
-  pub mask-whole : ((2 ^ n - 1) * 2 ^ lo) % 2 ^ 32 ≡ (2 ^ n - 1) * 2 ^ lo
+  mask-whole : ((2 ^ n - 1) * 2 ^ lo) % 2 ^ 32 ≡ (2 ^ n - 1) * 2 ^ lo
   mask-whole = shl_exact n lo 32 (ones_lt n) (omega arith)
 
-  pub mask_lt : (2 ^ n - 1) * 2 ^ lo < 2 ^ 32
+  mask_lt : (2 ^ n - 1) * 2 ^ lo < 2 ^ 32
   mask_lt = lt_of_lt_of_le (shl_lt n lo (ones_lt n)) (pow_mono {i = n + lo} {j = 32} (omega arith))
 
   pub set-law : (w m i : ℕ) → m ≡ 2 ^ n - 1 → bit (bit_or w ((m * 2 ^ lo) % 2 ^ 32)) i ≡ cond (within lo n i) true (bit w i)

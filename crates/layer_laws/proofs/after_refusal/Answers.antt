@@ -16,7 +16,7 @@ registered-not x why e = let z : ◌≡◌ {A = ℕ} 0 1 = cc in omega arith
 pub claimed-not : (x : ℕ) (a b : Bool) (why : Refusal) → Claimed x a b ≡ Refused why → ⊥
 claimed-not x a b why e = let z : ◌≡◌ {A = ℕ} 0 1 = cc in omega arith
 
-pub released-not : (why : Refusal) {unheld : ℕ} → Released unheld ≡ Refused why → ⊥
+pub released-not : (why : Refusal) → Released ≡ Refused why → ⊥
 released-not why e = let z : ◌≡◌ {A = ℕ} 0 1 = cc in omega arith
 
 pub swept-not : (x : ℕ) (why : Refusal) → Swept x ≡ Refused why → ⊥

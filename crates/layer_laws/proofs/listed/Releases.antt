@@ -1,5 +1,5 @@
 -- Wish 3 of the rules' list: the order of its refusals, that it is single releases in list order, and what follows of these. Assumes nothing.
-use Rattle.layer.proofs.Prelude.{never, ◌≡◌, refl, sym, ap, ap₂, ◌∙◌, subst, Bool, true, false, not, ◌&&◌, true≢false, List, [], ◌∷◌, ◌⊎◌, inl, inr, ℕ, zero, suc, ◌+◌, ◌*◌, ◌<◌, ◌≤◌, arith, ℕ_discrete, eq-eqb, eqb-true, leb-true, le-leb, eqb, length, get_or, set, when, unless, and_both, Refusal, Broken, QuestionOpen, Zero, NotWhole, PastEnd, ListLength, now_ms, delay_ms, Arena, Untold, release_run, pend_run, tell_run, give_back_run, World, Outcome, at, sound, stays_pending, by_rules, is_idle, is_broken, Items, ListOutcome, item_number, release_each, release_item, list_fits, release_list}
+use Rattle.layer.proofs.Prelude.{never, ◌≡◌, refl, sym, ap, ap₂, ◌∙◌, subst, Bool, true, false, not, ◌&&◌, true≢false, List, [], ◌∷◌, ◌⊎◌, inl, inr, ℕ, zero, suc, ◌<◌, ◌≤◌, arith, ℕ_discrete, eq-eqb, eqb-true, leb-true, le-leb, eqb, length, get_or, set, when, unless, and_both, Refusal, Broken, QuestionOpen, Zero, NotWhole, PastEnd, ListLength, now_ms, delay_ms, Arena, Untold, release_run, pend_run, tell_run, give_back_run, World, Outcome, at, sound, stays_pending, by_rules, is_idle, is_broken, Items, ListOutcome, item_number, release_each, release_item, list_fits, release_list}
 use Rattle.refusals.specs.declared.Refusal.TheVariants.{NotInside}
 use Rattle.refusals.specs.Number.{number}
 use Rattle.layer.specs.declared.Settings.{Settings}
@@ -7,7 +7,6 @@ use Rattle.layer.specs.declared.Question.TheVariants.{Idle}
 use Rattle.layer.specs.declared.Answer.{Answer}
 use Rattle.layer.specs.declared.Answer.TheVariants.{Refused, Released}
 use Rattle.layer.specs.World.{size_of}
-use Rattle.layer.specs.Listing.{unheld_by}
 use Rattle.layer.proofs.Tools.{at_same, at_other}
 use Rattle.layer.proofs.Stepped.{passing-facts, passing-test}
 use Rattle.layer.proofs.Cases.{release-in-cases, release-cases}
@@ -17,13 +16,13 @@ use lib.Seq.{ext_get_or}
 use Rattle.layer.specs.Step.{Call}
 use Rattle.layer.specs.History.{Layer}
 use Rattle.layer_laws.specs.sweep_runs.Run.{is_refused}
-use Rattle.layer_laws.specs.listed.Releases.{Determined, Grants, sum_over, SumFits, single, Passes, OneLength, BrokenExactly, OpenExactly, NineteenExactly, GrantedElse, RefusedLeaves, Says, Singly, AsSingles, ReleasesNumber, OnlyReleases, LeavesCommitted, LeavesState, LeavesSound, ReleasesLists}
+use Rattle.layer_laws.specs.listed.Releases.{Determined, single, Passes, OneLength, BrokenExactly, OpenExactly, NineteenExactly, GrantedElse, RefusedLeaves, Says, Singly, AsSingles, ReleasesNumber, OnlyReleases, LeavesCommitted, LeavesState, LeavesSound, ReleasesLists}
 
 -- two answers of other numbers
 differ : {A : Type 0} (a b : Answer) → a ≡ b → (item_number a ≡ item_number b → ⊥) → A
 differ a b e d = absurd (d (ap item_number e))
 
-not-both : {A : Type 0} {why : Refusal} {unheld : ℕ} → Released unheld ≡ Refused why → A
+not-both : {A : Type 0} {why : Refusal} → Released ≡ Refused why → A
 not-both e = absurd (true≢false (sym (ap is_refused e)))
 
 -- ---- the rows
@@ -64,7 +63,7 @@ module _ (w : World) (ns : ℕ) (settings : Settings) (t : Items) where
       ap (λ (o : ListOutcome). o.whole.answer)
       (unless (not (sound (size_of w.state) w settings.page)) _ _ (ap not e) ∙ unless (not (is_idle w.state.question)) _ _ (ap not f) ∙ when (not (list_fits t)) _ _ (ap not g))
 
-  row-none : Passes w settings → is_idle w.state.question ≡ true → list_fits t ≡ true → answered ≡ Released (unheld_by (release_each ns settings t.pending w t.addresses t.counts).whole.answer)
+  row-none : Passes w settings → is_idle w.state.question ≡ true → list_fits t ≡ true → answered ≡ Released
   unfolding release_list
   row-none e f g =
       ap (λ (o : ListOutcome). o.whole.answer)
@@ -95,7 +94,7 @@ nineteen-exactly w ns settings t p idle = (
 )
 
 granted-else : GrantedElse by_rules
-granted-else w ns settings t p idle l = (_, row-none w ns settings t p (ap is_idle idle) (length-fits t l))
+granted-else w ns settings t p idle l = row-none w ns settings t p (ap is_idle idle) (length-fits t l)
 
 refused-leaves : RefusedLeaves by_rules
 refused-leaves w ns settings t why e = go (release_list w ns settings t) (list-comes w ns settings t) e
@@ -109,11 +108,11 @@ refused-leaves w ns settings t why e = go (release_list w ns settings t) (list-c
 
 -- what a release is answered
 ItemSays : Answer → Type 0
-ItemSays r = Grants r ⊎ ((r ≡ Refused Zero) ⊎ ((r ≡ Refused NotInside) ⊎ ((r ≡ Refused NotWhole) ⊎ (r ≡ Refused PastEnd))))
+ItemSays r = (r ≡ Released) ⊎ ((r ≡ Refused Zero) ⊎ ((r ≡ Refused NotInside) ⊎ ((r ≡ Refused NotWhole) ⊎ (r ≡ Refused PastEnd))))
 
 says-number : (r : Answer) → ItemSays r → Says r (item_number r) × ReleasesNumber (item_number r)
 unfolding ItemSays
-says-number r (inl (u, e)) = (inl ((u, e), ap item_number e), inl (ap item_number e))
+says-number r (inl e) = (inl (e, ap item_number e), inl (ap item_number e))
 says-number r (inr (inl e)) = (inr (Zero, e, ap item_number e), inr (inl (ap item_number e)))
 says-number r (inr (inr (inl e))) = (inr (NotInside, e, ap item_number e), inr (inr (inl (ap item_number e))))
 says-number r (inr (inr (inr (inl e)))) = (inr (NotWhole, e, ap item_number e), inr (inr (inr (inl (ap item_number e)))))
@@ -146,7 +145,7 @@ module _ (ns : ℕ) (settings : Settings) (pending : Bool) where
       (λ i e u f. release-in-cases _ _ _ _ _ (Item w) n Untold (stays_pending settings pending) (now_ms ns) (delay_ms settings.delay) i _
       (λ g. record { says = inr (inr (inr (inl refl))); committed = λ j. refl }) (λ g v. record { says = inr (inr (inr (inr refl))); committed = λ j. refl })
       (λ g v. record {
-        says = inl (_, refl);
+        says = inl refl;
         committed = set-committed w.records i _ (let p = passing-facts (size_of w.state) w settings.page h.0 in omega (arith, u, p.few, p.long)) (run-committed (at w.records i) _ n _ _ _);
       })))
 
@@ -196,21 +195,6 @@ module _ (ns : ℕ) (settings : Settings) (pending : Bool) where
   stands w o (x ∷ xs) (n ∷ counts) e (suc j) h =
       stands (release_item ns settings pending w x n).world (still-past-two ns settings pending w o x n) xs counts (let f : length counts ≡ length xs = omega (arith, e) in f) j (omega (arith, h))
 
-  sums : (w : World) (xs counts : List ℕ) → length counts ≡ length xs → unheld_by (each w xs counts).whole.answer ≡ sum_over (λ j. unheld_by (item_at w xs counts j).answer) (length xs)
-  unfolding before
-  sums w [] counts e = refl
-  sums w (x ∷ xs) [] e = absurd (omega (arith, e))
-  sums w (x ∷ xs) (n ∷ counts) e =
-      ap (λ (z : ℕ). unheld_by (release_item ns settings pending w x n).answer + z) (sums (release_item ns settings pending w x n).world xs counts (let f : length counts ≡ length xs = omega (arith, e) in f))
-
-  few : (w : World) → PastTwo ns settings pending w → (xs counts : List ℕ) → unheld_by (each w xs counts).whole.answer ≤ 1024 * length xs
-  few w o [] counts = omega arith
-  few w o (x ∷ xs) [] = omega arith
-  few w o (x ∷ xs) (n ∷ counts) =
-      let a = (settled ns settings pending w o x n).few in
-      let b = few (release_item ns settings pending w x n).world (still-past-two ns settings pending w o x n) xs counts in
-      omega (arith, a, b)
-
 -- ---- so of a list that is granted
 
 -- what it came from
@@ -219,16 +203,16 @@ record Granted (w : World) (ns : ℕ) (settings : Settings) (t : Items) : Type 0
   lengths : OneLength t
   is : release_list w ns settings t ≡ release_each ns settings t.pending w t.addresses t.counts
 
-granted : (w : World) (ns : ℕ) (settings : Settings) (t : Items) (unheld : ℕ) → (release_list w ns settings t).whole.answer ≡ Released unheld → Granted w ns settings t
-granted w ns settings t unheld e = go (list-comes w ns settings t)
+granted : (w : World) (ns : ℕ) (settings : Settings) (t : Items) → (release_list w ns settings t).whole.answer ≡ Released → Granted w ns settings t
+granted w ns settings t e = go (list-comes w ns settings t)
   where
     go : ListComes w ns settings t (release_list w ns settings t) → Granted w ns settings t
     go (turned_down why f is) = not-both (sym e ∙ ap (λ (u : ListOutcome). u.whole.answer) is)
     go (one_by_one f idle fits is) = record { passes = (f, idle); lengths = fits-length t fits; is = is }
 
 as-singles : AsSingles by_rules
-as-singles w ns settings t unheld e =
-    let g = granted w ns settings t unheld e in
+as-singles w ns settings t e =
+    let g = granted w ns settings t e in
     let same = g.lengths.as-counts in
     record {
       before = before ns settings t.pending w t.addresses t.counts;
@@ -238,19 +222,11 @@ as-singles w ns settings t unheld e =
       as_many = ap (λ (u : ListOutcome). length u.numbers) g.is ∙ as_many ns settings t.pending w t.addresses t.counts same;
       stands = λ j h. subst (λ (u : ListOutcome). Says (item_at ns settings t.pending w t.addresses t.counts j).answer (get_or u.numbers j 0)) (sym g.is)
           (stands ns settings t.pending w g.passes t.addresses t.counts same j h).0;
-      sums = ap unheld_by (sym e) ∙ ap (λ (u : ListOutcome). unheld_by u.whole.answer) g.is ∙ sums ns settings t.pending w t.addresses t.counts same;
     }
 
-sum_fits : SumFits by_rules
-sum_fits w ns settings t unheld e =
-    let g = granted w ns settings t unheld e in
-    let u : unheld ≡ unheld_by (release_each ns settings t.pending w t.addresses t.counts).whole.answer = ap unheld_by (sym e) ∙ ap (λ (u : ListOutcome). unheld_by u.whole.answer) g.is in
-    let h = few ns settings t.pending w g.passes t.addresses t.counts in
-    omega (arith, u, h, g.lengths.most)
-
 only-releases : OnlyReleases by_rules
-only-releases w ns settings t unheld e j h =
-    let g = granted w ns settings t unheld e in
+only-releases w ns settings t e j h =
+    let g = granted w ns settings t e in
     subst (λ (u : ListOutcome). ReleasesNumber (get_or u.numbers j 0)) (sym g.is) (stands ns settings t.pending w g.passes t.addresses t.counts g.lengths.as-counts j h).1
 
 -- ---- and of every list
@@ -280,7 +256,6 @@ releases-lists = record {
   refused-leaves = refused-leaves;
   as-singles = as-singles;
   only-releases = only-releases;
-  sum_fits = sum_fits;
   leaves-committed = leaves-committed;
   leaves-state = leaves-state;
   leaves-sound = leaves-sound;
@@ -291,13 +266,9 @@ releases-lists = record {
 -- a number is that of one answer
 one_number : (r : Answer) (n m : ℕ) → Says r n → Says r m → n ≡ m
 one_number r n m (inl (e, f)) (inl (g, h)) = f ∙ sym h
-one_number r n m (inl ((u, e), f)) (inr (why, g, h)) = not-both (sym e ∙ g)
-one_number r n m (inr (why, e, f)) (inl ((u, g), h)) = not-both (sym g ∙ e)
+one_number r n m (inl (e, f)) (inr (why, g, h)) = not-both (sym e ∙ g)
+one_number r n m (inr (why, e, f)) (inl (g, h)) = not-both (sym g ∙ e)
 one_number r n m (inr (why, e, f)) (inr (why', g, h)) = f ∙ ap item_number (sym e ∙ g) ∙ sym h
-
-sum_same : (n : ℕ) (f g : ℕ → ℕ) → ((j : ℕ) → j < n → f j ≡ g j) → sum_over f n ≡ sum_over g n
-sum_same zero f g h = refl
-sum_same (suc n) f g h = ap₂ ◌+◌ (h 0 (omega arith)) (sum_same n (λ j. f (suc j)) (λ j. g (suc j)) (λ j l. h (suc j) (omega (arith, l))))
 
 module _ (L M : Layer) (alike : (w : World) (ns : ℕ) (settings : Settings) (c : Call) → L.does w ns settings c ≡ M.does w ns settings c) (a : ReleasesLists L) (b : ReleasesLists M)
     (w : World) (ns : ℕ) (settings : Settings) (t : Items) where
@@ -308,14 +279,14 @@ module _ (L M : Layer) (alike : (w : World) (ns : ℕ) (settings : Settings) (c 
       let y = b.refused-leaves w ns settings t why f in
       λ i. record { whole = record { answer = (e ∙ sym f) i; world = (x.0 ∙ sym y.0) i }; numbers = (x.1 ∙ sym y.1) i }
 
-  both-grant : (u v : ℕ) → (L.lists w ns settings t).whole.answer ≡ Released u → (M.lists w ns settings t).whole.answer ≡ Released v → L.lists w ns settings t ≡ M.lists w ns settings t
-  both-grant u v e f = λ i. record { whole = record { answer = (e ∙ ap Released sum ∙ sym f) i; world = worlds i }; numbers = numbers i }
+  both-grant : (L.lists w ns settings t).whole.answer ≡ Released → (M.lists w ns settings t).whole.answer ≡ Released → L.lists w ns settings t ≡ M.lists w ns settings t
+  both-grant e f = λ i. record { whole = record { answer = (e ∙ sym f) i; world = worlds i }; numbers = numbers i }
     where
-      x : Singly L ns settings t w (L.lists w ns settings t).whole.world u
-      x = a.as-singles w ns settings t u e
+      x : Singly L ns settings t w (L.lists w ns settings t).whole.world
+      x = a.as-singles w ns settings t e
 
-      y : Singly M ns settings t w (M.lists w ns settings t).whole.world v
-      y = b.as-singles w ns settings t v f
+      y : Singly M ns settings t w (M.lists w ns settings t).whole.world
+      y = b.as-singles w ns settings t f
 
       -- the table before each item
       same : (j : ℕ) → j ≤ length t.addresses → x.before j ≡ y.before j
@@ -333,9 +304,6 @@ module _ (L M : Layer) (alike : (w : World) (ns : ℕ) (settings : Settings) (c 
       answer-same j h =
           ap (λ (o : Outcome). o.answer) (alike (x.before j) ns settings _) ∙ ap (λ (v : World). (single M ns settings t v j).answer) (same j (omega (arith, h)))
 
-      sum : u ≡ v
-      sum = x.sums ∙ sum_same (length t.addresses) _ _ (λ j h. ap unheld_by (answer-same j h)) ∙ sym y.sums
-
       numbers : (L.lists w ns settings t).numbers ≡ (M.lists w ns settings t).numbers
       numbers =
           ext_get_or 0 (L.lists w ns settings t).numbers (M.lists w ns settings t).numbers (x.as_many ∙ sym y.as_many)
@@ -346,10 +314,7 @@ module _ (L M : Layer) (alike : (w : World) (ns : ℕ) (settings : Settings) (c 
   same-list = by-sound (sound (size_of w.state) w settings.page) refl
     where
       by_length : Passes w settings → w.state.question ≡ Idle → (q : Bool) → list_fits t ≡ q → L.lists w ns settings t ≡ M.lists w ns settings t
-      by_length p idle true e =
-          let x = a.granted-else w ns settings t p idle (fits-length t e) in
-          let y = b.granted-else w ns settings t p idle (fits-length t e) in
-          both-grant x.0 y.0 x.1 y.1
+      by_length p idle true e = both-grant (a.granted-else w ns settings t p idle (fits-length t e)) (b.granted-else w ns settings t p idle (fits-length t e))
       by_length p idle false e =
           let none : OneLength t → ⊥ = λ l. true≢false (sym (length-fits t l) ∙ e) in
           both-refuse ListLength ((a.nineteen-exactly w ns settings t p idle).1 none) ((b.nineteen-exactly w ns settings t p idle).1 none)

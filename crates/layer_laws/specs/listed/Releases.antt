@@ -1,6 +1,6 @@
 -- What wish 3 of document 02 says of a list of releases, of any layer: when it is turned down, by which number, and what it leaves; and that else it is single releases
 -- of that layer in list order. On every lent table and every lent list. Assumes nothing.
-use Rattle.std.specs.Prelude.{◌≡◌, true, ◌⊎◌, ◌↔◌, ℕ, zero, suc, ◌+◌, ◌<◌, ◌≤◌, length, get_or}
+use Rattle.std.specs.Prelude.{◌≡◌, true, ◌⊎◌, ◌↔◌, ℕ, suc, ◌<◌, ◌≤◌, length, get_or}
 use Rattle.refusals.specs.declared.Refusal.{Refusal}
 use Rattle.refusals.specs.declared.Refusal.TheVariants.{Broken, QuestionOpen, Zero, NotInside, NotWhole, PastEnd, ListLength}
 use Rattle.refusals.specs.Number.{number}
@@ -13,7 +13,7 @@ use Rattle.layer.specs.declared.Answer.TheVariants.{Refused, Released}
 use Rattle.layer.specs.World.{World, Outcome, size_of}
 use Rattle.layer.specs.Table.{at, sound}
 use Rattle.layer.specs.Step.{release, Call, act}
-use Rattle.layer.specs.Listing.{Items, unheld_by}
+use Rattle.layer.specs.Listing.{Items}
 use Rattle.layer.specs.History.{Layer}
 
 -- row 1 lets the table pass
@@ -43,14 +43,11 @@ NineteenExactly L =
     (w : World) (ns : ℕ) (settings : Settings) (t : Items) → Passes w settings → w.state.question ≡ Idle
     → ((L.lists w ns settings t).whole.answer ≡ Refused ListLength) ↔ (OneLength t → ⊥)
 
--- granted, so many chunks not having been held
-abbrev pub Grants : Answer → Type 0
-Grants r = (unheld : ℕ) × (r ≡ Released unheld)
-
 -- else it is granted, whatever its items are: the empty list too
 abbrev pub GrantedElse : Layer → Type 0
 GrantedElse L =
-    (w : World) (ns : ℕ) (settings : Settings) (t : Items) → Passes w settings → w.state.question ≡ Idle → OneLength t → Grants (L.lists w ns settings t).whole.answer
+    (w : World) (ns : ℕ) (settings : Settings) (t : Items) → Passes w settings → w.state.question ≡ Idle → OneLength t
+    → (L.lists w ns settings t).whole.answer ≡ Released
 
 -- "a list refused as a whole" leaves the table, and the answers as they were lent
 abbrev pub RefusedLeaves : Layer → Type 0
@@ -62,32 +59,26 @@ RefusedLeaves L =
 
 -- "each item's number (0 for granted)"
 abbrev pub Says : Answer → ℕ → Type 0
-Says r n = (Grants r × (n ≡ 0)) ⊎ ((why : Refusal) × (r ≡ Refused why) × (n ≡ number why))
+Says r n = ((r ≡ Released) × (n ≡ 0)) ⊎ ((why : Refusal) × (r ≡ Refused why) × (n ≡ number why))
 
 -- the item at place j, as a call by itself: not told, and pending as all are
 abbrev pub single : Layer → ℕ → Settings → Items → World → ℕ → Outcome
 single L ns settings t w j = L.does w ns settings (act (release (get_or t.addresses j 0) (get_or t.counts j 0) Untold t.pending))
 
--- f 0 + f 1 + .. + f (n - 1)
-abbrev pub sum_over : (ℕ → ℕ) → ℕ → ℕ
-sum_over f zero = 0
-sum_over f (suc n) = f 0 + sum_over (λ j. f (suc j)) n
-
 -- "It leaves what single releases in list order at the same clock and settings would leave, and each item's number (0 for granted) stands at its place": from w to v by a
--- table before each item. Wish 5: it "gives the sum over granted items beside its answers"; an item that is refused has no number.
-pub record Singly (L : Layer) (ns : ℕ) (settings : Settings) (t : Items) (w v : World) (unheld : ℕ) : Type 0 where
+-- table before each item
+pub record Singly (L : Layer) (ns : ℕ) (settings : Settings) (t : Items) (w v : World) : Type 0 where
   pub before : ℕ → World
   pub starts : before 0 ≡ w
   pub ends : before (length t.addresses) ≡ v
   pub leads : (j : ℕ) → j < length t.addresses → (single L ns settings t (before j) j).world ≡ before (suc j)
   pub as_many : length (L.lists w ns settings t).numbers ≡ length t.addresses
   pub stands : (j : ℕ) → j < length t.addresses → Says (single L ns settings t (before j) j).answer (get_or (L.lists w ns settings t).numbers j 0)
-  pub sums : unheld ≡ sum_over (λ j. unheld_by (single L ns settings t (before j) j).answer) (length t.addresses)
 
 abbrev pub AsSingles : Layer → Type 0
 AsSingles L =
-    (w : World) (ns : ℕ) (settings : Settings) (t : Items) (unheld : ℕ) → (L.lists w ns settings t).whole.answer ≡ Released unheld
-    → Singly L ns settings t w (L.lists w ns settings t).whole.world unheld
+    (w : World) (ns : ℕ) (settings : Settings) (t : Items) → (L.lists w ns settings t).whole.answer ≡ Released
+    → Singly L ns settings t w (L.lists w ns settings t).whole.world
 
 -- ---- what follows
 
@@ -97,12 +88,8 @@ ReleasesNumber n = (n ≡ 0) ⊎ ((n ≡ number Zero) ⊎ ((n ≡ number NotInsi
 
 abbrev pub OnlyReleases : Layer → Type 0
 OnlyReleases L =
-    (w : World) (ns : ℕ) (settings : Settings) (t : Items) (unheld : ℕ) → (L.lists w ns settings t).whole.answer ≡ Released unheld
+    (w : World) (ns : ℕ) (settings : Settings) (t : Items) → (L.lists w ns settings t).whole.answer ≡ Released
     → (j : ℕ) → j < length t.addresses → ReleasesNumber (get_or (L.lists w ns settings t).numbers j 0)
-
--- 32,768 items of 1,024 chunks at most
-abbrev pub SumFits : Layer → Type 0
-SumFits L = (w : World) (ns : ℕ) (settings : Settings) (t : Items) (unheld : ℕ) → (L.lists w ns settings t).whole.answer ≡ Released unheld → unheld ≤ 33554432
 
 -- "it says nothing of commitment"
 abbrev pub LeavesCommitted : Layer → Type 0
@@ -128,7 +115,6 @@ pub record ReleasesLists (L : Layer) : Type 0 where
   pub refused-leaves : RefusedLeaves L
   pub as-singles : AsSingles L
   pub only-releases : OnlyReleases L
-  pub sum_fits : SumFits L
   pub leaves-committed : LeavesCommitted L
   pub leaves-state : LeavesState L
   pub leaves-sound : LeavesSound L

@@ -1,6 +1,6 @@
 -- `release_lists::chunk_release_list` meets its contract: a walk of its MIR. Rows 1, 2 and 19, then the items.
 -- Written by tools/walks. Assumes nothing.
-use Rattle.walks.proofs.Walking.{refl, Bool, ℕ, ◌<◌, ◌^◌, List, [], ◌∷◌, eqb, leb, length, w64, Val, vint, vbool, T_not-not, is_true, is_false, Ura, SProp, emp, Lft, GName, Share, ftrue, Memory, Routine, WpFn, Tables, fm_of, Sq, prop, !, ‵, ◌⊛◌, ◌$◌, agg, whole, sub, look_in, look, init, store, stop, hop, fld, from, load, addr, lit, of_opd, un, and_then, no_more, assigns, land, returns, returns_within, params1, pass1, pass0, free0, Fun, fact_i, tables, tables_of, bool, u32, u64, yes, Is, uint_vals, uint_Tells, bool_vals, bool_Tells, plain, Meets, triple_of, Triple, entered, cited, Loan, Known, lent, shared, slice_of, enters, used, room, in-local, if-else, arg, arg-fits, entry-fits, in-seq}
+use Rattle.walks.proofs.Walking.{refl, Bool, ℕ, ◌<◌, ◌^◌, List, [], ◌∷◌, eqb, leb, length, w64, Val, vint, vbool, T_not-not, is_true, is_false, Ura, SProp, emp, Lft, GName, Share, ftrue, Memory, Routine, WpFn, Tables, fm_of, Sq, prop, !, ‵, ◌⊛◌, ◌$◌, agg, whole, sub, look_in, look, init, store, stop, hop, fld, from, load, addr, lit, of_opd, un, and_then, no_more, assigns, land, returns, returns_within, params1, pass1, pass0, free0, Fun, fact_i, tables, tables_of, bool, u32, u64, yes, Is, Nothing-Lawful, uint_vals, uint_Tells, bool_vals, bool_Tells, plain, Meets, triple_of, Triple, entered, cited, Loan, Known, lent, shared, slice_of, enters, used, room, in-local, if-else, arg, arg-fits, entry-fits, in-seq}
 use Rattle.layer.specs.contracts.State as T-State
 use Rattle.layer.proofs.State.TheLaws as L-State
 use denote.Struct.Laws as LL
@@ -17,7 +17,7 @@ use Rattle.layer.specs.declared.Settings.{Settings}
 use Rattle.arena.specs.declared.Arena.{Arena}
 use Rattle.layer.specs.declared.Reply.{Reply}
 use Rattle.layer.specs.World.{world_of, size_of, turn_down, reply, calm}
-use Rattle.layer.specs.Listing.{items, release_list, LeavesList, unheld_by, release_each}
+use Rattle.layer.specs.Listing.{items, release_list, LeavesList, release_each}
 use Rattle.layer.specs.Table.{sound_lent}
 use Rattle.refusals.specs.declared.Refusal.TheVariants.{Broken, QuestionOpen, ListLength}
 use Rattle.layer.specs.Answering.{is_idle}
@@ -101,20 +101,17 @@ module _ {M : Type 1} {𝓤 : Ura M} (𝓛 : Logic 𝓤) (mem : Memory → SProp
     abbrev size : ℕ
     size = size_of state
 
-    abbrev t13 : Bool
-    t13 = sound_lent size records (length stamps) state settings.page
+    abbrev t12 : Bool
+    t12 = sound_lent size records (length stamps) state settings.page
 
     abbrev result : Reply
     result = turn_down Broken state
 
-    abbrev t13-2 : Bool
-    t13-2 = is_idle state.question
+    abbrev t12-2 : Bool
+    t12-2 = is_idle state.question
 
-    abbrev t13-3 : Bool
-    t13-3 = (eqb (length counts) (length addresses) && (eqb (length answers) (length addresses) && leb (length addresses) 32768))
-
-    abbrev unheld : ℕ
-    unheld = unheld_by (release_each ns settings pending (world_of records stamps state) addresses counts).whole.answer
+    abbrev t12-3 : Bool
+    t12-3 = (eqb (length counts) (length addresses) && (eqb (length answers) (length addresses) && leb (length addresses) 32768))
 
     abbrev records-1 : List Arena
     records-1 = (release_each ns settings pending (world_of records stamps state) addresses counts).whole.world.records
@@ -132,52 +129,52 @@ module _ {M : Type 1} {𝓤 : Ura M} (𝓛 : Logic 𝓤) (mem : Memory → SProp
         chunk-size-step ! (in-seq ! (fm_of 𝓤 H 𝓛.laws 𝓣)) mem run known-chunk-size state v-state g-state
         (λ _. and_then ! (arg ! refl) (no_more !)) (λ f-size.
         land ! (from ! (stop !)) (init ! 21 refl (tt, record { fits = f-size })) $
-        assigns ! (addr ! (from ! (fld ! refl (hop ! (look_in ! 3 (sub ! 0 refl (whole !))) (stop !))))) (from ! (stop !)) (init ! 29 refl (tt, tt)) $
-        assigns ! (agg ! (and_then ! (in-local ! refl) (and_then ! (load ! (from ! (fld ! refl (stop !))) (look_in ! 3 (sub ! 1 refl (whole !)))) (no_more !)))) (from ! (stop !)) (init ! 31 refl (tt, (tt, (record { fits = known-records.1.0 }, tt)))) $
-        assigns ! (of_opd ! (load ! (from ! (fld ! refl (stop !))) (look_in ! 5 (sub ! 1 refl (whole !))))) (from ! (stop !)) (init ! 33 refl (tt, record { fits = known-stamps.1.0 })) $
-        arg-fits ! 1 refl (λ f13-1. entry-fits ! 17 refl (λ w13-3. arg-fits ! 4 refl (λ f13-4.
-        row-one-step ! (in-seq ! (fm_of 𝓤 H 𝓛.laws 𝓣)) mem run known-row-one L-records records _ f13-1.fits state v-state g-state settings.page w13-3.1.1.1.1.0.fits _ f13-4.fits (size_fits state)
+        assigns ! (addr ! (from ! (fld ! refl (hop ! (look_in ! 3 (sub ! 0 refl (whole !))) (stop !))))) (from ! (stop !)) (init ! 27 refl (tt, tt)) $
+        assigns ! (agg ! (and_then ! (in-local ! refl) (and_then ! (load ! (from ! (fld ! refl (stop !))) (look_in ! 3 (sub ! 1 refl (whole !)))) (no_more !)))) (from ! (stop !)) (init ! 29 refl (tt, (tt, (record { fits = known-records.1.0 }, tt)))) $
+        assigns ! (of_opd ! (load ! (from ! (fld ! refl (stop !))) (look_in ! 5 (sub ! 1 refl (whole !))))) (from ! (stop !)) (init ! 31 refl (tt, record { fits = known-stamps.1.0 })) $
+        arg-fits ! 1 refl (λ f12-1. entry-fits ! 17 refl (λ w12-3. arg-fits ! 4 refl (λ f12-4.
+        row-one-step ! (in-seq ! (fm_of 𝓤 H 𝓛.laws 𝓣)) mem run known-row-one L-records records _ f12-1.fits state v-state g-state settings.page w12-3.1.1.1.1.0.fits _ f12-4.fits (size_fits state)
         (λ _. and_then ! (arg ! refl) (and_then ! (arg ! refl) (and_then ! (arg ! refl) (and_then ! (load ! (from ! (fld ! refl (stop !))) (look_in ! 17 (sub ! 4 refl (whole !)))) (and_then ! (arg ! refl) (no_more !)))))) (
-        land ! (from ! (stop !)) (init ! 27 refl (tt, tt)) $
-        assigns ! (un ! (arg ! refl) tt) (from ! (stop !)) (init ! 35 refl (tt, tt)) $
+        land ! (from ! (stop !)) (init ! 25 refl (tt, tt)) $
+        assigns ! (un ! (arg ! refl) tt) (from ! (stop !)) (init ! 33 refl (tt, tt)) $
         if-else ! (arg ! refl)
         (λ h1.
-        assigns ! (agg ! (and_then ! (lit ! tt) (no_more !))) (from ! (stop !)) (init ! 37 refl ((EL.lawful T-Refusal.the_type L-Refusal.the_laws 𝓛 tt).typed Broken (EL.val T-Refusal.the_type L-Refusal.the_laws Broken ∷ []) (EL.owes T-Refusal.the_type L-Refusal.the_laws Broken tt)).0) $
+        assigns ! (agg ! (and_then ! (lit ! tt) (no_more !))) (from ! (stop !)) (init ! 35 refl ((EL.lawful T-Refusal.the_type L-Refusal.the_laws 𝓛 tt).typed Broken (EL.val T-Refusal.the_type L-Refusal.the_laws Broken ∷ []) (EL.owes T-Refusal.the_type L-Refusal.the_laws Broken tt)).0) $
         refuse-step ! (in-seq ! (fm_of 𝓤 H 𝓛.laws 𝓣)) mem run known-refuse Broken (EL.val T-Refusal.the_type L-Refusal.the_laws Broken) (EL.owes T-Refusal.the_type L-Refusal.the_laws Broken tt) state v-state g-state
         (λ _. and_then ! (arg ! refl) (and_then ! (arg ! refl) (no_more !))) (λ v-result g-result.
         land ! (from ! (stop !)) (init ! 1 refl ((LL.lawful T-Reply.the_type L-Reply.the_laws 𝓛).typed result (v-result ∷ []) g-result).0) $
-        returns_within ! Post refl (look ! 1 refl) $ used ! $ used ! $ used ! $ used ! $ used ! $ used ! $ used ! $ used ! $ used ! $ used ! $ used ! $ room ! $ room ! $ used ! $ used ! $ used ! $ used ! $ used ! $ used ! $ room ! $ room ! $ room ! $ room ! $ room ! $ room ! $ room ! $ room ! $ room ! $ room ! $ free0 ! $
-        finish 𝓛 T-Arena.the_row u32 u64 u32 u32 L-records L-stamps L-addresses L-counts L-answers T-Reply.the_row records stamps addresses counts answers χ (‵ ftrue) v-result result records stamps answers g-result refl refl refl (broken-row records stamps addresses counts answers state ns settings pending (is_false t13 h1))))
+        returns_within ! Post refl (look ! 1 refl) $ used ! $ used ! $ used ! $ used ! $ used ! $ used ! $ used ! $ used ! $ used ! $ used ! $ used ! $ room ! $ used ! $ used ! $ used ! $ used ! $ used ! $ used ! $ room ! $ room ! $ room ! $ room ! $ room ! $ room ! $ room ! $ room ! $ room ! $ room ! $ room ! $ free0 ! $
+        finish 𝓛 T-Arena.the_row u32 u64 u32 u32 L-records L-stamps L-addresses L-counts L-answers T-Reply.the_row records stamps addresses counts answers χ (‵ ftrue) v-result result records stamps answers g-result refl refl refl (broken-row records stamps addresses counts answers state ns settings pending (is_false t12 h1))))
         (λ h1.
         is-idle-step ! (in-seq ! (fm_of 𝓤 H 𝓛.laws 𝓣)) mem run known-is-idle state v-state g-state
         (λ _. and_then ! (arg ! refl) (no_more !)) (
-        land ! (from ! (stop !)) (store ! 27 refl (tt, tt)) $
-        assigns ! (un ! (arg ! refl) tt) (from ! (stop !)) (store ! 35 refl (tt, tt)) $
+        land ! (from ! (stop !)) (store ! 25 refl (tt, tt)) $
+        assigns ! (un ! (arg ! refl) tt) (from ! (stop !)) (store ! 33 refl (tt, tt)) $
         if-else ! (arg ! refl)
         (λ h2.
-        assigns ! (agg ! (and_then ! (lit ! tt) (no_more !))) (from ! (stop !)) (init ! 39 refl ((EL.lawful T-Refusal.the_type L-Refusal.the_laws 𝓛 tt).typed QuestionOpen (EL.val T-Refusal.the_type L-Refusal.the_laws QuestionOpen ∷ []) (EL.owes T-Refusal.the_type L-Refusal.the_laws QuestionOpen tt)).0) $
+        assigns ! (agg ! (and_then ! (lit ! tt) (no_more !))) (from ! (stop !)) (init ! 37 refl ((EL.lawful T-Refusal.the_type L-Refusal.the_laws 𝓛 tt).typed QuestionOpen (EL.val T-Refusal.the_type L-Refusal.the_laws QuestionOpen ∷ []) (EL.owes T-Refusal.the_type L-Refusal.the_laws QuestionOpen tt)).0) $
         refuse-step ! (in-seq ! (fm_of 𝓤 H 𝓛.laws 𝓣)) mem run known-refuse QuestionOpen (EL.val T-Refusal.the_type L-Refusal.the_laws QuestionOpen) (EL.owes T-Refusal.the_type L-Refusal.the_laws QuestionOpen tt) state v-state g-state
         (λ _. and_then ! (arg ! refl) (and_then ! (arg ! refl) (no_more !))) (λ v-result g-result. let result : Reply = turn_down QuestionOpen state in
         land ! (from ! (stop !)) (init ! 1 refl ((LL.lawful T-Reply.the_type L-Reply.the_laws 𝓛).typed result (v-result ∷ []) g-result).0) $
-        returns_within ! Post refl (look ! 1 refl) $ used ! $ used ! $ used ! $ used ! $ used ! $ used ! $ used ! $ used ! $ used ! $ used ! $ used ! $ room ! $ room ! $ used ! $ used ! $ used ! $ used ! $ used ! $ room ! $ used ! $ room ! $ room ! $ room ! $ room ! $ room ! $ room ! $ room ! $ room ! $ room ! $ free0 ! $
-        finish 𝓛 T-Arena.the_row u32 u64 u32 u32 L-records L-stamps L-addresses L-counts L-answers T-Reply.the_row records stamps addresses counts answers χ (‵ ftrue) v-result result records stamps answers g-result refl refl refl (open_row records stamps addresses counts answers state ns settings pending (is_true t13 (T_not-not t13 h1)) (is_false t13-2 h2))))
+        returns_within ! Post refl (look ! 1 refl) $ used ! $ used ! $ used ! $ used ! $ used ! $ used ! $ used ! $ used ! $ used ! $ used ! $ used ! $ room ! $ used ! $ used ! $ used ! $ used ! $ used ! $ room ! $ used ! $ room ! $ room ! $ room ! $ room ! $ room ! $ room ! $ room ! $ room ! $ room ! $ room ! $ free0 ! $
+        finish 𝓛 T-Arena.the_row u32 u64 u32 u32 L-records L-stamps L-addresses L-counts L-answers T-Reply.the_row records stamps addresses counts answers χ (‵ ftrue) v-result result records stamps answers g-result refl refl refl (open_row records stamps addresses counts answers state ns settings pending (is_true t12 (T_not-not t12 h1)) (is_false t12-2 h2))))
         (λ h2.
-        assigns ! (of_opd ! (load ! (from ! (fld ! refl (stop !))) (look_in ! 7 (sub ! 1 refl (whole !))))) (from ! (stop !)) (store ! 33 refl (tt, record { fits = known-addresses.1.0 })) $
-        assigns ! (of_opd ! (load ! (from ! (fld ! refl (stop !))) (look_in ! 9 (sub ! 1 refl (whole !))))) (from ! (stop !)) (init ! 41 refl (tt, record { fits = known-counts.1.0 })) $
-        assigns ! (of_opd ! (load ! (from ! (fld ! refl (stop !))) (look_in ! 11 (sub ! 1 refl (whole !))))) (from ! (stop !)) (init ! 43 refl (tt, record { fits = known-answers.1.0 })) $
-        arg-fits ! 0 refl (λ f13-1. arg-fits ! 1 refl (λ f13-2. arg-fits ! 2 refl (λ f13-3.
-        fits-step ! (in-seq ! (fm_of 𝓤 H 𝓛.laws 𝓣)) mem run known-fits _ f13-1.fits _ f13-2.fits _ f13-3.fits
+        assigns ! (of_opd ! (load ! (from ! (fld ! refl (stop !))) (look_in ! 7 (sub ! 1 refl (whole !))))) (from ! (stop !)) (store ! 31 refl (tt, record { fits = known-addresses.1.0 })) $
+        assigns ! (of_opd ! (load ! (from ! (fld ! refl (stop !))) (look_in ! 9 (sub ! 1 refl (whole !))))) (from ! (stop !)) (init ! 39 refl (tt, record { fits = known-counts.1.0 })) $
+        assigns ! (of_opd ! (load ! (from ! (fld ! refl (stop !))) (look_in ! 11 (sub ! 1 refl (whole !))))) (from ! (stop !)) (init ! 41 refl (tt, record { fits = known-answers.1.0 })) $
+        arg-fits ! 0 refl (λ f12-1. arg-fits ! 1 refl (λ f12-2. arg-fits ! 2 refl (λ f12-3.
+        fits-step ! (in-seq ! (fm_of 𝓤 H 𝓛.laws 𝓣)) mem run known-fits _ f12-1.fits _ f12-2.fits _ f12-3.fits
         (λ _. and_then ! (arg ! refl) (and_then ! (arg ! refl) (and_then ! (arg ! refl) (no_more !)))) (
-        land ! (from ! (stop !)) (store ! 27 refl (tt, tt)) $
-        assigns ! (un ! (arg ! refl) tt) (from ! (stop !)) (store ! 35 refl (tt, tt)) $
+        land ! (from ! (stop !)) (store ! 25 refl (tt, tt)) $
+        assigns ! (un ! (arg ! refl) tt) (from ! (stop !)) (store ! 33 refl (tt, tt)) $
         if-else ! (arg ! refl)
         (λ h3.
-        assigns ! (agg ! (and_then ! (lit ! tt) (no_more !))) (from ! (stop !)) (init ! 45 refl ((EL.lawful T-Refusal.the_type L-Refusal.the_laws 𝓛 tt).typed ListLength (EL.val T-Refusal.the_type L-Refusal.the_laws ListLength ∷ []) (EL.owes T-Refusal.the_type L-Refusal.the_laws ListLength tt)).0) $
+        assigns ! (agg ! (and_then ! (lit ! tt) (no_more !))) (from ! (stop !)) (init ! 43 refl ((EL.lawful T-Refusal.the_type L-Refusal.the_laws 𝓛 tt).typed ListLength (EL.val T-Refusal.the_type L-Refusal.the_laws ListLength ∷ []) (EL.owes T-Refusal.the_type L-Refusal.the_laws ListLength tt)).0) $
         refuse-step ! (in-seq ! (fm_of 𝓤 H 𝓛.laws 𝓣)) mem run known-refuse ListLength (EL.val T-Refusal.the_type L-Refusal.the_laws ListLength) (EL.owes T-Refusal.the_type L-Refusal.the_laws ListLength tt) state v-state g-state
         (λ _. and_then ! (arg ! refl) (and_then ! (arg ! refl) (no_more !))) (λ v-result g-result. let result : Reply = turn_down ListLength state in
         land ! (from ! (stop !)) (init ! 1 refl ((LL.lawful T-Reply.the_type L-Reply.the_laws 𝓛).typed result (v-result ∷ []) g-result).0) $
-        returns_within ! Post refl (look ! 1 refl) $ used ! $ used ! $ used ! $ used ! $ used ! $ used ! $ used ! $ used ! $ used ! $ used ! $ used ! $ room ! $ room ! $ used ! $ used ! $ used ! $ used ! $ used ! $ room ! $ room ! $ used ! $ used ! $ used ! $ room ! $ room ! $ room ! $ room ! $ room ! $ room ! $ free0 ! $
-        finish 𝓛 T-Arena.the_row u32 u64 u32 u32 L-records L-stamps L-addresses L-counts L-answers T-Reply.the_row records stamps addresses counts answers χ (‵ ftrue) v-result result records stamps answers g-result refl refl refl (length-row records stamps addresses counts answers state ns settings pending (is_true t13 (T_not-not t13 h1)) (is_true t13-2 (T_not-not t13-2 h2)) (is_false t13-3 h3))))
+        returns_within ! Post refl (look ! 1 refl) $ used ! $ used ! $ used ! $ used ! $ used ! $ used ! $ used ! $ used ! $ used ! $ used ! $ used ! $ room ! $ used ! $ used ! $ used ! $ used ! $ used ! $ room ! $ room ! $ used ! $ used ! $ used ! $ room ! $ room ! $ room ! $ room ! $ room ! $ room ! $ room ! $ free0 ! $
+        finish 𝓛 T-Arena.the_row u32 u64 u32 u32 L-records L-stamps L-addresses L-counts L-answers T-Reply.the_row records stamps addresses counts answers χ (‵ ftrue) v-result result records stamps answers g-result refl refl refl (length-row records stamps addresses counts answers state ns settings pending (is_true t12 (T_not-not t12 h1)) (is_true t12-2 (T_not-not t12-2 h2)) (is_false t12-3 h3))))
         (λ h3.
         assigns ! (of_opd ! (load ! (from ! (fld ! refl (stop !))) (look_in ! 7 (sub ! 1 refl (whole !))))) (from ! (stop !)) (init ! 23 refl (tt, record { fits = known-addresses.1.0 })) $
         assigns ! (addr ! (from ! (fld ! refl (hop ! (look_in ! 3 (sub ! 0 refl (whole !))) (stop !))))) (from ! (stop !)) (init ! 47 refl (tt, tt)) $
@@ -186,16 +183,15 @@ module _ {M : Type 1} {𝓤 : Ura M} (𝓛 : Logic 𝓤) (mem : Memory → SProp
         assigns ! (agg ! (and_then ! (in-local ! refl) (and_then ! (load ! (from ! (fld ! refl (stop !))) (look_in ! 5 (sub ! 1 refl (whole !)))) (no_more !)))) (from ! (stop !)) (init ! 53 refl (tt, (tt, (record { fits = known-stamps.1.0 }, tt)))) $
         assigns ! (addr ! (from ! (fld ! refl (hop ! (look_in ! 11 (sub ! 0 refl (whole !))) (stop !))))) (from ! (stop !)) (init ! 55 refl (tt, tt)) $
         assigns ! (agg ! (and_then ! (in-local ! refl) (and_then ! (load ! (from ! (fld ! refl (stop !))) (look_in ! 11 (sub ! 1 refl (whole !)))) (no_more !)))) (from ! (stop !)) (init ! 57 refl (tt, (tt, (record { fits = known-answers.1.0 }, tt)))) $
-        arg-fits ! 5 refl (λ f12-1. arg-fits ! 7 refl (λ f12-3.
-        release-each-as-mmssm ! (in-seq ! (fm_of 𝓤 H 𝓛.laws 𝓣)) mem run known-release-each L-records records L-stamps stamps L-addresses addresses L-counts counts L-answers answers _ f12-1.fits state v-state g-state _ f12-3.fits settings v-settings g-settings _ (let i = items-ready records stamps addresses counts answers state ns settings pending (is_true t13 (T_not-not t13 h1)) (is_true t13-2 (T_not-not t13-2 h2)) (is_true t13-3 (T_not-not t13-3 h3)) in (i.0, refl, i.1, i.2, i.3))
-        (λ _. and_then ! (arg ! refl) (and_then ! (arg ! refl) (and_then ! (arg ! refl) (and_then ! (arg ! refl) (and_then ! (arg ! refl) (and_then ! (arg ! refl) (and_then ! (arg ! refl) (and_then ! (arg ! refl) (and_then ! (arg ! refl) (and_then ! (arg ! refl) (no_more !))))))))))) (λ f-unheld l-records-1 l-stamps-1 l-answers-1.
-        land ! (from ! (stop !)) (init ! 25 refl (tt, record { fits = f-unheld })) $
-        arg-fits ! 1 refl (λ f0-2.
-        released-step ! (in-seq ! (fm_of 𝓤 H 𝓛.laws 𝓣)) mem run known_released state v-state g-state _ f0-2.fits
-        (λ _. and_then ! (arg ! refl) (and_then ! (arg ! refl) (no_more !))) (λ v-result g-result. let result : Reply = reply (Released unheld) (calm state.count state.mark) in
+        arg-fits ! 5 refl (λ f22-1. arg-fits ! 7 refl (λ f22-3.
+        release-each-as-mmssm ! (in-seq ! (fm_of 𝓤 H 𝓛.laws 𝓣)) mem run known-release-each L-records records L-stamps stamps L-addresses addresses L-counts counts L-answers answers _ f22-1.fits state v-state g-state _ f22-3.fits settings v-settings g-settings _ (let i = items-ready records stamps addresses counts answers state ns settings pending (is_true t12 (T_not-not t12 h1)) (is_true t12-2 (T_not-not t12-2 h2)) (is_true t12-3 (T_not-not t12-3 h3)) in (i.0, refl, i.1, i.2))
+        (λ _. and_then ! (arg ! refl) (and_then ! (arg ! refl) (and_then ! (arg ! refl) (and_then ! (arg ! refl) (and_then ! (arg ! refl) (and_then ! (arg ! refl) (and_then ! (arg ! refl) (and_then ! (arg ! refl) (and_then ! (arg ! refl) (and_then ! (arg ! refl) (no_more !))))))))))) (λ v-t22 g-t22 l-records-1 l-stamps-1 l-answers-1.
+        land ! (from ! (stop !)) (init ! 45 refl ((Nothing-Lawful 𝓛).typed tt (v-t22 ∷ []) g-t22).0) $
+        released-step ! (in-seq ! (fm_of 𝓤 H 𝓛.laws 𝓣)) mem run known_released state v-state g-state
+        (λ _. and_then ! (arg ! refl) (no_more !)) (λ v-result g-result. let result : Reply = reply Released (calm state.count state.mark) in
         land ! (from ! (stop !)) (init ! 1 refl ((LL.lawful T-Reply.the_type L-Reply.the_laws 𝓛).typed result (v-result ∷ []) g-result).0) $
-        returns ! (look ! 1 refl) $ used ! $ used ! $ used ! $ used ! $ used ! $ used ! $ used ! $ used ! $ used ! $ used ! $ used ! $ used ! $ used ! $ used ! $ used ! $ used ! $ used ! $ used ! $ room ! $ room ! $ used ! $ used ! $ room ! $ used ! $ used ! $ used ! $ used ! $ used ! $ used ! $ free0 ! $
-        finish 𝓛 T-Arena.the_row u32 u64 u32 u32 L-records L-stamps L-addresses L-counts L-answers T-Reply.the_row records stamps addresses counts answers χ (‵ ftrue) v-result result records-1 stamps-1 answers-1 g-result l-records-1 l-stamps-1 l-answers-1 (released-row records stamps addresses counts answers state ns settings pending (is_true t13 (T_not-not t13 h1)) (is_true t13-2 (T_not-not t13-2 h2)) (is_true t13-3 (T_not-not t13-3 h3))))))))))))))))))))))
+        returns ! (look ! 1 refl) $ used ! $ used ! $ used ! $ used ! $ used ! $ used ! $ used ! $ used ! $ used ! $ used ! $ used ! $ used ! $ used ! $ used ! $ used ! $ used ! $ used ! $ room ! $ room ! $ used ! $ used ! $ room ! $ used ! $ used ! $ used ! $ used ! $ used ! $ used ! $ used ! $ free0 ! $
+        finish 𝓛 T-Arena.the_row u32 u64 u32 u32 L-records L-stamps L-addresses L-counts L-answers T-Reply.the_row records stamps addresses counts answers χ (‵ ftrue) v-result result records-1 stamps-1 answers-1 g-result l-records-1 l-stamps-1 l-answers-1 (released-row records stamps addresses counts answers state ns settings pending (is_true t12 (T_not-not t12 h1)) (is_true t12-2 (T_not-not t12-2 h2)) (is_true t12-3 (T_not-not t12-3 h3)))))))))))))))))))))
 
   chunk-release-list-meets : Meets 𝓛 chunk-release-list'.signature (WpFn 𝓤 H 𝓣.C 𝓣.Λ code.function) (chunk-release-list'.spec 𝓛 mem run)
   chunk-release-list-meets = meets 𝓛 T-Arena.the_row u32 u64 u32 u32 T-Reply.the_row (plain (λ _. T-State.the_row) ∷ plain (λ _. u64) ∷ plain (λ _. T-Settings.the_row) ∷ plain (λ _. bool) ∷ []) (yes, (yes, (yes, (yes, tt)))) (chunk-release-list'.clauses 𝓛 mem run)

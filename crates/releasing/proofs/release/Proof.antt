@@ -32,8 +32,8 @@ use Rattle.refusals.specs.declared.Refusal.TheVariants.{Zero, NotInside, NotWhol
 use Rattle.layer.specs.Table.{find_arena, is_at, at}
 use Rattle.table.specs.Heads.{head_of}
 use Prim.Native.Nat.{◌-◌, ◌%◌, ◌/◌}
-use Rattle.arena.specs.Releasing.{unheld_in, release_run, stamp_run}
 use Rattle.layer.specs.declared.Answer.TheVariants.{Released}
+use Rattle.arena.specs.Releasing.{release_run, stamp_run}
 use mathlib.Core.Bool.{cond}
 use Rattle.bitmap.specs.declared.runs.Found.{Found}
 use Rattle.table.specs.declared.heads.Head.{Head}
@@ -215,7 +215,7 @@ module _ {M : Type 1} {𝓤 : Ura M} (𝓛 : Logic 𝓤) (mem : Memory → SProp
         assigns ! (agg ! (and_then ! (in-local ! refl) (and_then ! (load ! (from ! (fld ! refl (stop !))) (look_in ! 5 (sub ! 1 refl (whole !)))) (no_more !)))) (from ! (stop !)) (init ! 59 refl (tt, (tt, (record { fits = known-stamps.1.0 }, tt)))) $
         arg-fits ! 3 refl (λ f0-2. arg-fits ! 5 refl (λ f0-4. arg-fits ! 6 refl (λ f0-5. arg-fits ! 7 refl (λ f0-6.
         release-in-step ! (in-seq ! (fm_of 𝓤 H 𝓛.laws 𝓣)) mem run known-release-in L-records records L-stamps stamps state v-state g-state _ f0-2.fits settings v-settings g-settings _ f0-4.fits _ f0-5.fits _ f0-6.fits told v-told g-told _ (let g = releasable records state need.0.0 address i i-says n (is_true t16-3 (T_not-not t16-3 h4)) in (g.0, g.1, g.2, need.1))
-        (λ _. and_then ! (arg ! refl) (and_then ! (arg ! refl) (and_then ! (arg ! refl) (and_then ! (arg ! refl) (and_then ! (arg ! refl) (and_then ! (arg ! refl) (and_then ! (arg ! refl) (and_then ! (arg ! refl) (and_then ! (arg ! refl) (and_then ! (arg ! refl) (no_more !))))))))))) (λ v-result g-result l-records-1 l-stamps-1. let result : Reply = reply (Released (unheld_in (at records i) s n)) (calm state.count state.mark) in let records-1 : List Arena = set records i (release_run (at records i) s n told (stays_pending settings pending) (now_ms ns) (delay_ms settings.delay)) in let stamps-1 : List ℕ = cond (stays_pending settings pending) (stamp_run stamps (1024 * i + s) n (now_ms ns)) stamps in
+        (λ _. and_then ! (arg ! refl) (and_then ! (arg ! refl) (and_then ! (arg ! refl) (and_then ! (arg ! refl) (and_then ! (arg ! refl) (and_then ! (arg ! refl) (and_then ! (arg ! refl) (and_then ! (arg ! refl) (and_then ! (arg ! refl) (and_then ! (arg ! refl) (no_more !))))))))))) (λ v-result g-result l-records-1 l-stamps-1. let result : Reply = reply Released (calm state.count state.mark) in let records-1 : List Arena = set records i (release_run (at records i) s n told (stays_pending settings pending) (now_ms ns) (delay_ms settings.delay)) in let stamps-1 : List ℕ = cond (stays_pending settings pending) (stamp_run stamps (1024 * i + s) n (now_ms ns)) stamps in
         land ! (from ! (stop !)) (init ! 1 refl ((LL.lawful T-Reply.the_type L-Reply.the_laws 𝓛).typed result (v-result ∷ []) g-result).0) $
         returns ! (look ! 1 refl) $ used ! $ used ! $ used ! $ used ! $ used ! $ used ! $ used ! $ used ! $ used ! $ used ! $ used ! $ used ! $ used ! $ used ! $ used ! $ used ! $ used ! $ room ! $ used ! $ used ! $ used ! $ room ! $ used ! $ used ! $ room ! $ room ! $ used ! $ used ! $ used ! $ used ! $ free0 ! $
         finish2 𝓛 T-Arena.the_row u32 L-records L-stamps T-Reply.the_row records stamps χ (‵ ftrue) v-result result records-1 stamps-1 g-result l-records-1 l-stamps-1 (released records stamps state ns settings address n told pending need.0 (is_false (eqb n 0) h1) i i-says (is_true t16-2 (T_not-not t16-2 h3)) (is_true t16-3 (T_not-not t16-3 h4)))))))))))))))))))))))))

@@ -50,7 +50,7 @@ returns-3 c =
     let a = g.before.before.before.args in
     let s = c.before.before.before.before.before.found in
     let e = alloc-found a.lent.now a.slices g.before.if1.false g.if2.false ∙ ap (alloc_found a.lent.now a.slices) (sym f.ensures ∙ s.given.1) in
-    (sym (ap (λ (x : Alloc). x.answer) e), c.before.before.clear-run.ensures.1 ∙ sym (ap (λ (x : Alloc). x.words) e))
+    (sym (ap (λ (x : Alloc). x.answer) e), c.before.before.clear-run.ensures ∙ sym (ap (λ (x : Alloc). x.words) e))
 
 same-length-2 : tie.Need-same-length-2
 same-length-2 c = search needs

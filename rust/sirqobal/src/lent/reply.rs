@@ -21,9 +21,6 @@ pub struct Reply {
     pub id: usize,
     /// A sweep's yes answers.
     pub count: usize,
-    /// A release: how many of its chunks were not held before; a list: the sum over its granted
-    /// items.
-    pub unheld: usize,
     /// A claim: no chunk was dirty before.
     pub fresh: bool,
     /// A claim: all chunks are committed.

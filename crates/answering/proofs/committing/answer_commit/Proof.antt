@@ -46,17 +46,17 @@ use Rattle.table.proofs.records.store.Met as store-thm
 use Rattle.claiming.proofs.grants.granted.Symbol as granted-def
 use Rattle.claiming.proofs.grants.granted.Symbol.{name as #claiming·grants·granted}
 use Rattle.claiming.proofs.grants.granted.Met as granted-thm
-use Rattle.answering.proofs.committing.given_back.Symbol as given-back-def
-use Rattle.answering.proofs.committing.given_back.Symbol.{name as #answering·committing·given-back}
-use Rattle.answering.proofs.committing.given_back.Met as given-back-thm
+use Rattle.arena.proofs.arena_runs.give_back_run.Symbol as give-back-run-def
+use Rattle.arena.proofs.arena_runs.give_back_run.Symbol.{name as #arena·arena-runs·give-back-run}
+use Rattle.arena.proofs.arena_runs.give_back_run.Met as give-back-run-thm
 use Rattle.answering.proofs.committing.commit_refused.Symbol as commit-refused-def
 use Rattle.answering.proofs.committing.commit_refused.Symbol.{name as #answering·committing·commit-refused}
 use Rattle.answering.proofs.committing.commit_refused.Met as commit-refused-thm
 use Rattle.table.proofs.Callable.{LoadSpec, HeadAtSpec, FreshAtSpec, StoreSpec, load_step, head-at-step, fresh-at-step, store_step}
 use Rattle.state.proofs.Callable.{ChunkSizeSpec, chunk-size-step}
-use Rattle.arena.proofs.Callable.{FinishGrantSpec, finish-grant-step}
+use Rattle.arena.proofs.Callable.{FinishGrantSpec, GiveBackRunSpec, finish-grant-step, give-back-run-step}
 use Rattle.claiming.proofs.Callable.{GrantedSpec, granted-step}
-use Rattle.answering.proofs.committing.Callable.{GivenBackSpec, CommitRefusedSpec, given-back-step, commit-refused-step}
+use Rattle.answering.proofs.committing.Callable.{CommitRefusedSpec, commit-refused-step}
 use Rattle.answering.specs.contracts.committing.answer_commit.Key.{name as #answering·committing·answer-commit}
 use Rattle.answering.specs.contracts.committing.answer_commit as answer-commit'
 use Rattle.answering.proofs.committing.answer_commit.Statement as stated
@@ -71,7 +71,7 @@ module _ {M : Type 1} {𝓤 : Ura M} (𝓛 : Logic 𝓤) (mem : Memory → SProp
     (known-finish-grant : Triple 𝓤 (𝓣.C #arena·arena-runs·finish-grant) (FinishGrantSpec 𝓛 mem run))
     (known_store : Triple 𝓤 (𝓣.C #table·records·store) (StoreSpec 𝓛 mem run))
     (known-granted : Triple 𝓤 (𝓣.C #claiming·grants·granted) (GrantedSpec 𝓛 mem run))
-    (known-given-back : Triple 𝓤 (𝓣.C #answering·committing·given-back) (GivenBackSpec 𝓛 mem run))
+    (known-give-back-run : Triple 𝓤 (𝓣.C #arena·arena-runs·give-back-run) (GiveBackRunSpec 𝓛 mem run))
     (known-commit-refused : Triple 𝓤 (𝓣.C #answering·committing·commit-refused) (CommitRefusedSpec 𝓛 mem run)) where
   open 𝓛 use {H}
 
@@ -164,7 +164,7 @@ module _ {M : Type 1} {𝓤 : Ura M} (𝓛 : Logic 𝓤) (mem : Memory → SProp
         finish 𝓛 T-Arena.the_row L-records T-Reply.the_row records χ (‵ ftrue) v-result result records-1 g-result l-records-1 (λ stamps. yes-row (size_of state) records stamps state.count state.mark i s n granted (is_true granted h1))))))))))))))))))
         (λ h1.
         arg-fits ! 1 refl (λ f12-2. arg-fits ! 2 refl (λ f12-3.
-        given-back-step ! (in-seq ! (fm_of 𝓤 H 𝓛.laws 𝓣)) mem run known-given-back a v-a g-a _ f12-2.fits _ f12-3.fits (run_fits (at records i) s n need.1 need.2)
+        give-back-run-step ! (in-seq ! (fm_of 𝓤 H 𝓛.laws 𝓣)) mem run known-give-back-run a v-a g-a _ f12-2.fits _ f12-3.fits (run_fits (at records i) s n need.1 need.2)
         (λ _. and_then ! (arg ! refl) (and_then ! (arg ! refl) (and_then ! (arg ! refl) (no_more !)))) (λ v-freed g-freed.
         land ! (from ! (stop !)) (init ! 25 refl ((LL.lawful T-Arena.the_type L-Arena.the_laws 𝓛).typed freed (v-freed ∷ []) g-freed).0) $
         assigns ! (addr ! (from ! (fld ! refl (hop ! (look_in ! 3 (sub ! 0 refl (whole !))) (stop !))))) (from ! (stop !)) (init ! 49 refl (tt, tt)) $
@@ -200,5 +200,5 @@ answer-commit-spec 𝓤 𝓛 𝓜 𝓡 =
     (cited 𝓤 𝓛.H (FinishGrantSpec 𝓛 𝓜.mem 𝓡.run) 𝓜 𝓡 code.env #arena·arena-runs·finish-grant finish-grant-def.routine code.calls-arena::arena-runs::finish-grant (finish-grant-thm.met 𝓤 𝓛 𝓜 𝓡))
     (cited 𝓤 𝓛.H (StoreSpec 𝓛 𝓜.mem 𝓡.run) 𝓜 𝓡 code.env #table·records·store store-def.routine code.calls-table::records::store (store-thm.met 𝓤 𝓛 𝓜 𝓡))
     (cited 𝓤 𝓛.H (GrantedSpec 𝓛 𝓜.mem 𝓡.run) 𝓜 𝓡 code.env #claiming·grants·granted granted-def.routine code.calls-claiming::grants::granted (granted-thm.met 𝓤 𝓛 𝓜 𝓡))
-    (cited 𝓤 𝓛.H (GivenBackSpec 𝓛 𝓜.mem 𝓡.run) 𝓜 𝓡 code.env #answering·committing·given-back given-back-def.routine code.calls-answering::committing::given-back (given-back-thm.met 𝓤 𝓛 𝓜 𝓡))
+    (cited 𝓤 𝓛.H (GiveBackRunSpec 𝓛 𝓜.mem 𝓡.run) 𝓜 𝓡 code.env #arena·arena-runs·give-back-run give-back-run-def.routine code.calls-arena::arena-runs::give-back-run (give-back-run-thm.met 𝓤 𝓛 𝓜 𝓡))
     (cited 𝓤 𝓛.H (CommitRefusedSpec 𝓛 𝓜.mem 𝓡.run) 𝓜 𝓡 code.env #answering·committing·commit-refused commit-refused-def.routine code.calls-answering::committing::commit-refused (commit-refused-thm.met 𝓤 𝓛 𝓜 𝓡)))

@@ -1,5 +1,7 @@
 // The answer call. Document 01: "A second call brings yes or no, for memory a base too." Behind rows 1 and 3 a
 // core: the open question says what the answer does.
+#![tactic(auto)]
+
 pub mod committing;
 pub mod memory;
 pub mod open_question;

@@ -1,5 +1,7 @@
 // The record of one arena, and registering and growth by value. The other changes that a call makes to a
 // record stand in `arena_runs` and `arena_sweeps`. It knows no table, no other arena and no question.
+#![tactic(auto)]
+
 pub mod arena_runs;
 pub mod arena_sweeps;
 pub mod asks;

@@ -1,4 +1,6 @@
 // One call over all the entry points: the call is a value. Later requests and the replay of a sample make calls so.
+#![tactic(auto)]
+
 pub mod kinds;
 
 ghost use Rattle.std.specs.Prelude.{◌≡◌, true, false};

@@ -1,5 +1,7 @@
 // The three claims. Behind rows 1 and 2 a core: rows 4 and 5, one search, and the run that it found is granted,
 // its commit is asked for, or the claim waits for a default reserve.
+#![tactic(auto)]
+
 pub mod grants;
 pub mod misses;
 pub mod searching;

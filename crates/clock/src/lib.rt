@@ -1,4 +1,6 @@
 // The wrapping clock of 32-bit milliseconds: `now_ms`, `delay_ms`, `arm` and the due test of `purge_due` (arena.rs).
+#![tactic(auto)]
+
 ghost use Rattle.std.specs.Prelude.{◌≡◌};
 ghost use Rattle.clock.specs.Clock.{or_one, now_ms, delay_ms, never_purges, armed, is_due, age_of, due_at};
 

@@ -1,5 +1,7 @@
 // Joining: one table out of two. The second's arenas come behind the first's, with their stamps, and the second is
 // left empty. Document 02, wish 1: "the first keeps its ids, the second's rise by the first's arena count".
+#![tactic(auto)]
+
 ghost use Rattle.std.specs.Prelude.{◌≡◌, false, ◌&&◌, ◌+◌, ◌*◌, ◌≤◌, ltb, length};
 ghost use Rattle.arena.specs.ChunkSize.{ChunkSize};
 ghost use Rattle.arena.specs.Moving.{overwritten};

@@ -1,5 +1,6 @@
 // The types of the layer's calls: what a call carries, what it answers, and the state that goes in and
 // comes out. Its rules are the definitions in specs/. The code stands in the crates above.
+#![tactic(auto)]
 
 // S, the bytes of a chunk in the product: 32 MiB. The definitions are of any S.
 pub const CHUNK: u64 = 33554432;

@@ -1,4 +1,6 @@
 // What a replay keeps between two lines, and what a line makes of it.
+#![tactic(auto)]
+
 pub mod recorded;
 pub mod state_hash;
 

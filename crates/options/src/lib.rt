@@ -1,4 +1,6 @@
 // What the options and the page size let pass. The settings come with each call, so nothing is kept here.
+#![tactic(auto)]
+
 ghost use Rattle.std.specs.Prelude.{◌≡◌};
 ghost use Rattle.options.specs.Options.{arena_allowed, page_size_sound};
 

@@ -1,5 +1,7 @@
 // The two queries of the layer: whether an address lies in an arena, and the area of an arena. They read the lent
 // table and change nothing. Document 01: "Queries (`owns`, `arena_area`) know 1 only."
+#![tactic(auto)]
+
 ghost use Rattle.std.specs.Prelude.{◌≡◌, true, ◌*◌, ◌≤◌, nat_abs};
 ghost use Rattle.arena.specs.ChunkSize.{ChunkSize};
 ghost use Rattle.layer.specs.declared.Answer.TheVariants.{Owns, Area};

@@ -1,5 +1,7 @@
 // Why a call is turned down: one variant for each row of document 01's table "Turned down", and for each refusal
 // that document 02 adds.
+#![tactic(auto)]
+
 ghost use Rattle.std.specs.Prelude.{◌≡◌};
 ghost use Rattle.refusals.specs.Number.{number};
 

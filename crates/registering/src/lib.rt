@@ -1,5 +1,7 @@
 // The calls that register an arena: a reserve asks the host for memory, a manage takes memory that the host has
 // already, an adopt a block of the allocator's own. Behind rows 1 and 2 each is a core, in the module of its name.
+#![tactic(auto)]
+
 pub mod adopting;
 pub mod counts;
 pub mod managing;

@@ -2,6 +2,8 @@
 // answers. Document 02, wish 3: "It leaves what single releases in list order at the same clock and settings would
 // leave". Rows 1, 2 and 19 are looked at once: a release keeps the table sound and puts no question, so behind them
 // each item is the release's core.
+#![tactic(auto)]
+
 ghost use Rattle.std.specs.Prelude.{◌≡◌, ◌&&◌, ◌<◌, ◌≤◌, eqb, leb, length, get_or, set};
 ghost use Rattle.arena.specs.declared.Commitment.TheVariants.{Untold};
 ghost use Rattle.layer.specs.World.{world_of};

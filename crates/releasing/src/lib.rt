@@ -1,5 +1,7 @@
 // `chunk_release`. Behind rows 1 and 2 a core: rows 4, 8, 7 and 9 in this order, and the run is released in the one
 // record that the address lies in.
+#![tactic(auto)]
+
 ghost use Rattle.std.specs.Prelude.{◌≡◌, cond, ◌+◌, ◌-◌, ◌*◌, ◌/◌, ◌%◌, ◌<◌, ◌≤◌, eqb, leb, length, set};
 ghost use Rattle.clock.specs.Clock.{now_ms, delay_ms};
 ghost use Rattle.arena.specs.Releasing.{release_run, stamp_run};

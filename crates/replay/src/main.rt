@@ -2,6 +2,8 @@
 // for each (`samples::lines`), and what comes out is how many were replayed and how many differ.
 // No contract can say what is read or printed, so all that does either stands here, and nothing here is
 // public. What a line says, our answer to it and the count are fixed by the modules' contracts.
+#![tactic(auto)]
+
 mod answers;
 mod known;
 mod pool;

@@ -3,6 +3,8 @@
 // how many lines were replayed and how many differ.
 // No contract can say what is read or printed, so all that does either stands here, and nothing here is public.
 // What a line makes of a session and of the table is fixed by the contracts of `layer_samples`.
+#![tactic(auto)]
+
 use layer_samples::Session;
 use libc::STDIN_FILENO;
 use samples::lines::Line;

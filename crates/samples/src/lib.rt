@@ -1,5 +1,7 @@
 // Recorded samples of the Rust's answers: the numbers in them, their lines, the hash of a state, and what a
 // replay counts.
+#![tactic(auto)]
+
 pub mod hash;
 pub mod hex;
 pub mod lines;

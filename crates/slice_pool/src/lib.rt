@@ -1,5 +1,7 @@
 // The pool of free slices: 65,536 slices of 65,536 bytes over 2,048 lent words, a set bit being a free
 // slice. It knows no arena and no question; nothing here touches the memory that it tracks.
+#![tactic(auto)]
+
 ghost use Rattle.std.specs.Prelude.{◌≡◌};
 ghost use Rattle.slice_pool.specs.Pool.{alloc_run, free_range};
 

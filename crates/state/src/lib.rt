@@ -1,5 +1,7 @@
 // The state that a call is lent, and its replies, by value: what the calls read of the one and how they make the
 // other.
+#![tactic(auto)]
+
 ghost use Rattle.std.specs.Prelude.{◌≡◌};
 ghost use Rattle.layer.specs.World.{size_of, state_with, reply, turn_down, calm};
 ghost use Rattle.layer.specs.Answering.{is_idle};

@@ -1,5 +1,7 @@
 // The layer's state in numbers: what the C surface hands in and out, since an enum cannot be exported.
 // include/sirqobal.h declares the struct.
+#![tactic(auto)]
+
 pub mod joins;
 pub mod reply;
 pub mod told;

@@ -1,5 +1,7 @@
 // Sweeps: `purge_due`, and the answer to the question that a sweep has put. "Arenas by id, chunks ascending", until
 // a chunk is to be asked about or no arena is left.
+#![tactic(auto)]
+
 ghost use Rattle.std.specs.Prelude.{◌≡◌, true, ◌+◌, ◌-◌, ◌*◌, ◌^◌, ◌<◌, ◌≤◌, length, set};
 ghost use Rattle.bitmap.specs.Rows.{clear_run};
 ghost use Rattle.arena.specs.Sweeping.{sweep_due, next_asked};

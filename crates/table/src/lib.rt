@@ -1,5 +1,7 @@
 // The lent table of records: the searches over it, and row 1. All decisions on one record are made by value, in the
 // modules.
+#![tactic(auto)]
+
 pub mod heads;
 pub mod maps;
 pub mod open_question;

@@ -7,6 +7,8 @@
 //
 // The cases are all of document 01's "Worked by hand" and, of "Turned down", the example of each row, on the
 // lent table of arenas, and the slice pool's rows. A refusal is shown by its number there.
+#![tactic(auto)]
+
 ghost use Rattle.std.specs.Prelude.{◌≤◌, length};
 
 use arena::{Arena, Commitment};

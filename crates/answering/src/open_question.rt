@@ -8,7 +8,7 @@ ghost use Rattle.answering.specs.Opened.{purge_sweep, memory_of, cause_of, waite
 use layer::{Kind, Question, Sweep, Unusable, Waiting};
 
 // The memory that is asked for, and who waits for it.
-#[derive(Drop)]
+#[derive(Clone, Copy)]
 pub struct MemoryQuestion {
     pub chunks: u64,
     pub bytes: u64,

@@ -22,7 +22,7 @@ remade a node chunks deadline used dirty committed pending =
     }
 
 pub read_back : (z : ℤ) → mag z < 2 ^ 31 → to_z w32 (of_z w32 z) ≡ z
-read_back z few = to_z-of_z (record { sfits = few })
+read_back z few = to_z-of_z {w = w32} (record { sfits = few })
 
 -- a release changes the map of committed chunks alone by what it tells
 pub told-row : (a : Arena) (s n : ℕ) (told : Commitment) → with_committed a (told_row a.committed s n told) ≡ tell_run a s n told

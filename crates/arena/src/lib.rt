@@ -23,7 +23,7 @@ pub const LAST: u64 = 18446744073709551615;
 // surface, so its layout is C's, with no byte between two fields, and every value of a field is one that the code
 // reads: a flag is a number, on unless it is 0. Registering writes 0 or 1.
 #[repr(C)]
-#[derive(Drop)]
+#[derive(Clone, Copy)]
 pub struct Arena {
     pub base: u64,
     pub chunks: usize,
@@ -42,7 +42,7 @@ pub struct Arena {
 }
 
 // What a release tells of its run: nothing, or whether the memory is now committed in full.
-#[derive(Drop)]
+#[derive(Clone, Copy)]
 pub enum Commitment {
     Untold,
     Committed,

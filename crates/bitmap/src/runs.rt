@@ -6,7 +6,7 @@ ghost use Rattle.bitmap.specs.Lowest.{all, lowest_run, sense};
 ghost use Rattle.bitmap.specs.Steps.{Stepped};
 
 // Where the lowest run starts.
-#[derive(Drop)]
+#[derive(Clone, Copy)]
 pub enum Found {
     At(usize),
     Nothing,
@@ -14,7 +14,7 @@ pub enum Found {
 
 // What a word says of the search: the run starts before it, or in it; the word is free from end to
 // end; or so many places at its top are free.
-#[derive(Drop)]
+#[derive(Clone, Copy)]
 pub enum Step {
     Before,
     From(usize),

@@ -4,7 +4,7 @@ use arena::Commitment;
 use layer::Kind;
 
 // Memory is registered.
-#[derive(Drop)]
+#[derive(Clone, Copy)]
 pub enum MemoryCall {
     Reserve {
         size: u64,
@@ -30,7 +30,7 @@ pub enum MemoryCall {
 }
 
 // Chunks are claimed.
-#[derive(Drop)]
+#[derive(Clone, Copy)]
 pub enum ClaimCall {
     ChunkAlloc { id: i32 },
     ChunkClaim { id: i32 },
@@ -38,7 +38,7 @@ pub enum ClaimCall {
 }
 
 // Chunks are released, or arenas swept.
-#[derive(Drop)]
+#[derive(Clone, Copy)]
 pub enum FreeCall {
     ChunkRelease {
         address: u64,
@@ -52,20 +52,20 @@ pub enum FreeCall {
 }
 
 // What is done where no question is open.
-#[derive(Drop)]
+#[derive(Clone, Copy)]
 pub enum ActCall {
     Memory(MemoryCall),
     Claim(ClaimCall),
     Free(FreeCall),
 }
 
-#[derive(Drop)]
+#[derive(Clone, Copy)]
 pub enum QueryCall {
     Owns { address: u64 },
     ArenaArea { id: i32 },
 }
 
-#[derive(Drop)]
+#[derive(Clone, Copy)]
 pub enum Call {
     Act(ActCall),
     Query(QueryCall),

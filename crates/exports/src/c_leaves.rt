@@ -55,7 +55,7 @@ pub extern "C" fn sirqobal_is_due(due: u32, now: u32) -> bool
 
 // What alloc_run answers, in numbers: 0 and the address, or the refusal's number and 0.
 #[repr(C)]
-#[derive(Drop)]
+#[derive(Clone, Copy)]
 pub struct SliceAnswer {
     pub number: u32,
     pub address: u64,

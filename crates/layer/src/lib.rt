@@ -6,7 +6,7 @@
 pub const CHUNK: u64 = 33554432;
 
 // What each call carries beside the clock.
-#[derive(Drop)]
+#[derive(Clone, Copy)]
 pub struct Settings {
     // the purge delay in milliseconds (option 15)
     pub delay: i64,
@@ -21,14 +21,14 @@ pub struct Settings {
 }
 
 // Who waits for memory: an explicit reserve, or a claim of n chunks that missed.
-#[derive(Drop)]
+#[derive(Clone, Copy)]
 pub enum Waiting {
     Reserve,
     Claim { n: usize, commits: bool },
 }
 
 // Why a block that the host gave cannot be registered: 12, 7 or 13.
-#[derive(Drop)]
+#[derive(Clone, Copy)]
 pub enum Unusable {
     Count,
     Misaligned,
@@ -36,7 +36,7 @@ pub enum Unusable {
 }
 
 // A sweep keeps its first clock and settings until it ends, and counts the yes answers.
-#[derive(Drop)]
+#[derive(Clone, Copy)]
 pub struct Sweep {
     pub force: bool,
     pub now: u32,
@@ -46,7 +46,7 @@ pub struct Sweep {
 }
 
 // The open question, with what resumes the call that put it.
-#[derive(Drop)]
+#[derive(Clone, Copy)]
 pub enum Question {
     Idle,
     Committing {
@@ -73,7 +73,7 @@ pub enum Question {
 }
 
 // The layer's own state: how many arenas stand, whether default reserves were given up, and the question.
-#[derive(Drop)]
+#[derive(Clone, Copy)]
 pub struct State {
     pub count: usize,
     pub mark: bool,
@@ -81,7 +81,7 @@ pub struct State {
 }
 
 // What the host is asked.
-#[derive(Drop)]
+#[derive(Clone, Copy)]
 pub enum Ask {
     AskCommit {
         address: u64,
@@ -105,7 +105,7 @@ pub enum Ask {
 }
 
 // The kind of question that an answer is for.
-#[derive(Drop)]
+#[derive(Clone, Copy)]
 pub enum Kind {
     ForCommit,
     ForPurge,
@@ -115,7 +115,7 @@ pub enum Kind {
 }
 
 // What a call answers.
-#[derive(Drop)]
+#[derive(Clone, Copy)]
 pub enum Answer {
     Refused(refusals::Refusal),
     Asks(Ask),
@@ -135,21 +135,21 @@ pub enum Answer {
 }
 
 // An answer with the state that the call leaves.
-#[derive(Drop)]
+#[derive(Clone, Copy)]
 pub struct Reply {
     pub answer: Answer,
     pub state: State,
 }
 
 // What a join of two tables answers: why it is turned down, or by how much the ids of the second's arenas rise.
-#[derive(Drop)]
+#[derive(Clone, Copy)]
 pub enum JoinAnswer {
     NotJoined(refusals::Refusal),
     Joined(usize),
 }
 
 // Its answer with the two states that it leaves.
-#[derive(Drop)]
+#[derive(Clone, Copy)]
 pub struct JoinReply {
     pub answer: JoinAnswer,
     pub first: State,

@@ -17,7 +17,7 @@ use samples::tally::Tally;
 use surface::reply::ReplyNumbers;
 
 // What the next call carries: clock, settings, two more numbers.
-#[derive(Drop)]
+#[derive(Clone, Copy)]
 pub struct Carried {
     pub ns: u64,
     pub settings: Settings,
@@ -26,14 +26,14 @@ pub struct Carried {
 }
 
 // What the last call said: address, bytes, and the word of the rest.
-#[derive(Drop)]
+#[derive(Clone, Copy)]
 pub struct Said {
     pub address: u64,
     pub bytes: u64,
     pub word: u64,
 }
 
-#[derive(Drop)]
+#[derive(Clone, Copy)]
 pub struct Session {
     pub state: State,
     pub carried: Carried,

@@ -5,7 +5,7 @@ ghost use Rattle.samples.specs.Lines.{parted, line_of, fields_at, line_at};
 
 use crate::hex::Number;
 
-#[derive(Drop)]
+#[derive(Clone, Copy)]
 pub struct Line {
     pub kind: u64,
     pub a: u64,
@@ -13,7 +13,7 @@ pub struct Line {
     pub r: u64,
 }
 
-#[derive(Drop)]
+#[derive(Clone, Copy)]
 pub enum Parsed {
     Whole(Line),
     Malformed,

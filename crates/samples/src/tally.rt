@@ -4,7 +4,7 @@ ghost use Rattle.samples.specs.Counting.{none, one_more, after_answer, after_mal
 
 // The lines so far, the answers replayed, how many of them differ and the line of the first that does
 // (0: none), the malformed lines, and whether the input has ended.
-#[derive(Drop)]
+#[derive(Clone, Copy)]
 pub struct Tally {
     pub lines: u64,
     pub answers: u64,

@@ -16,14 +16,14 @@ const SLOTS: usize = 65536;
 const WORDS: usize = 2048;
 
 // What alloc_run answers: the run's address, or why there is none.
-#[derive(Drop)]
+#[derive(Clone, Copy)]
 pub enum Allocated {
     Run(u64),
     NotRun(Refusal),
 }
 
 // What free_range answers.
-#[derive(Drop)]
+#[derive(Clone, Copy)]
 pub enum Freed {
     Done,
     NotDone(Refusal),

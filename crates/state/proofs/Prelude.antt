@@ -1,6 +1,5 @@
 -- What proofs over the lent table cite of the kit and of the crates below, passed on by one name. Assumes nothing.
 pub use Prim.Native.Nat.{◌%◌, ◌*◌, ◌+◌, ◌-◌, ◌/◌, ◌<◌, ◌^◌, ◌≤◌, suc, zero, ℕ}
-pub use borrow.Author.Rules.{rules}
 pub use borrow.Author.Tests.{eq-eqb, eqb-true, le-leb, le-ltb, leb-false, leb-true, lt-leb, lt-ltb, ltb-false, ltb-true, ne_eqb, not-false, not-true}
 pub use lib.Dec.{T, eqb, leb, lit<, ltb, ltb→lt, nltb→le}
 pub use lib.IntN.{nat_abs, negsuc, pos, ℤ}

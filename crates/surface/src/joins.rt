@@ -9,7 +9,7 @@ use refusals::Refusal;
 // The answer, with the states that are left of the two tables: 0 and by how much the second's ids rise, or the
 // refusal and 0.
 #[repr(C)]
-#[derive(Drop)]
+#[derive(Clone, Copy)]
 pub struct JoinNumbers {
     pub number: u32,
     // always 0: it stands where C would leave four bytes unwritten

@@ -16,7 +16,7 @@ use layer::{Question, State, Sweep, Unusable, Waiting};
 
 // The state. A flag is 0 or 1; a field that the open question does not use is 0.
 #[repr(C)]
-#[derive(Drop)]
+#[derive(Clone, Copy)]
 pub struct StateNumbers {
     pub count: usize,
     pub mark: u32,

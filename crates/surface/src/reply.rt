@@ -8,7 +8,7 @@ use refusals::Refusal;
 
 // The answer, with the state that is left. What does not belong to the answer is 0.
 #[repr(C)]
-#[derive(Drop)]
+#[derive(Clone, Copy)]
 pub struct ReplyNumbers {
     pub number: u32,
     pub kind: u32,

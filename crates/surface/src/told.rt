@@ -8,7 +8,7 @@ use layer::{Kind, Settings};
 
 // The settings. A flag is on unless it is 0.
 #[repr(C)]
-#[derive(Drop)]
+#[derive(Clone, Copy)]
 pub struct SettingsNumbers {
     pub delay: i64,
     pub decommits: u32,

@@ -3,7 +3,7 @@
 ghost use Rattle.std.specs.Prelude.{◌≡◌};
 
 // The fields of a record that most questions need.
-#[derive(Drop)]
+#[derive(Clone, Copy)]
 pub struct Head {
     pub base: u64,
     pub chunks: usize,

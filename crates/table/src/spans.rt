@@ -8,7 +8,7 @@ use crate::heads::Head;
 use arena::LAST;
 
 // The addresses from lo on, before hi.
-#[derive(Drop)]
+#[derive(Clone, Copy)]
 pub struct Span {
     pub lo: u64,
     pub hi: u64,

@@ -242,7 +242,7 @@ fn frees_refused(t: Tally) -> Tally {
 // ---- the lent table of arenas: the example of "Turned down"
 
 // The calls of a case, made one after the other. The last three are named; those before them adopt blocks.
-#[derive(Drop)]
+#[derive(Clone, Copy)]
 struct Case {
     calls: u32,
     earlier: Call,
@@ -535,7 +535,7 @@ fn table() {
 // ---- document 02, wish 1: two tables joined
 
 // A table as it is lent: 32 records alike, of which the state counts one or none, and 32,768 stamps alike.
-#[derive(Drop)]
+#[derive(Clone, Copy)]
 struct Lent {
     arena: Arena,
     stamp: u32,
@@ -1191,7 +1191,7 @@ fn rows_with_minus_one(t: Tally) -> Tally {
 // ---- document 02, wish 3: a list of releases
 
 // Lists as they are lent: so many of the addresses, of the counts and of the places for answers.
-#[derive(Drop)]
+#[derive(Clone, Copy)]
 struct Lists {
     addresses: [u64; 5],
     counts: [u32; 5],

@@ -8,7 +8,7 @@ use arena::Arena;
 use layer::{JoinReply, Reply, Settings, State};
 
 // A table's state, and how many blocks of one chunk are adopted in it, from so many chunks on.
-#[derive(Drop)]
+#[derive(Clone, Copy)]
 pub struct Side {
     pub state: State,
     pub blocks: usize,
@@ -16,7 +16,7 @@ pub struct Side {
 }
 
 // What the joined table says of one of its arenas: its range, a sweep, and a claim in it.
-#[derive(Drop)]
+#[derive(Clone, Copy)]
 pub struct Found {
     pub range: Reply,
     pub swept: Reply,
@@ -24,7 +24,7 @@ pub struct Found {
 }
 
 // What a join answers, what the joined table says then, and whether the second owns an address.
-#[derive(Drop)]
+#[derive(Clone, Copy)]
 pub struct Seen {
     pub joined: JoinReply,
     pub first: Found,

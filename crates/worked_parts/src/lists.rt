@@ -10,7 +10,7 @@ use arena::Arena;
 use layer::{Reply, Settings, State};
 
 // The first places of a list of answers.
-#[derive(Drop)]
+#[derive(Clone, Copy)]
 pub struct Numbers {
     pub at_0: u32,
     pub at_1: u32,
@@ -20,7 +20,7 @@ pub struct Numbers {
 }
 
 // What the list answers as a whole, and what stands in arenas 0 and 1, at a stamp and in the list of answers then.
-#[derive(Drop)]
+#[derive(Clone, Copy)]
 pub struct Listed {
     pub reply: Reply,
     pub first: Arena,

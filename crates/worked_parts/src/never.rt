@@ -9,7 +9,7 @@ use layer::{Kind, Reply, Settings, State};
 
 // What the release answers, what stands in arena 0 and at a stamp then, what the sweep answers, what stands in
 // arena 0 then, and what a yes to the sweep's question answers.
-#[derive(Drop)]
+#[derive(Clone, Copy)]
 pub struct Left {
     pub released: Reply,
     pub arena: Arena,

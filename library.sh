@@ -1,7 +1,6 @@
 #!/usr/bin/env bash
 # Proves the crates of the library and builds build/lib/libsirqobal.a and libsirqobal.so: what include/sirqobal.h declares
-# and crate `exports` exports. They stand in build/ since `rt ci` removes target/. What is proved or built already is not
-# done again.
+# and crate `exports` exports. What is proved or built already is not done again.
 set -euo pipefail
 cd "$(dirname "${BASH_SOURCE[0]}")"
 source tools/need.sh
@@ -15,62 +14,56 @@ work=target/library
 version=$(sed -n 's/^version = "\(.*\)"$/\1/p' rust/Cargo.toml)
 real=libsirqobal.so.$version
 soname=libsirqobal.so.${version%%.*}
+kit=$(dirname "$(rt doc)")
 
 elapsed() { printf '%d:%02d' $((SECONDS / 60)) $((SECONDS % 60)); }
 
-# The number of crates to prove. crates.txt has each crate below what it stands on.
-count() {
-    tac crates.txt | awk -F: -v top="$crate" '
-        BEGIN { ours[top] }
-        $1 in ours { n++; split($2, on, " "); for (i in on) ours[on[i]] }
-        END { print n }'
+# The crates that the library is made of, each after those that it stands on. crates.txt has each crate below what it stands on.
+below() {
+    tac crates.txt | awk -v top="$crate" '
+        { sub(/#.*/, ""); name = $1; sub(/:$/, "", name) }
+        NR == 1 { ours[top] }
+        name in ours { print name; for (i = 2; i <= NF; i++) { sub(/:$/, "", $i); ours[$i] } }' | tac
 }
 
-without_notes() { grep -vE '^(library [^ ]+: modules|logic /|note: |(fn|struct|enum) [^ ]+: proved$)' || true; }
+without_notes() { grep -vE '^(library [^ ]+: modules|statements |logic /|note: |rt: note: |(fn|struct|enum|impl) .*: proved$)' || true; }
 
-# Says after each crate how far it is. What the prover says of a crate comes before its verdict, and is shown where that
-# is not "proved".
-progress() {
-    local line said='' n=0 total
-    total=$(count)
+# Proves the crates, the lowest first, and says after each how far it is. What the prover says is shown where a crate is not proved.
+prove() {
+    local name n=0 total
+    total=$(below | wc -l)
     echo "proving $total crates: some minutes, or seconds where nothing has changed"
-    while IFS= read -r line; do
-        case $line in
-        'rt: '*' proved (unchanged'*) n=$((n + 1)) said='' ;;
-        'rt: '*' proved ('*)
-            n=$((n + 1)) said=''
-            echo "$n of $total: ${line#rt: }, $(elapsed) in all"
-            ;;
-        'rt: ok, '*) echo "$n of $total crates are proved" ;;
-        'rt: '*)
-            without_notes <<<"$said$line"
-            said=''
-            ;;
-        *) said+=$line$'\n' ;;
-        esac
+    mkdir -p target
+    for name in $(below); do
+        if ! (cd "crates/$name" && rt check) >target/said 2>&1; then
+            without_notes <target/said >&2
+            return 1
+        fi
+        n=$((n + 1))
+        echo "$n of $total: $name proved, $(elapsed) in all"
     done
-    printf %s "$said"
 }
 
 # The code is many small functions in many crates, of which LLVM by default leaves too many as calls: it is told to inline
-# more (docs/DECISIONS.md), by a toolchain folder whose clang passes the word on. `rt staticlib` takes none, so
+# more (docs/DECISIONS.md), by a toolchain folder whose clang passes the word on. `rt lib` takes none, so
 # `rattle build` is called here with the words that it would pass.
 build_archive() {
-    local kit own name uses
-    kit=${RATTLE_HOME:-$(dirname "$(dirname "$(readlink -f "$(command -v rt)")")")}
-    own=$kit/on/$(uname -m)
+    local uses=(--extern "std=$kit/rlibs/std.rlib") name
     mkdir -p "$work/toolchain"
-    cp -rs "$own/toolchain/." "$work/toolchain"
+    cp -rs "$kit/toolchain/." "$work/toolchain"
     rm "$work/toolchain/bin/clang"
-    printf '#!/bin/sh\nexec "%s" "$@" -mllvm -inline-threshold=5000\n' "$own/toolchain/bin/clang" >"$work/toolchain/bin/clang"
+    printf '#!/bin/sh\nexec "%s" "$@" -mllvm -inline-threshold=5000\n' "$kit/toolchain/bin/clang" >"$work/toolchain/bin/clang"
     chmod +x "$work/toolchain/bin/clang"
 
-    uses=(--extern "std=$own/rlib/std.rlib")
-    for name in $(sed -n "s/^$crate: *//p" crates.txt); do uses+=(--extern "$name=target/rlib/$name.rlib"); done
-    "$own/bin/rattle" build --crate-name "$crate" "crates/$crate/src/lib.rt" "${uses[@]}" -L dependency=target/rlib \
-        -L "dependency=$own/rlib" --antt-project "$kit/logic/antt-project.json" --logic-built "$own/logic-built" \
-        --toolchain "$work/toolchain" --crate-type staticlib -o "$work/libsirqobal.a" >"$work/said" 2>&1 ||
-        { without_notes <"$work/said" >&2 && return 1; }
+    for name in $(sed -n "s/^$crate staticlib: *//p" crates.txt); do
+        uses+=(--extern "$name=../$name/out/rlib/$name.rlib")
+    done
+    uses+=(-L "dependency=$kit/rlibs")
+    for name in $(below); do uses+=(-L "dependency=../$name/out/rlib"); done
+    (cd "crates/$crate" && "$kit/bin/rattle" build --crate-name "$crate" src/lib.rt "${uses[@]}" \
+        --antt-project "$kit/rattle/logic/antt-project.json" --logic-built "$kit/logic_built" --links "$crate=" \
+        --crate-type staticlib --incremental out/incremental --backend llvm --toolchain "../../$work/toolchain" \
+        -o "../../$work/libsirqobal.a") >"$work/said" 2>&1 || { without_notes <"$work/said" >&2 && return 1; }
 }
 
 build_shared() {
@@ -78,10 +71,16 @@ build_shared() {
         -Wl,--whole-archive "$work/libsirqobal.a" -Wl,--no-whole-archive -o "$work/$real"
 }
 
-RT_CUT=0 rt check "$crate" 2>&1 | progress
+prove
 
-# The stamp of a crate is a sum over its files, what it stands on and the kit.
-made_of=$({ cat "target/stamp/$crate" library.sh c/sirqobal.map; echo "$version"; } | sha256sum)
+# A sum over all that the library is made of.
+made_of=$({
+    for name in $(below); do find "crates/$name/src" "crates/$name/specs" "crates/$name/proofs" -type f -print0 2>/dev/null; done |
+        LC_ALL=C sort -z | xargs -0 sha256sum
+    rt version
+    cat library.sh c/sirqobal.map
+    echo "$version"
+} | sha256sum)
 if [ "$(cat build/made_of 2>/dev/null)" = "$made_of" ] && [ -f "$out/libsirqobal.a" ] && [ -f "$out/$real" ]; then
     echo "$out/libsirqobal.a and libsirqobal.so are up to date"
     exit

@@ -14,7 +14,7 @@ ghost use Rattle.std.specs.Prelude.{◌≤◌, length};
 use arena::{Arena, Commitment};
 use calls::kinds::{ActCall, Call, ClaimCall, FreeCall, MemoryCall, QueryCall};
 use layer::{Answer, Kind, Question, Reply, Settings, State, Sweep, Waiting};
-use libc::STDOUT_FILENO;
+use std::io;
 use worked_parts::joins::{Seen, Side};
 use worked_parts::lists::{Listed, Numbers};
 use worked_parts::never::Left;
@@ -26,96 +26,99 @@ const NAME_WIDTH: usize = 58;
 
 const NUMBER_WIDTH: usize = 22;
 
-fn say(text: &[u8]) {
-    io::write_all(STDOUT_FILENO, text);
+fn say(rt: &impl Print, text: &[u8]) -> io::Result<()> {
+    io::writer(rt).write_all(text)
 }
 
 // So many blanks, at most 64.
-fn blanks(n: usize) {
+fn blanks(rt: &impl Print, n: usize) -> io::Result<()> {
     let row = [b' '; 64];
     if n <= 64 {
-        say(&row[64 - n..]);
+        say(rt, &row[64 - n..])?;
     }
+    Ok(())
 }
 
 // A text that is shorter than the column is filled up on the right.
-fn left(text: &[u8]) {
-    say(text);
+fn left(rt: &impl Print, text: &[u8]) -> io::Result<()> {
+    say(rt, text)?;
     if text.len() < NAME_WIDTH {
-        blanks(NAME_WIDTH - text.len());
+        blanks(rt, NAME_WIDTH - text.len())?;
     }
+    Ok(())
 }
 
 // A text that is shorter than the column is filled up on the left.
-fn right(text: &[u8]) {
+fn right(rt: &impl Print, text: &[u8]) -> io::Result<()> {
     if text.len() < NUMBER_WIDTH {
-        blanks(NUMBER_WIDTH - text.len());
+        blanks(rt, NUMBER_WIDTH - text.len())?;
     }
-    say(text);
+    say(rt, text)
 }
 
-fn right_number(n: u64) {
-    let mut text = [0u8; 20];
-    let k = io::decimal(n, &mut text);
-    right(&text[..k]);
+fn right_number(rt: &impl Print, n: u64) -> io::Result<()> {
+    print!(rt; "{n:>22}")
 }
 
-fn right_yes_or_no(yes: bool) {
+fn right_yes_or_no(rt: &impl Print, yes: bool) -> io::Result<()> {
     if yes {
-        right(b"yes");
+        right(rt, b"yes")?;
     } else {
-        right(b"no");
+        right(rt, b"no")?;
     }
+    Ok(())
 }
 
-fn heading(paper: &[u8]) {
-    left(b"case");
-    right(b"our answer");
-    right(paper);
-    say(b"\n");
+fn heading(rt: &impl Print, paper: &[u8]) -> io::Result<()> {
+    left(rt, b"case")?;
+    right(rt, b"our answer")?;
+    right(rt, paper)?;
+    say(rt, b"\n")
 }
 
-fn total(t: Tally) {
-    io::print_decimal(STDOUT_FILENO, t.cases);
-    say(b" cases, ");
-    io::print_decimal(STDOUT_FILENO, t.differ);
-    say(b" differ\n");
+fn total(rt: &impl Print, t: Tally) -> io::Result<()> {
+    print!(rt; "{}", t.cases)?;
+    say(rt, b" cases, ")?;
+    print!(rt; "{}", t.differ)?;
+    say(rt, b" differ\n")
 }
 
 // The end of a case's line, and the case counted.
-fn verdict(t: Tally, same: bool) -> Tally {
+fn verdict(rt: &impl Print, t: Tally, same: bool) -> io::Result<Tally> {
     if same {
-        say(b"  ok\n");
+        say(rt, b"  ok\n")?;
     } else {
-        say(b"  DIFFERS\n");
+        say(rt, b"  DIFFERS\n")?;
     }
-    tally::count(t, same)
+    Ok(tally::count(t, same))
 }
 
 // A case whose answer is a number.
-fn number(t: Tally, name: &[u8], got: u64, want: u64) -> Tally {
-    left(name);
-    right_number(got);
-    right_number(want);
-    verdict(t, got == want)
+fn number(rt: &impl Print, t: Tally, name: &[u8], got: u64, want: u64) -> io::Result<Tally> {
+    left(rt, name)?;
+    right_number(rt, got)?;
+    right_number(rt, want)?;
+    verdict(rt, t, got == want)
 }
 
 // A case whose answer is yes or no.
-fn yes_or_no(t: Tally, name: &[u8], got: bool, want: bool) -> Tally {
-    left(name);
-    right_yes_or_no(got);
-    right_yes_or_no(want);
-    verdict(t, got == want)
+fn yes_or_no(rt: &impl Print, t: Tally, name: &[u8], got: bool, want: bool) -> io::Result<Tally> {
+    left(rt, name)?;
+    right_yes_or_no(rt, got)?;
+    right_yes_or_no(rt, want)?;
+    verdict(rt, t, got == want)
 }
 
-fn masks(t: Tally) -> Tally {
+fn masks(rt: &impl Print, t: Tally) -> io::Result<Tally> {
     let t1 = number(
+        rt,
         t,
         b"mask of 0 low ones",
         bitmap::words::low_ones(0) as u64,
         0,
-    );
+    )?;
     number(
+        rt,
         t1,
         b"mask of 32 low ones",
         bitmap::words::low_ones(32) as u64,
@@ -124,13 +127,14 @@ fn masks(t: Tally) -> Tally {
 }
 
 // Bit j of the words is chunk j, set where it is used.
-fn lowest_runs(t: Tally) -> Tally {
+fn lowest_runs(rt: &impl Print, t: Tally) -> io::Result<Tally> {
     let five: [u32; 1] = [5];
     let a = numbers::start_of(bitmap::runs::lowest_run(&five, true, 5, 2));
-    let t1 = number(t, b"5 chunks, 0 and 2 used: start of a run of 2", a, 3);
+    let t1 = number(rt, t, b"5 chunks, 0 and 2 used: start of a run of 2", a, 3)?;
     let forty: [u32; 2] = [2147483647, 2];
     let b = numbers::start_of(bitmap::runs::lowest_run(&forty, true, 40, 2));
     number(
+        rt,
         t1,
         b"40 chunks, 0 to 30 and 33 used: start of a run of 2",
         b,
@@ -138,28 +142,30 @@ fn lowest_runs(t: Tally) -> Tally {
     )
 }
 
-fn arming(t: Tally) -> Tally {
-    let t1 = number(t, b"arm 50 over 100", clock::arm(100, 50) as u64, 50);
-    let t2 = number(t1, b"arm 100 over 50", clock::arm(50, 100) as u64, 50);
-    let t3 = number(t2, b"arm 0 over 0", clock::arm(0, 0) as u64, 1);
+fn arming(rt: &impl Print, t: Tally) -> io::Result<Tally> {
+    let t1 = number(rt, t, b"arm 50 over 100", clock::arm(100, 50) as u64, 50)?;
+    let t2 = number(rt, t1, b"arm 100 over 50", clock::arm(50, 100) as u64, 50)?;
+    let t3 = number(rt, t2, b"arm 0 over 0", clock::arm(0, 0) as u64, 1)?;
     let a = clock::arm(2147483648, 1) as u64;
-    let t4 = number(t3, b"arm 1 over 2147483648", a, 1);
+    let t4 = number(rt, t3, b"arm 1 over 2147483648", a, 1)?;
     let b = clock::arm(2147483649, 1) as u64;
-    number(t4, b"arm 1 over 2147483649", b, 2147483649)
+    number(rt, t4, b"arm 1 over 2147483649", b, 2147483649)
 }
 
-fn due_tests(t: Tally) -> Tally {
+fn due_tests(rt: &impl Print, t: Tally) -> io::Result<Tally> {
     let a = clock::is_due(5, 4294967290);
-    let t1 = yes_or_no(t, b"is 5 due at 4294967290", a, false);
+    let t1 = yes_or_no(rt, t, b"is 5 due at 4294967290", a, false)?;
     let b = clock::is_due(2147483647, 1);
     let t2 = yes_or_no(
+        rt,
         t1,
         b"is 2147483647 due at 1 (due - now 2147483646)",
         b,
         false,
-    );
+    )?;
     let c = clock::is_due(2147483648, 1);
     yes_or_no(
+        rt,
         t2,
         b"is 2147483648 due at 1 (due - now 2147483647)",
         c,
@@ -167,20 +173,21 @@ fn due_tests(t: Tally) -> Tally {
     )
 }
 
-fn readings(t: Tally) -> Tally {
+fn readings(rt: &impl Print, t: Tally) -> io::Result<Tally> {
     let a = clock::now_ms(999999) as u64;
-    let t1 = number(t, b"999999 ns in ms", a, 1);
+    let t1 = number(rt, t, b"999999 ns in ms", a, 1)?;
     let b = clock::now_ms(4294967296000000) as u64;
-    let t2 = number(t1, b"4294967296000000 ns in ms", b, 1);
+    let t2 = number(rt, t1, b"4294967296000000 ns in ms", b, 1)?;
     let c = clock::delay_ms(1073741824) as u64;
-    number(t2, b"a delay of 1073741824", c, 1073741823)
+    number(rt, t2, b"a delay of 1073741824", c, 1073741823)
 }
 
-fn rounding(t: Tally) -> Tally {
+fn rounding(rt: &impl Print, t: Tally) -> io::Result<Tally> {
     let a = sizes::os::page_align_up(4096, 0);
-    let t1 = number(t, b"page 4096: 0 rounded up", a, 4096);
+    let t1 = number(rt, t, b"page 4096: 0 rounded up", a, 4096)?;
     let b = sizes::os::page_align_up(4096, u64::MAX);
     number(
+        rt,
         t1,
         b"page 4096: 2^64 - 1 rounded up",
         b,
@@ -188,55 +195,56 @@ fn rounding(t: Tally) -> Tally {
     )
 }
 
-fn alignment(t: Tally) -> Tally {
+fn alignment(rt: &impl Print, t: Tally) -> io::Result<Tally> {
     let a = sizes::bins::is_aligned_to(4096, 4096);
-    let t1 = yes_or_no(t, b"is 4096 aligned to 4096", a, true);
+    let t1 = yes_or_no(rt, t, b"is 4096 aligned to 4096", a, true)?;
     let b = sizes::bins::is_aligned_to(4096, 0);
-    let t2 = yes_or_no(t1, b"is 4096 aligned to 0", b, false);
+    let t2 = yes_or_no(rt, t1, b"is 4096 aligned to 0", b, false)?;
     let c = sizes::bins::is_aligned_to(4096, 3);
-    yes_or_no(t2, b"is 4096 aligned to 3", c, false)
+    yes_or_no(rt, t2, b"is 4096 aligned to 3", c, false)
 }
 
-fn run_taken(t: Tally) -> Tally {
+fn run_taken(rt: &impl Print, t: Tally) -> io::Result<Tally> {
     let mut pool = [0u32; 2048];
     let a = numbers::free_refusal(slice_pool::free_range(&mut pool, 65536, 131072));
     let t1 = number(
+        rt,
         t,
         b"slices: free 131072 bytes at 65536: refusal (0: none)",
         a,
         0,
-    );
+    )?;
     let b = numbers::address_of(slice_pool::alloc_run(&mut pool, 2));
-    number(t1, b"slices: then a run of 2: address", b, 65536)
+    number(rt, t1, b"slices: then a run of 2: address", b, 65536)
 }
 
-fn runs_refused(t: Tally) -> Tally {
+fn runs_refused(rt: &impl Print, t: Tally) -> io::Result<Tally> {
     let mut short = [0u32; 2047];
     let a = numbers::run_refusal(slice_pool::alloc_run(&mut short, 1));
-    let t1 = number(t, b"slices: a run over 2047 words: refusal", a, 1);
+    let t1 = number(rt, t, b"slices: a run over 2047 words: refusal", a, 1)?;
     let mut pool = [0u32; 2048];
     let b = numbers::run_refusal(slice_pool::alloc_run(&mut pool, 0));
-    let t2 = number(t1, b"slices: a run of 0: refusal", b, 4);
+    let t2 = number(rt, t1, b"slices: a run of 0: refusal", b, 4)?;
     let c = numbers::run_refusal(slice_pool::alloc_run(&mut pool, 1));
-    let t3 = number(t2, b"slices: a run of 1 in an empty pool: refusal", c, 10);
+    let t3 = number(rt, t2, b"slices: a run of 1 in an empty pool: refusal", c, 10)?;
     let mut full = [4294967295u32; 2048];
     let d = numbers::run_refusal(slice_pool::alloc_run(&mut full, 65537));
-    number(t3, b"slices: a run of 65537 in a full pool: refusal", d, 10)
+    number(rt, t3, b"slices: a run of 65537 in a full pool: refusal", d, 10)
 }
 
-fn frees_refused(t: Tally) -> Tally {
+fn frees_refused(rt: &impl Print, t: Tally) -> io::Result<Tally> {
     let mut short = [0u32; 2047];
     let a = numbers::free_refusal(slice_pool::free_range(&mut short, 65536, 65536));
-    let t1 = number(t, b"slices: a free over 2047 words: refusal", a, 1);
+    let t1 = number(rt, t, b"slices: a free over 2047 words: refusal", a, 1)?;
     let mut pool = [0u32; 2048];
     let b = numbers::free_refusal(slice_pool::free_range(&mut pool, 65536, 0));
-    let t2 = number(t1, b"slices: a free of size 0: refusal", b, 4);
+    let t2 = number(rt, t1, b"slices: a free of size 0: refusal", b, 4)?;
     let c = numbers::free_refusal(slice_pool::free_range(&mut pool, 1, 65536));
-    let t3 = number(t2, b"slices: a free at 1: refusal", c, 7);
+    let t3 = number(rt, t2, b"slices: a free at 1: refusal", c, 7)?;
     let d = numbers::free_refusal(slice_pool::free_range(&mut pool, 0, 65536));
-    let t4 = number(t3, b"slices: a free at 0: refusal", d, 8);
+    let t4 = number(rt, t3, b"slices: a free at 0: refusal", d, 8)?;
     let e = numbers::free_refusal(slice_pool::free_range(&mut pool, 4294967296, 65536));
-    number(t4, b"slices: a free at 2^32: refusal", e, 9)
+    number(rt, t4, b"slices: a free at 2^32: refusal", e, 9)
 }
 
 // ---- the lent table of arenas: the example of "Turned down"
@@ -418,26 +426,29 @@ fn area_chunks(r: Reply) -> u64 {
 }
 
 // A case whose last call is refused.
-fn refused(t: Tally, name: &[u8], c: Case, want: u64) -> Tally {
-    number(t, name, refusal(answered(settings(false), c)), want)
+fn refused(rt: &impl Print, t: Tally, name: &[u8], c: Case, want: u64) -> io::Result<Tally> {
+    number(rt, t, name, refusal(answered(settings(false), c)), want)
 }
 
-fn arenas_registered(t: Tally) -> Tally {
+fn arenas_registered(rt: &impl Print, t: Tally) -> io::Result<Tally> {
     let managed = answered(settings(false), twice(manage(1, 67108864, true), area(1)));
     let t1 = number(
+        rt,
         t,
         b"arenas: manage 1, size 67108864: base",
         area_base(managed),
         33554432,
-    );
+    )?;
     let t2 = number(
+        rt,
         t1,
         b"arenas: manage 1, size 67108864: chunks",
         area_chunks(managed),
         1,
-    );
+    )?;
     let adopted = answered(settings(false), twice(adopt(1207959552, 33554432), area(0)));
     number(
+        rt,
         t2,
         b"arenas: adopt S at 1207959552: chunks of arena 0",
         area_chunks(adopted),
@@ -446,64 +457,68 @@ fn arenas_registered(t: Tally) -> Tally {
 }
 
 // Rows 1 to 5 of the table of refusals.
-fn lending_refused(t: Tally) -> Tally {
+fn lending_refused(rt: &impl Print, t: Tally) -> io::Result<Tally> {
     let short = refusal(answered_short(settings(false), claim(0, 1)));
-    let t1 = number(t, b"arenas: a claim with 32767 stamps: refusal", short, 1);
+    let t1 = number(rt, t, b"arenas: a claim with 32767 stamps: refusal", short, 1)?;
     let purging = thrice(release(1073741824, 1, true), forced_sweep(), claim(0, 1));
     let t2 = refused(
+        rt,
         t1,
         b"arenas: a claim during a purge question: refusal",
         purging,
         2,
-    );
+    )?;
     let unasked = once(answer(Kind::ForCommit, true));
     let t3 = refused(
+        rt,
         t2,
         b"arenas: an answer to an idle layer: refusal",
         unasked,
         3,
-    );
-    let t4 = refused(t3, b"arenas: id 0, run of 0: refusal", once(claim(0, 0)), 4);
+    )?;
+    let t4 = refused(rt, t3, b"arenas: id 0, run of 0: refusal", once(claim(0, 0)), 4)?;
     let off = refusal(answered(settings(true), once(claim(-1, 1))));
-    number(t4, b"arenas: id -1, option 27 on: refusal", off, 5)
+    number(rt, t4, b"arenas: id -1, option 27 on: refusal", off, 5)
 }
 
 // Rows 6 to 9.
-fn addresses_refused(t: Tally) -> Tally {
+fn addresses_refused(rt: &impl Print, t: Tally) -> io::Result<Tally> {
     let a = once(adopt(1073741824, 33554432));
-    let t1 = refused(t, b"arenas: adopt S at 1073741824: refusal", a, 6);
+    let t1 = refused(rt, t, b"arenas: adopt S at 1073741824: refusal", a, 6)?;
     let b = once(release(1073741825, 1, false));
-    let t2 = refused(t1, b"arenas: release 1 at 1073741825: refusal", b, 7);
+    let t2 = refused(rt, t1, b"arenas: release 1 at 1073741825: refusal", b, 7)?;
     let c = once(release(1207959552, 1, false));
-    let t3 = refused(t2, b"arenas: release 1 at 1207959552: refusal", c, 8);
+    let t3 = refused(rt, t2, b"arenas: release 1 at 1207959552: refusal", c, 8)?;
     let d = once(release(1073741824, 5, false));
-    refused(t3, b"arenas: release 5 at the base: refusal", d, 9)
+    refused(rt, t3, b"arenas: release 5 at the base: refusal", d, 9)
 }
 
 // Rows 10 to 13. Beside the example's arena 31 blocks stand before the last.
-fn runs_and_counts_refused(t: Tally) -> Tally {
-    let t1 = refused(t, b"arenas: id 0, run of 5: refusal", once(claim(0, 5)), 10);
+fn runs_and_counts_refused(rt: &impl Print, t: Tally) -> io::Result<Tally> {
+    let t1 = refused(rt, t, b"arenas: id 0, run of 5: refusal", once(claim(0, 5)), 10)?;
     let no = twice(claim(0, 1), answer(Kind::ForCommit, false));
-    let t2 = refused(t1, b"arenas: a claim at id 0, then no: refusal", no, 11);
+    let t2 = refused(rt, t1, b"arenas: a claim at id 0, then no: refusal", no, 11)?;
     let large = once(adopt(68719476736, 34393292800));
     let t3 = refused(
+        rt,
         t2,
         b"arenas: adopt 34393292800 at 68719476736: refusal",
         large,
         12,
-    );
+    )?;
     let full = case_of(32, block(3), block(2), block(1));
-    refused(t3, b"arenas: a 33rd separate block: refusal", full, 13)
+    refused(rt, t3, b"arenas: a 33rd separate block: refusal", full, 13)
 }
 
 // Rows 14 to 16.
-fn memory_refused(t: Tally) -> Tally {
+fn memory_refused(rt: &impl Print, t: Tally) -> io::Result<Tally> {
     let no = twice(reserve(33554432), answer(Kind::ForMemory, false));
-    let t1 = refused(t, b"arenas: reserve S, then no: refusal", no, 14);
+    let t1 = refused(rt, t, b"arenas: reserve S, then no: refusal", no, 14)?;
     let ragged = once(manage(1, 33554432, true));
-    let t2 = refused(t1, b"arenas: manage 1, size S: refusal", ragged, 15);
+    let t2 = refused(rt, t1, b"arenas: manage 1, size S: refusal", ragged, 15)?;
     let unknown = once(manage(33554432, 67108864, false));
     refused(
+        rt,
         t2,
         b"arenas: manage S, size 2S, not reserved: refusal",
         unknown,
@@ -511,25 +526,25 @@ fn memory_refused(t: Tally) -> Tally {
     )
 }
 
-fn table() {
-    heading(b"document 01");
+fn table(rt: &impl Print) -> io::Result<()> {
+    heading(rt, b"document 01")?;
     let mut t = tally::none_yet();
-    t = masks(t);
-    t = lowest_runs(t);
-    t = arming(t);
-    t = due_tests(t);
-    t = readings(t);
-    t = rounding(t);
-    t = alignment(t);
-    t = run_taken(t);
-    t = runs_refused(t);
-    t = frees_refused(t);
-    t = arenas_registered(t);
-    t = lending_refused(t);
-    t = addresses_refused(t);
-    t = runs_and_counts_refused(t);
-    t = memory_refused(t);
-    total(t);
+    t = masks(rt, t)?;
+    t = lowest_runs(rt, t)?;
+    t = arming(rt, t)?;
+    t = due_tests(rt, t)?;
+    t = readings(rt, t)?;
+    t = rounding(rt, t)?;
+    t = alignment(rt, t)?;
+    t = run_taken(rt, t)?;
+    t = runs_refused(rt, t)?;
+    t = frees_refused(rt, t)?;
+    t = arenas_registered(rt, t)?;
+    t = lending_refused(rt, t)?;
+    t = addresses_refused(rt, t)?;
+    t = runs_and_counts_refused(rt, t)?;
+    t = memory_refused(rt, t)?;
+    total(rt, t)
 }
 
 // ---- document 02, wish 1: two tables joined
@@ -732,22 +747,25 @@ fn second_owns(s: Seen) -> bool {
 }
 
 // A join that is granted, by what the joined table has at the second's first new id.
-fn granted(t: Tally, name: &[u8], s: Seen, rise: u64, base: u64) -> Tally {
-    let t1 = number(t, name, join_refusal(s), 0);
+fn granted(rt: &impl Print, t: Tally, name: &[u8], s: Seen, rise: u64, base: u64) -> io::Result<Tally> {
+    let t1 = number(rt, t, name, join_refusal(s), 0)?;
     let t2 = number(
+        rt,
         t1,
         b"   by how much the second's ids rise",
         join_rise(s),
         rise,
-    );
+    )?;
     let found = s.first;
     let t3 = number(
+        rt,
         t2,
         b"   base of the arena at the first id that rose (0: none)",
         area_base(found.range),
         base,
-    );
+    )?;
     yes_or_no(
+        rt,
         t3,
         b"   does the second own its range still",
         second_owns(s),
@@ -756,9 +774,10 @@ fn granted(t: Tally, name: &[u8], s: Seen, rise: u64, base: u64) -> Tally {
 }
 
 // A join that is refused: the second owns its range as before.
-fn turned_down(t: Tally, name: &[u8], s: Seen, want: u64) -> Tally {
-    let t1 = number(t, name, join_refusal(s), want);
+fn turned_down(rt: &impl Print, t: Tally, name: &[u8], s: Seen, want: u64) -> io::Result<Tally> {
+    let t1 = number(rt, t, name, join_refusal(s), want)?;
     yes_or_no(
+        rt,
         t1,
         b"   does the second own its range still",
         second_owns(s),
@@ -767,57 +786,63 @@ fn turned_down(t: Tally, name: &[u8], s: Seen, want: u64) -> Tally {
 }
 
 // Stamps, deadlines, used and dirty bits come along.
-fn one_and_one(t: Tally) -> Tally {
+fn one_and_one(rt: &impl Print, t: Tally) -> io::Result<Tally> {
     let first = free_table(1073741824);
     let second = held_table(2147483648);
     let s = joined_at(first, second, 1, 49, 4096);
     let t1 = granted(
+        rt,
         t,
         b"join: one arena and one apart: refusal (0: none)",
         s,
         1,
         2147483648,
-    );
+    )?;
     let found = s.first;
     let swept = refusal(found.swept);
     let t2 = number(
+        rt,
         t1,
         b"   a sweep before its chunk is due: refusal (255: asks)",
         swept,
         0,
-    );
+    )?;
     let claimed = area_base(found.claimed);
     let t3 = number(
+        rt,
         t2,
         b"   a claim there: the lowest free chunk",
         claimed,
         2181038080,
-    );
+    )?;
     let fresh = surface::reply::reply_of(found.claimed).fresh;
-    let t4 = yes_or_no(t3, b"   is it fresh", fresh, false);
+    let t4 = yes_or_no(rt, t3, b"   is it fresh", fresh, false)?;
     let later = joined_at(first, second, 1, 50, 4096);
     let asks = later.first;
     let t5 = number(
+        rt,
         t4,
         b"   a sweep when it is due: refusal (255: asks)",
         refusal(asks.swept),
         255,
-    );
+    )?;
     let asked = area_base(asks.swept);
-    number(t5, b"   it asks about the chunk at", asked, 2181038080)
+    number(rt, t5, b"   it asks about the chunk at", asked, 2181038080)
 }
 
-fn ids_by_table(t: Tally) -> Tally {
+fn ids_by_table(rt: &impl Print, t: Tally) -> io::Result<Tally> {
     let a = joined_now(free_table(1073741824), free_table(1207959552), 1);
     let t1 = granted(
+        rt,
         t,
         b"join: neighbouring ranges: refusal (0: none)",
         a,
         1,
         1207959552,
-    );
+    )?;
     let b = joined_now(free_table(2147483648), free_table(1073741824), 1);
     granted(
+        rt,
         t1,
         b"join: the second's base below: refusal (0: none)",
         b,
@@ -826,50 +851,55 @@ fn ids_by_table(t: Tally) -> Tally {
     )
 }
 
-fn empty_sides(t: Tally) -> Tally {
+fn empty_sides(rt: &impl Print, t: Tally) -> io::Result<Tally> {
     let one = held_table(2147483648);
     let none = counted_table(1073741824, 0);
     let a = joined_now(none, one, 0);
     let t1 = granted(
+        rt,
         t,
         b"join: an empty first: refusal (0: none)",
         a,
         0,
         2147483648,
-    );
+    )?;
     let b = joined_now(one, none, 1);
-    let t2 = granted(t1, b"join: an empty second: refusal (0: none)", b, 1, 0);
+    let t2 = granted(rt, t1, b"join: an empty second: refusal (0: none)", b, 1, 0)?;
     let c = joined_now(none, none, 0);
-    granted(t2, b"join: both empty: refusal (0: none)", c, 0, 0)
+    granted(rt, t2, b"join: both empty: refusal (0: none)", c, 0, 0)
 }
 
 // Rows 17 and 18. Blocks from chunk 2,048 on are in the first, from 4,096 on in the second.
-fn ranges_and_counts(t: Tally) -> Tally {
+fn ranges_and_counts(rt: &impl Print, t: Tally) -> io::Result<Tally> {
     let one = free_table(1073741824);
     let shares = free_table(1174405120);
     let t1 = turned_down(
+        rt,
         t,
         b"join: one chunk in both: refusal",
         joined_now(one, shares, 0),
         17,
-    );
+    )?;
     let full = block_table(1073741824, 31, 2048);
     let t2 = turned_down(
+        rt,
         t1,
         b"join: one chunk in both, 33 arenas: refusal",
         joined_now(full, shares, 0),
         17,
-    );
+    )?;
     let apart = free_table(2147483648);
     let t3 = turned_down(
+        rt,
         t2,
         b"join: 33 arenas apart: refusal",
         joined_now(full, apart, 0),
         18,
-    );
+    )?;
     let half = block_table(1073741824, 15, 2048);
     let other = block_table(2147483648, 15, 4096);
     granted(
+        rt,
         t3,
         b"join: 16 arenas and 16: refusal (0: none)",
         joined_now(half, other, 16),
@@ -879,30 +909,33 @@ fn ranges_and_counts(t: Tally) -> Tally {
 }
 
 // Rows 1 and 2.
-fn rows_one_and_two(t: Tally) -> Tally {
+fn rows_one_and_two(rt: &impl Print, t: Tally) -> io::Result<Tally> {
     let one = free_table(1073741824);
     let asks = asking_table(1073741824);
     let purges = purging_table(2147483648, true);
     let a = joined_now(asks, held_table(2147483648), 0);
-    let t1 = turned_down(t, b"join: a question open in the first: refusal", a, 2);
+    let t1 = turned_down(rt, t, b"join: a question open in the first: refusal", a, 2)?;
     let b = joined_now(one, purges, 0);
-    let t2 = turned_down(t1, b"join: a question open in the second: refusal", b, 2);
+    let t2 = turned_down(rt, t1, b"join: a question open in the second: refusal", b, 2)?;
     let c = joined_now(asks, one, 0);
     let t3 = turned_down(
+        rt,
         t2,
         b"join: a question, and one range in both: refusal",
         c,
         2,
-    );
+    )?;
     let broken = joined_now(asks, counted_table(2147483648, 33), 0);
     let t4 = number(
+        rt,
         t3,
         b"join: a question, and a second of 33 arenas: refusal",
         join_refusal(broken),
         1,
-    );
+    )?;
     let page = joined_at(asks, purges, 0, 1, 1);
     number(
+        rt,
         t4,
         b"join: questions, and a page of 1 byte: refusal",
         join_refusal(page),
@@ -910,19 +943,19 @@ fn rows_one_and_two(t: Tally) -> Tally {
     )
 }
 
-fn marks(t: Tally) -> Tally {
+fn marks(rt: &impl Print, t: Tally) -> io::Result<Tally> {
     let yes = marked_table(1073741824, true);
     let no = marked_table(1073741824, false);
     let other = marked_table(2147483648, true);
     let plain = marked_table(2147483648, false);
     let a = join_mark(joined_now(no, plain, 1));
-    let t1 = yes_or_no(t, b"join: no give-up mark: is it set", a, false);
+    let t1 = yes_or_no(rt, t, b"join: no give-up mark: is it set", a, false)?;
     let b = join_mark(joined_now(yes, plain, 1));
-    let t2 = yes_or_no(t1, b"join: the mark in the first: is it set", b, false);
+    let t2 = yes_or_no(rt, t1, b"join: the mark in the first: is it set", b, false)?;
     let c = join_mark(joined_now(no, other, 1));
-    let t3 = yes_or_no(t2, b"join: the mark in the second: is it set", c, false);
+    let t3 = yes_or_no(rt, t2, b"join: the mark in the second: is it set", c, false)?;
     let d = join_mark(joined_now(yes, other, 1));
-    yes_or_no(t3, b"join: the mark in both: is it set", d, true)
+    yes_or_no(rt, t3, b"join: the mark in both: is it set", d, true)
 }
 
 // ---- document 02, wish 2: a negative purge delay
@@ -1025,167 +1058,168 @@ fn pending_bits(a: Arena) -> u64 {
     words[0] as u64
 }
 
-fn pending_then(t: Tally, f: Left, want: u64) -> Tally {
+fn pending_then(rt: &impl Print, t: Tally, f: Left, want: u64) -> io::Result<Tally> {
     let a = f.arena;
-    number(t, b"   pending chunks then (bits)", pending_bits(a), want)
+    number(rt, t, b"   pending chunks then (bits)", pending_bits(a), want)
 }
 
-fn deadline_then(t: Tally, f: Left, want: u64) -> Tally {
+fn deadline_then(rt: &impl Print, t: Tally, f: Left, want: u64) -> io::Result<Tally> {
     let a = f.arena;
-    number(t, b"   deadline", a.deadline as u64, want)
+    number(rt, t, b"   deadline", a.deadline as u64, want)
 }
 
-fn swept_unforced(t: Tally, f: Left, want: u64) -> Tally {
+fn swept_unforced(rt: &impl Print, t: Tally, f: Left, want: u64) -> io::Result<Tally> {
     let got = refusal(f.swept);
-    number(t, b"   an unforced sweep: refusal (255: asks)", got, want)
+    number(rt, t, b"   an unforced sweep: refusal (255: asks)", got, want)
 }
 
-fn swept_forced(t: Tally, f: Left, want: u64) -> Tally {
+fn swept_forced(rt: &impl Print, t: Tally, f: Left, want: u64) -> io::Result<Tally> {
     let got = refusal(f.swept);
-    number(t, b"   a forced sweep: refusal (255: asks)", got, want)
+    number(rt, t, b"   a forced sweep: refusal (255: asks)", got, want)
 }
 
-fn asked_chunk(t: Tally, f: Left, want: u64) -> Tally {
+fn asked_chunk(rt: &impl Print, t: Tally, f: Left, want: u64) -> io::Result<Tally> {
     let got = area_base(f.swept);
-    number(t, b"   it asks about the chunk at", got, want)
+    number(rt, t, b"   it asks about the chunk at", got, want)
 }
 
 // A release that is granted, by the chunks that are pending then.
-fn let_go(t: Tally, name: &[u8], f: Left, pending: u64) -> Tally {
-    let t1 = number(t, name, refusal(f.released), 0);
-    pending_then(t1, f, pending)
+fn let_go(rt: &impl Print, t: Tally, name: &[u8], f: Left, pending: u64) -> io::Result<Tally> {
+    let t1 = number(rt, t, name, refusal(f.released), 0)?;
+    pending_then(rt, t1, f, pending)
 }
 
 // The used bit of chunk 0 is cleared with any delay; its stamp and the sweep go by the delay.
-fn let_go_of_0(
-    t: Tally,
+fn let_go_of_0(rt: &impl Print, t: Tally,
     name: &[u8],
     f: Left,
     pending: u64,
     stamp: u64,
     sweeps: u64,
-    deadline: u64,
-) -> Tally {
-    let t1 = let_go(t, name, f, pending);
+    deadline: u64,) -> io::Result<Tally> {
+    let t1 = let_go(rt, t, name, f, pending)?;
     let a = f.arena;
-    let t2 = number(t1, b"   used chunks then (bits)", used_bits(a), 4);
-    let t3 = number(t2, b"   stamp of the chunk", f.stamp as u64, stamp);
-    let t4 = deadline_then(t3, f, 20);
-    let t5 = swept_unforced(t4, f, sweeps);
+    let t2 = number(rt, t1, b"   used chunks then (bits)", used_bits(a), 4)?;
+    let t3 = number(rt, t2, b"   stamp of the chunk", f.stamp as u64, stamp)?;
+    let t4 = deadline_then(rt, t3, f, 20)?;
+    let t5 = swept_unforced(rt, t4, f, sweeps)?;
     let b = f.kept;
-    number(t5, b"   deadline after it", b.deadline as u64, deadline)
+    number(rt, t5, b"   deadline after it", b.deadline as u64, deadline)
 }
 
 // An older chunk is pending, and the deadline is past: all stays as it is but the used bit. 0 is not negative: it
 // marks, stamps and asks.
-fn marks_nothing(t: Tally) -> Tally {
+fn marks_nothing(rt: &impl Print, t: Tally) -> io::Result<Tally> {
     let f = freed_chunk(older_table(), -1, 0, false);
     let name = b"never: chunk 0 released with -1: refusal (0: none)";
-    let t1 = let_go_of_0(t, name, f, 2, 10, 0, 20);
-    let t2 = number(t1, b"   a yes then: refusal", refusal(f.answered), 3);
+    let t1 = let_go_of_0(rt, t, name, f, 2, 10, 0, 20)?;
+    let t2 = number(rt, t1, b"   a yes then: refusal", refusal(f.answered), 3)?;
     let g = freed_chunk(older_table(), 0, 0, false);
     let same = b"never: the same with 0: refusal (0: none)";
-    let t3 = let_go_of_0(t2, same, g, 3, 50, 255, 0);
-    asked_chunk(t3, g, 1073741824)
+    let t3 = let_go_of_0(rt, t2, same, g, 3, 50, 255, 0)?;
+    asked_chunk(rt, t3, g, 1073741824)
 }
 
 // Not -1 alone.
-fn below_minus_one(t: Tally) -> Tally {
+fn below_minus_one(rt: &impl Print, t: Tally) -> io::Result<Tally> {
     let f = freed_chunk(older_table(), -2, 0, false);
     let name = b"never: the same with -2: refusal (0: none)";
-    let t1 = let_go(t, name, f, 2);
-    let t2 = swept_unforced(t1, f, 0);
+    let t1 = let_go(rt, t, name, f, 2)?;
+    let t2 = swept_unforced(rt, t1, f, 0)?;
     let g = freed_chunk(older_table(), i64::MIN, 0, false);
     let least = b"never: the same with -2^63: refusal (0: none)";
-    let t3 = let_go(t2, least, g, 2);
-    swept_unforced(t3, g, 0)
+    let t3 = let_go(rt, t2, least, g, 2)?;
+    swept_unforced(rt, t3, g, 0)
 }
 
 // No chunk is pending, and no deadline is set.
-fn arms_nothing(t: Tally) -> Tally {
+fn arms_nothing(rt: &impl Print, t: Tally) -> io::Result<Tally> {
     let f = freed_chunk(pending_table(0, 0), -1, 0, true);
     let name = b"never: -1, none pending before: refusal (0: none)";
-    let t1 = let_go(t, name, f, 0);
-    let t2 = deadline_then(t1, f, 0);
-    let t3 = swept_forced(t2, f, 0);
+    let t1 = let_go(rt, t, name, f, 0)?;
+    let t2 = deadline_then(rt, t1, f, 0)?;
+    let t3 = swept_forced(rt, t2, f, 0)?;
     let g = freed_chunk(pending_table(0, 0), 0, 0, false);
     let zero = b"never: 0, none pending before: refusal (0: none)";
-    let t4 = let_go(t3, zero, g, 1);
-    let t5 = deadline_then(t4, g, 50);
-    swept_unforced(t5, g, 255)
+    let t4 = let_go(rt, t3, zero, g, 1)?;
+    let t5 = deadline_then(rt, t4, g, 50)?;
+    swept_unforced(rt, t5, g, 255)
 }
 
 // Chunk 1 is pending still when it is released.
-fn unmarks_nothing(t: Tally) -> Tally {
+fn unmarks_nothing(rt: &impl Print, t: Tally) -> io::Result<Tally> {
     let f = freed_chunk(older_table(), -1, 1, false);
     let name = b"never: -1, pending chunk 1 released: refusal (0: none)";
-    let t1 = let_go(t, name, f, 2);
-    let t2 = number(t1, b"   stamp of the chunk", f.stamp as u64, 10);
-    swept_unforced(t2, f, 0)
+    let t1 = let_go(rt, t, name, f, 2)?;
+    let t2 = number(rt, t1, b"   stamp of the chunk", f.stamp as u64, 10)?;
+    swept_unforced(rt, t2, f, 0)
 }
 
 // "a forced sweep works as before": it asks about the older chunks alone. A yes reads no delay.
-fn forced_sweeps(t: Tally) -> Tally {
+fn forced_sweeps(rt: &impl Print, t: Tally) -> io::Result<Tally> {
     let f = freed_chunk(pending_table(10, 20), -1, 0, true);
     let name = b"never: -1, 1 and 3 pending: refusal (0: none)";
-    let t1 = let_go(t, name, f, 10);
-    let t2 = swept_forced(t1, f, 255);
-    let t3 = asked_chunk(t2, f, 1107296256);
+    let t1 = let_go(rt, t, name, f, 10)?;
+    let t2 = swept_forced(rt, t1, f, 255)?;
+    let t3 = asked_chunk(rt, t2, f, 1107296256)?;
     let next = area_base(f.answered);
-    let t4 = number(t3, b"   a yes: then about the chunk at", next, 1174405120);
+    let t4 = number(rt, t3, b"   a yes: then about the chunk at", next, 1174405120)?;
     let g = freed_chunk(older_table(), i64::MIN, 0, true);
     let t5 = number(
+        rt,
         t4,
         b"never: -2^63, 1 pending: a forced sweep (255: asks)",
         refusal(g.swept),
         255,
-    );
+    )?;
     let ended = surface::reply::reply_of(g.answered).count;
-    number(t5, b"   a yes ends it: chunks purged", ended as u64, 1)
+    number(rt, t5, b"   a yes ends it: chunks purged", ended as u64, 1)
 }
 
 // What is told of commitment is obeyed.
-fn told_is_obeyed(t: Tally) -> Tally {
+fn told_is_obeyed(rt: &impl Print, t: Tally) -> io::Result<Tally> {
     let yes = Commitment::Committed;
     let f = freed_at(older_table(), -1, 1174405120, 3, yes, false);
     let a = f.arena;
     let t1 = number(
+        rt,
         t,
         b"never: -1, chunk 3 told committed: committed (bits)",
         committed_bits(a),
         15,
-    );
+    )?;
     let no = Commitment::Uncommitted;
     let g = freed_at(older_table(), -1, 1073741824, 0, no, false);
     let b = g.arena;
     let t2 = number(
+        rt,
         t1,
         b"never: -1, chunk 0 told uncommitted: committed (bits)",
         committed_bits(b),
         6,
-    );
-    pending_then(t2, g, 2)
+    )?;
+    pending_then(rt, t2, g, 2)
 }
 
 // A release that is refused, and the sweep after it.
-fn not_let_go(t: Tally, name: &[u8], f: Left, want: u64, sweeps: u64) -> Tally {
-    let t1 = number(t, name, refusal(f.released), want);
-    swept_unforced(t1, f, sweeps)
+fn not_let_go(rt: &impl Print, t: Tally, name: &[u8], f: Left, want: u64, sweeps: u64) -> io::Result<Tally> {
+    let t1 = number(rt, t, name, refusal(f.released), want)?;
+    swept_unforced(rt, t1, f, sweeps)
 }
 
 // Rows 1 and 2 come first, then the release's own. A sweep that is under way goes on with a yes.
-fn rows_with_minus_one(t: Tally) -> Tally {
+fn rows_with_minus_one(rt: &impl Print, t: Tally) -> io::Result<Tally> {
     let many = freed_chunk(counted_table(1073741824, 33), -1, 0, false);
-    let t1 = not_let_go(t, b"never: -1, 33 arenas: refusal", many, 1, 1);
+    let t1 = not_let_go(rt, t, b"never: -1, 33 arenas: refusal", many, 1, 1)?;
     let asks = freed_chunk(purging_table(1073741824, false), -1, 0, false);
-    let t2 = not_let_go(t1, b"never: -1, a purge question: refusal", asks, 2, 2);
+    let t2 = not_let_go(rt, t1, b"never: -1, a purge question: refusal", asks, 2, 2)?;
     let next = area_base(asks.answered);
-    let t3 = number(t2, b"   a yes: then about the chunk at", next, 1107296256);
+    let t3 = number(rt, t2, b"   a yes: then about the chunk at", next, 1107296256)?;
     let told = Commitment::Untold;
     let out = freed_at(older_table(), -1, 1207959552, 4, told, false);
-    let t4 = not_let_go(t3, b"never: -1, past the arena: refusal", out, 8, 0);
+    let t4 = not_let_go(rt, t3, b"never: -1, past the arena: refusal", out, 8, 0)?;
     let part = freed_at(older_table(), -1, 1073741825, 0, told, false);
-    not_let_go(t4, b"never: -1, part of a chunk: refusal", part, 7, 0)
+    not_let_go(rt, t4, b"never: -1, part of a chunk: refusal", part, 7, 0)
 }
 
 // ---- document 02, wish 3: a list of releases
@@ -1334,7 +1368,7 @@ fn digit(n: u32, there: bool) -> u8 {
     if n < 10 { b'0' + n as u8 } else { b'?' }
 }
 
-fn right_numbers(n: Numbers, places: usize) {
+fn right_numbers(rt: &impl Print, n: Numbers, places: usize) -> io::Result<()> {
     let text = [
         digit(n.at_0, 0 < places),
         b' ',
@@ -1346,65 +1380,66 @@ fn right_numbers(n: Numbers, places: usize) {
         b' ',
         digit(n.at_4, 4 < places),
     ];
-    right(&text);
+    right(rt, &text)
 }
 
 // The list of answers.
-fn numbers_then(t: Tally, l: Listed, places: usize, want: Numbers) -> Tally {
-    left(b"   the list of answers (0: granted, 6: as lent)");
-    right_numbers(l.numbers, places);
-    right_numbers(want, places);
-    verdict(t, same_numbers(l.numbers, want))
+fn numbers_then(rt: &impl Print, t: Tally, l: Listed, places: usize, want: Numbers) -> io::Result<Tally> {
+    left(rt, b"   the list of answers (0: granted, 6: as lent)")?;
+    right_numbers(rt, l.numbers, places)?;
+    right_numbers(rt, want, places)?;
+    verdict(rt, t, same_numbers(l.numbers, want))
 }
 
-fn used_then(t: Tally, l: Listed, want: u64) -> Tally {
+fn used_then(rt: &impl Print, t: Tally, l: Listed, want: u64) -> io::Result<Tally> {
     let a = l.first;
-    number(t, b"   used chunks then (bits)", used_bits(a), want)
+    number(rt, t, b"   used chunks then (bits)", used_bits(a), want)
 }
 
 // A list that is granted, by its answers and the used chunks then.
-fn listed_all(t: Tally, name: &[u8], l: Listed, places: usize, want: Numbers, used: u64) -> Tally {
-    let t1 = number(t, name, refusal(l.reply), 0);
-    let t2 = numbers_then(t1, l, places, want);
-    used_then(t2, l, used)
+fn listed_all(rt: &impl Print, t: Tally, name: &[u8], l: Listed, places: usize, want: Numbers, used: u64) -> io::Result<Tally> {
+    let t1 = number(rt, t, name, refusal(l.reply), 0)?;
+    let t2 = numbers_then(rt, t1, l, places, want)?;
+    used_then(rt, t2, l, used)
 }
 
 // A list that is refused as a whole: its answers and the used chunks are as they were.
-fn listed_none(t: Tally, name: &[u8], l: Listed, why: u64, places: usize, want: Numbers) -> Tally {
-    let t1 = number(t, name, refusal(l.reply), why);
-    let t2 = numbers_then(t1, l, places, want);
-    used_then(t2, l, 5)
+fn listed_none(rt: &impl Print, t: Tally, name: &[u8], l: Listed, why: u64, places: usize, want: Numbers) -> io::Result<Tally> {
+    let t1 = number(rt, t, name, refusal(l.reply), why)?;
+    let t2 = numbers_then(rt, t1, l, places, want)?;
+    used_then(rt, t2, l, 5)
 }
 
 // What a list leaves of what waits for a purge in the arena.
-fn waits_then(t: Tally, l: Listed, pending: u64, stamp: u64, deadline: u64) -> Tally {
+fn waits_then(rt: &impl Print, t: Tally, l: Listed, pending: u64, stamp: u64, deadline: u64) -> io::Result<Tally> {
     let a = l.first;
     let t1 = number(
+        rt,
         t,
         b"   pending chunks then (bits)",
         pending_bits(a),
         pending,
-    );
-    let t2 = number(t1, b"   stamp of chunk 0", l.stamp as u64, stamp);
-    number(t2, b"   deadline", a.deadline as u64, deadline)
+    )?;
+    let t2 = number(rt, t1, b"   stamp of chunk 0", l.stamp as u64, stamp)?;
+    number(rt, t2, b"   deadline", a.deadline as u64, deadline)
 }
 
 // "it says nothing of commitment"
-fn released_by_list(t: Tally) -> Tally {
+fn released_by_list(rt: &impl Print, t: Tally) -> io::Result<Tally> {
     let l = listed_at(older_table(), 40, chunks(2), false);
     let name = b"list: chunks 0 and 2: refusal (0: none)";
-    let t1 = listed_all(t, name, l, 2, two_numbers(0, 0), 0);
-    let t2 = waits_then(t1, l, 2, 10, 20);
+    let t1 = listed_all(rt, t, name, l, 2, two_numbers(0, 0), 0)?;
+    let t2 = waits_then(rt, t1, l, 2, 10, 20)?;
     let a = l.first;
-    number(t2, b"   committed chunks then (bits)", committed_bits(a), 7)
+    number(rt, t2, b"   committed chunks then (bits)", committed_bits(a), 7)
 }
 
 // A refused item does not stop the list. Of an item with several faults the first row counts: 4, 8, 7, 9.
-fn items_refused(t: Tally) -> Tally {
+fn items_refused(rt: &impl Print, t: Tally) -> io::Result<Tally> {
     let past = lists_of([1073741824, 1207959552, 1140850688, 0, 0], [1; 5], 3);
     let a = listed_at(older_table(), 40, past, false);
     let one = b"list: chunk 0, past the arena, chunk 2: refusal";
-    let t1 = listed_all(t, one, a, 3, numbers_of(0, 8, 0, 0, 0), 0);
+    let t1 = listed_all(rt, t, one, a, 3, numbers_of(0, 8, 0, 0, 0), 0)?;
     let each = lists_of(
         [1207959553, 1207959553, 1073741825, 1073741824, 1073741824],
         [0, 5, 5, 5, 1],
@@ -1412,79 +1447,82 @@ fn items_refused(t: Tally) -> Tally {
     );
     let b = listed_at(older_table(), 40, each, false);
     let rows = b"list: each row of a release, then chunk 0: refusal";
-    listed_all(t1, rows, b, 5, numbers_of(4, 8, 7, 9, 0), 4)
+    listed_all(rt, t1, rows, b, 5, numbers_of(4, 8, 7, 9, 0), 4)
 }
 
-fn items_meet(t: Tally) -> Tally {
+fn items_meet(rt: &impl Print, t: Tally) -> io::Result<Tally> {
     let twice = lists_of([1073741824; 5], [1; 5], 2);
     let a = listed_at(older_table(), 40, twice, false);
     let same = b"list: chunk 0 twice: refusal (0: none)";
-    let t1 = listed_all(t, same, a, 2, two_numbers(0, 0), 4);
+    let t1 = listed_all(rt, t, same, a, 2, two_numbers(0, 0), 4)?;
     let over = lists_of([1073741824, 1107296256, 0, 0, 0], [2; 5], 2);
     let b = listed_at(older_table(), 40, over, false);
     let shared = b"list: chunks 0 and 1, then 1 and 2: refusal (0: none)";
-    listed_all(t1, shared, b, 2, two_numbers(0, 0), 0)
+    listed_all(rt, t1, shared, b, 2, two_numbers(0, 0), 0)
 }
 
 // The deadline of the arena is the earlier one; the block had none.
-fn two_arenas(t: Tally) -> Tally {
+fn two_arenas(rt: &impl Print, t: Tally) -> io::Result<Tally> {
     let l = listed_at(older_table(), 40, chunks(3), true);
     let name = b"list: chunks 0 and 2 and the block, pending: refusal";
-    let t1 = listed_all(t, name, l, 3, numbers_of(0, 0, 0, 0, 0), 0);
-    let t2 = waits_then(t1, l, 7, 50, 20);
+    let t1 = listed_all(rt, t, name, l, 3, numbers_of(0, 0, 0, 0, 0), 0)?;
+    let t2 = waits_then(rt, t1, l, 7, 50, 20)?;
     let b = l.second;
-    let t3 = number(t2, b"   pending chunks of the block", pending_bits(b), 1);
-    number(t3, b"   deadline of the block", b.deadline as u64, 90)
+    let t3 = number(rt, t2, b"   pending chunks of the block", pending_bits(b), 1)?;
+    number(rt, t3, b"   deadline of the block", b.deadline as u64, 90)
 }
 
 // One flag for all; with a negative delay a pending release is one not pending.
-fn pending_lists(t: Tally) -> Tally {
+fn pending_lists(rt: &impl Print, t: Tally) -> io::Result<Tally> {
     let none = pending_table(0, 0);
     let a = listed_at(none, 40, chunks(2), true);
     let name = b"list: pending, none before: refusal (0: none)";
-    let t1 = listed_all(t, name, a, 2, two_numbers(0, 0), 0);
-    let t2 = waits_then(t1, a, 5, 50, 90);
+    let t1 = listed_all(rt, t, name, a, 2, two_numbers(0, 0), 0)?;
+    let t2 = waits_then(rt, t1, a, 5, 50, 90)?;
     let b = listed_at(none, -1, chunks(2), true);
     let never = b"list: the same with a delay of -1: refusal (0: none)";
-    let t3 = listed_all(t2, never, b, 2, two_numbers(0, 0), 0);
-    waits_then(t3, b, 0, 10, 0)
+    let t3 = listed_all(rt, t2, never, b, 2, two_numbers(0, 0), 0)?;
+    waits_then(rt, t3, b, 0, 10, 0)
 }
 
-fn empty_list(t: Tally) -> Tally {
+fn empty_list(rt: &impl Print, t: Tally) -> io::Result<Tally> {
     let l = listed_at(pending_table(0, 0), 40, chunks(0), true);
     let t1 = number(
+        rt,
         t,
         b"list: empty, pending: refusal (0: none)",
         refusal(l.reply),
         0,
-    );
-    let t2 = used_then(t1, l, 5);
-    waits_then(t2, l, 0, 10, 0)
+    )?;
+    let t2 = used_then(rt, t1, l, 5)?;
+    waits_then(rt, t2, l, 0, 10, 0)
 }
 
 // "19 when the three lengths differ", "checked after 2".
-fn lengths_differ(t: Tally) -> Tally {
+fn lengths_differ(rt: &impl Print, t: Tally) -> io::Result<Tally> {
     let lent = two_numbers(6, 6);
     let a = listed_at(older_table(), 40, uneven(2, 1, 2), true);
-    let t1 = listed_none(t, b"list: a count too few: refusal", a, 19, 2, lent);
+    let t1 = listed_none(rt, t, b"list: a count too few: refusal", a, 19, 2, lent)?;
     let b = listed_at(older_table(), 40, uneven(2, 2, 1), true);
     let one = two_numbers(6, 0);
-    let t2 = listed_none(t1, b"list: an answer too few: refusal", b, 19, 1, one);
+    let t2 = listed_none(rt, t1, b"list: an answer too few: refusal", b, 19, 1, one)?;
     let c = listed_at(older_table(), 40, uneven(1, 2, 2), true);
-    let t3 = listed_none(t2, b"list: an address too few: refusal", c, 19, 2, lent);
+    let t3 = listed_none(rt, t2, b"list: an address too few: refusal", c, 19, 2, lent)?;
     let asks = purging_table(1073741824, true);
     let d = listed_at(asks, 40, uneven(2, 1, 2), true);
     let t4 = listed_none(
+        rt,
         t3,
         b"list: a question, a count too few: refusal",
         d,
         2,
         2,
         lent,
-    );
+    )?;
     let many = counted_table(1073741824, 33);
     let f = listed_at(many, 40, uneven(2, 1, 2), true);
     listed_none(
+        rt,
         t4,
         b"list: 33 arenas, a count too few: refusal",
         f,
@@ -1494,71 +1532,71 @@ fn lengths_differ(t: Tally) -> Tally {
     )
 }
 
-fn wishes_table() {
-    heading(b"document 02");
+fn wishes_table(rt: &impl Print) -> io::Result<()> {
+    heading(rt, b"document 02")?;
     let mut t = tally::none_yet();
-    t = one_and_one(t);
-    t = ids_by_table(t);
-    t = empty_sides(t);
-    t = ranges_and_counts(t);
-    t = rows_one_and_two(t);
-    t = marks(t);
-    t = marks_nothing(t);
-    t = below_minus_one(t);
-    t = arms_nothing(t);
-    t = unmarks_nothing(t);
-    t = forced_sweeps(t);
-    t = told_is_obeyed(t);
-    t = rows_with_minus_one(t);
-    t = released_by_list(t);
-    t = items_refused(t);
-    t = items_meet(t);
-    t = two_arenas(t);
-    t = pending_lists(t);
-    t = empty_list(t);
-    t = lengths_differ(t);
-    total(t);
+    t = one_and_one(rt, t)?;
+    t = ids_by_table(rt, t)?;
+    t = empty_sides(rt, t)?;
+    t = ranges_and_counts(rt, t)?;
+    t = rows_one_and_two(rt, t)?;
+    t = marks(rt, t)?;
+    t = marks_nothing(rt, t)?;
+    t = below_minus_one(rt, t)?;
+    t = arms_nothing(rt, t)?;
+    t = unmarks_nothing(rt, t)?;
+    t = forced_sweeps(rt, t)?;
+    t = told_is_obeyed(rt, t)?;
+    t = rows_with_minus_one(rt, t)?;
+    t = released_by_list(rt, t)?;
+    t = items_refused(rt, t)?;
+    t = items_meet(rt, t)?;
+    t = two_arenas(rt, t)?;
+    t = pending_lists(rt, t)?;
+    t = empty_list(rt, t)?;
+    t = lengths_differ(rt, t)?;
+    total(rt, t)
 }
 
-fn row(pool: &[u32])
+fn row(rt: &impl Print, pool: &[u32]) -> io::Result<()>
     requires { 4 ≤ length pool.now }
 {
     let text = picture::draw(pool);
-    say(&text);
-    say(b"\n");
+    say(rt, &text)?;
+    say(rt, b"\n")
 }
 
 // Takes a run of so many slices, and says where.
-fn take(pool: &mut [u32], slices: u64) {
-    say(b"a run of ");
-    io::print_decimal(STDOUT_FILENO, slices);
+fn take(rt: &impl Print, pool: &mut [u32], slices: u64) -> io::Result<()> {
+    say(rt, b"a run of ")?;
+    print!(rt; "{}", slices)?;
     let at = numbers::address_of(slice_pool::alloc_run(pool, slices));
-    say(b": slice ");
-    io::print_decimal(STDOUT_FILENO, at / 65536);
-    say(b"\n");
+    say(rt, b": slice ")?;
+    print!(rt; "{}", at / 65536)?;
+    say(rt, b"\n")
 }
 
 // A pool at work: runs taken, one freed, and a shorter one taken from where it was.
-fn show() {
+fn show(rt: &impl Print) -> io::Result<()> {
     let mut pool = [0u32; 2048];
-    say(b"96 slices free, from slice 1 on\n");
+    say(rt, b"96 slices free, from slice 1 on\n")?;
     slice_pool::free_range(&mut pool, 65536, 6291456);
-    row(&pool);
-    take(&mut pool, 3);
-    row(&pool);
-    take(&mut pool, 5);
-    row(&pool);
-    take(&mut pool, 40);
-    row(&pool);
-    say(b"the run of 5 freed\n");
+    row(rt, &pool)?;
+    take(rt, &mut pool, 3)?;
+    row(rt, &pool)?;
+    take(rt, &mut pool, 5)?;
+    row(rt, &pool)?;
+    take(rt, &mut pool, 40)?;
+    row(rt, &pool)?;
+    say(rt, b"the run of 5 freed\n")?;
     slice_pool::free_range(&mut pool, 262144, 327680);
-    row(&pool);
-    take(&mut pool, 4);
-    row(&pool);
+    row(rt, &pool)?;
+    take(rt, &mut pool, 4)?;
+    row(rt, &pool)
 }
 
-fn main() {
-    table();
-    wishes_table();
-    show();
+fn main(rt: HostRuntime) -> io::Result<()> {
+    table(&rt)?;
+    wishes_table(&rt)?;
+    show(&rt)
 }

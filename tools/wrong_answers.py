@@ -8,14 +8,13 @@ each other share a check, and the prover must refuse the functions that they nam
 facts of their own, and say nothing else: `shown` tells what is said of a fact from what shows nothing. A must-fail edit that
 has no such line is left to `rt`, and counts for no function.
 
-A walk that names what each call is passed is refused there, by the two values, where the code passes something else, and its
-contract is not looked at. That shows nothing: a walk finds what is passed in the code (walks/proofs/Operands).
+Two edits keep clear of each other if no function is made wrong by both, and none is made wrong by one and calls what the other
+makes wrong: the prover looks at no function that calls one which is not proved.
 
-Two edits keep clear of each other if no function is made wrong by both, and none is made wrong by one and fails with the other
-as a caller; but such a caller may be, where its proof is in parts that are checked each by itself (they name its module Tie, or
-the walk takes what it calls as given) and the other edit changes no contract: then what is said of its parts is of its own answer.
+A goal is named after what the code compares and computes there, so an edit of a condition may give it another name, and the answer
+written for it has none then. The prover says how the goal is called now; the answer is tried on it, under that name.
 
-A check starts from the crate as it was proved, where target/ has that, and takes the modules that the edits leave alone from
+A check starts from the crate as it was proved, where its out/ has that, and takes the modules that the edits leave alone from
 there. Every public function of a crate with such edits must be made wrong by two or more.
 
 Usage: wrong_answers.py [NAME...]. With no name, all crates that have such edits. What they stand on and library.sh
@@ -32,24 +31,24 @@ from concurrent.futures import ThreadPoolExecutor
 from pathlib import Path
 
 ROOT = Path(__file__).resolve().parent.parent
-RLIB = ROOT / "target" / "rlib"
 WORK = ROOT / "target" / "wrong"
 
 # What the prover has against a declaration: the file, the declaration, and what it says, with the lines below that belong to it.
 ERROR = re.compile(r"^(\S+?):\d+:\d+: error: (?:`([^`]+)`: )?(.*(?:\n .*)*)", re.M)
 
 # It looks no further where something that is cited has failed.
-CITED = re.compile(r"`([^`]+)` was not admitted ")
+CITED = re.compile(r"(?:1 declaration|\d+ declarations) that depends? on `([^`]+)`|`([^`]+)` was not admitted ")
 
 # What is to be proved does not follow from what is known, or is another thing than what is shown.
 FACT = re.compile(
-    r"`\w+`: (?:no proof of|the goal does not follow|the part `[^`]+` of the goal does not follow)|give a proof of that as the last"
+    r"(?:no proof of|the goal does not follow|the part `[^`]+` of the goal does not follow)|give a proof of that as the last"
     r"|does not hold \(this comparison|the two (?:types|values) (?:first differ|differ|are)|expected type `[^`]*`,? *\n? *but this has type"
 )
 
-# What is to be proved, where that is no fact but a piece of the code that the proof goes through: a need or a place of it, a
-# step of a walk as an operand of a call, or what stands in the walk's context where it is read.
-PIECE = re.compile(r"expected type `(?:tie\.|\S+\.(?:Tie|Lts)\.|types\.|\S*_≡_ \{2\} \{A = (?:types\.Kit\.)?Item )")
+# A goal, or a fact of one, that is called otherwise in the edited code, and how.
+RENAMED = re.compile(
+    r"has no (?:field )?`([^`]+)`[^\n]*?(?:did you mean `([^`]+)`\?|begin alike: `([^`]+)`|can be named here are ([^\n]*))"
+)
 
 
 class Edit:
@@ -79,33 +78,13 @@ class Edit:
     def fails(self):
         return self.wrong | self.callers
 
-    def keeps_contracts(self):
-        """Whether it changes the bodies of functions alone."""
-        for file, old, _ in self.changes:
-            before, _, behind = (self.crate / file).read_text().partition(old)
-            lines = before.rpartition("\n")[2] + old + behind.partition("\n")[0]
-            if not file.startswith("src/") or re.search("ensures|requires|⌜", lines):
-                return False
-        return True
-
-    def shows_beside(self, other):
-        """Whether its wrong functions are seen to be wrong where they call one that the other edit makes wrong."""
-        calling = self.wrong & other.callers
-        return not calling or other.keeps_contracts() and all(in_parts(self.crate, f) for f in calling)
-
     def clear_of(self, other):
-        return not self.wrong & other.wrong and self.shows_beside(other) and other.shows_beside(self)
+        return not (self.wrong & other.wrong or self.wrong & other.callers or other.wrong & self.callers)
 
 
-def proof(crate, function):
-    """The file of a function's proof."""
-    return crate / "proofs" / function.replace("::", "/") / "Proof.antt"
-
-
-def in_parts(crate, function):
-    """Whether the function's proof is in parts that are checked each by itself."""
-    file = proof(crate, function)
-    return file.is_file() and re.search(r"\.Tie as | : Triple 𝓤 \(𝓣 \.C #", file.read_text()) is not None
+def answers(crate, function):
+    """The folder of what is written for a function's proof."""
+    return crate / "proofs" / function.replace("::", "/")
 
 
 def make(crate, group):
@@ -176,71 +155,85 @@ def dependencies():
     """Each crate of crates.txt with what it stands on."""
     lines = (line.split("#")[0] for line in (ROOT / "crates.txt").read_text().split("\n"))
     pairs = (line.split(":") for line in lines if ":" in line)
-    return {name.strip(): deps.split() for name, deps in pairs}
+    return {name.split()[0]: deps.split() for name, deps in pairs}
+
+
+def statics():
+    """The crates of crates.txt that are static libraries."""
+    return re.findall(r"^(\w+) staticlib:", (ROOT / "crates.txt").read_text(), re.M)
 
 
 class Prover:
-    """The kit's prover, over the crates as target/rlib has them."""
+    """The kit's prover, over the crates as their out/ has them."""
 
     def __init__(self):
         guide = subprocess.run(["rt", "doc"], capture_output=True, text=True, check=True).stdout
-        self.home = Path(guide.strip()).parent.parent
-        self.own = self.home / "on" / os.uname().machine
+        self.kit = Path(guide.strip()).parent
         self.deps = dependencies()
+        self.static = statics()
 
-    def check(self, name, crate, kept):
-        """Its exit status and what it says of the crate in this folder, where it keeps checked modules in `kept`."""
-        words = [self.own / "bin" / "rattle", "check", "--crate-name", name, crate / "src" / "lib.rt"]
-        words += ["--extern", f"std={self.own}/rlib/std.rlib"]
+    def below(self, name):
+        """The repository's crates that it stands on."""
+        found = {}
         for dep in self.deps[name]:
-            words += ["--extern", f"{dep}={RLIB if dep in self.deps else self.own / 'rlib'}/{dep}.rlib"]
-        words += ["-L", f"dependency={RLIB}", "-L", f"dependency={self.own}/rlib"]
-        words += ["--antt-project", self.home / "logic" / "antt-project.json"]
-        words += ["--logic-built", self.own / "logic-built", "--incremental", kept]
-        run = subprocess.run(words, stdout=subprocess.PIPE, stderr=subprocess.STDOUT, text=True, check=False)
+            found |= self.below(dep) | {dep: None} if dep in self.deps else {}
+        return found
+
+    def check(self, name, crate):
+        """Its exit status and what it says of the crate in this folder."""
+        rlib = lambda dep: ROOT / "crates" / dep / "out" / "rlib"
+        words = [self.kit / "bin" / "rattle", "check", "--crate-name", name, "src/lib.rt"]
+        words += ["--extern", f"std={self.kit}/rlibs/std.rlib", "-L", f"dependency={self.kit}/rlibs"]
+        for dep in self.deps[name]:
+            words += ["--extern", f"{dep}={rlib(dep)}/{dep}.rlib" if dep in self.deps else f"{dep}={self.kit}/rlibs/{dep}.rlib"]
+        for dep in self.below(name):
+            words += ["-L", f"dependency={rlib(dep)}"]
+        words += ["--antt-project", self.kit / "rattle" / "logic" / "antt-project.json"]
+        words += ["--logic-built", self.kit / "logic_built", "--links", f"{name}=", "--incremental", "out/incremental"]
+        words += ["--crate-type", "staticlib"] * (name in self.static)
+        run = subprocess.run(words, cwd=crate, stdout=subprocess.PIPE, stderr=subprocess.STDOUT, text=True, check=False)
         return run.returncode, run.stdout
 
-    def folder(self, name):
-        """What the prover calls the folder of its own build below the one where it keeps checked modules."""
-        kept = WORK / "kept"
-        kept.mkdir(parents=True)
-        self.check(name, ROOT / "crates" / name, kept)
-        return next(kept.iterdir()).name
+
+def verdicts(name, said):
+    """What the prover says of each function of the crate that is not proved."""
+    found = re.findall(rf"^fn {name}::(\S+?): (.*)$", said, re.M)
+    return {function: line for function, line in found if line != "proved"}
 
 
-def refused_in(name, said):
-    """The functions of the crate that are not proved."""
-    found = re.findall(rf"^fn {name}::(\S+?): (proved$)?", said, re.M)
-    return {function for function, proved in found if not proved}
+def calls_refused(line):
+    """Whether a function is not proved since it calls one that is not."""
+    return re.search(r"(?:it calls|a call of) `[^`]+`, which (?:is not proved|has no proof)", line) is not None
 
 
 def shown(reason):
     """What the prover's reason shows: a fact that fails, that something cited fails, or nothing."""
-    if CITED.match(reason):
+    if CITED.search(reason):
         return "cited"
-    return "fact" if FACT.search(reason) and not PIECE.search(reason) else "nothing"
+    return "fact" if FACT.search(reason) else "nothing"
 
 
 def shown_of(name, crate, function, said):
     """What the reasons show for which the function itself is refused; of a law that it cites, what is said of the law."""
+    line = verdicts(name, said).get(function, "")
+    found = {"fact"} if "`search` did not prove " in line else set()
     errors = ERROR.findall(said)
-    file = proof(crate, function)
-    if not file.is_file():
-        return {"fact"} if re.search(rf"^fn {name}::{function}: .*`search` does not close ", said, re.M) else set()
-    found, reasons, seen = set(), [reason for at, _, reason in errors if at == str(file)], set()
+    own = f"./proofs/{function.replace('::', '/')}/"
+    reasons, seen = [reason for at, _, reason in errors if at.startswith(own)], set()
     while reasons:
         reason = reasons.pop()
         found.add(shown(reason))
-        law = CITED.match(reason)
-        if law and law[1] not in seen:
-            seen.add(law[1])
-            reasons += [more for at, title, more in errors if title == law[1] and is_law(crate, at)]
+        law = CITED.search(reason)
+        title = law and (law[1] or law[2])
+        if law and title not in seen:
+            seen.add(title)
+            reasons += [more for at, other, more in errors if other == title and is_law(at)]
     return found
 
 
-def is_law(crate, file):
-    """Whether a file has laws that proofs cite, and is no function's own proof."""
-    return Path(file).is_relative_to(crate / "proofs") and Path(file).name != "Proof.antt"
+def is_law(file):
+    """Whether a file has laws that proofs cite, and is no function's own answers."""
+    return file.startswith("./proofs/") and Path(file).name not in ("Answers.antt", "Invariants.antt", "Proof.antt")
 
 
 def faults(name, crate, group, status, said):
@@ -250,18 +243,41 @@ def faults(name, crate, group, status, said):
     unfit = [reason.split("\n")[0][:200] for _, _, reason in ERROR.findall(said) if shown(reason) == "nothing"]
     if unfit:
         return [f"that shows nothing: {unfit[0]}"]
-    refused = refused_in(name, said)
+    lines = verdicts(name, said)
     named = set().union(*(edit.fails() for edit in group))
-    found = [f"{function} is proved, and an edit names it" for function in sorted(named - refused)]
-    found += [f"{function} is not proved, and no edit names it" for function in sorted(refused - named)]
+    found = [f"{function} is proved, and an edit names it" for function in sorted(named - set(lines))]
+    found += [f"{function} is not proved, and no edit names it" for function in sorted(set(lines) - named)]
     for edit in group:
-        for function in sorted(edit.wrong & refused):
-            if "fact" not in shown_of(name, crate, function, said):
+        for function in sorted(edit.wrong & set(lines)):
+            if calls_refused(lines[function]) or "fact" not in shown_of(name, crate, function, said):
                 found.append(f"{function} is not refused for its own fact")
     return found
 
 
-def try_group(prover, folder, name, number, group):
+def tried_by_name(crate, said):
+    """Gives each answer whose goal is called otherwise in the edited code its goal's name now. Says whether there was one."""
+    turned = False
+    for file, _, reason in ERROR.findall(said):
+        again = RENAMED.search(reason)
+        path = crate / file
+        if not again or Path(file).name not in ("Answers.antt", "Invariants.antt") or not path.is_file():
+            continue
+        old = again[1]
+        new = again[2] or again[3] or alike(old, re.findall("`([^`]+)`", again[4] or ""))
+        text = path.read_text()
+        changed = re.sub(rf"(?<![\w'-]){re.escape(old)}(?![\w'-])", new, text) if new else text
+        if changed != text:
+            path.write_text(changed)
+            turned = True
+    return turned
+
+
+def alike(name, others):
+    """The name that begins most alike."""
+    return max(others, key=lambda other: len(os.path.commonprefix([name, other])), default=None)
+
+
+def try_group(prover, name, number, group):
     """Makes the group's edits in a copy of the crate, and says what is wrong with the prover's answer."""
     crate = WORK / name / str(number)
     for part in ("src", "specs", "proofs"):
@@ -271,32 +287,39 @@ def try_group(prover, folder, name, number, group):
         make(crate, group)
     except ValueError as fault:
         return [str(fault)]
-    proved = RLIB / f"{name}.rlib" / "toolchain" / "checked"
+    proved = ROOT / "crates" / name / "out" / "incremental"
     if proved.is_dir():
-        shutil.copytree(proved, crate / "kept" / folder)
-    status, said = prover.check(name, crate, crate / "kept")
-    shutil.rmtree(crate / "kept")
+        shutil.copytree(proved, crate / "out" / "incremental")
+    status, said = prover.check(name, crate)
+    for _ in range(4):
+        if not tried_by_name(crate, said):
+            break
+        status, said = prover.check(name, crate)
+    shutil.rmtree(crate / "out")
     (crate / "log").write_text(said)
     return faults(name, crate, group, status, said)
+
+
+def prove(names):
+    """Proves crates and what they stand on."""
+    for name in names:
+        proving = subprocess.run(["rt", "check"], cwd=ROOT / "crates" / name, capture_output=True, text=True, check=False)
+        if proving.returncode:
+            sys.exit(proving.stdout + proving.stderr)
 
 
 def main():
     prover = Prover()
     few = [line for n in sys.argv[1:] or prover.deps for line in too_few(n)]
     names = sys.argv[1:] or [n for n in prover.deps if own(n)]
-    missing = sorted({d for n in names for d in prover.deps[n] if d in prover.deps and not (RLIB / f"{d}.rlib").is_dir()})
-    if missing:
-        proving = subprocess.run(["rt", "check", *missing], capture_output=True, text=True, check=False)
-        if proving.returncode:
-            sys.exit(proving.stdout + proving.stderr)
+    prove(names)
     shutil.rmtree(WORK, ignore_errors=True)
     began = time.time()
-    folder = prover.folder(names[0])
     groups = {n: grouped(own(n)) for n in names}
     # The dear crates stand last in crates.txt: begun first, they leave no processor idle at the end.
     tasks = [(n, k, g) for n in reversed(names) for k, g in enumerate(groups[n])]
     with ThreadPoolExecutor(len(os.sched_getaffinity(0))) as pool:
-        answers = list(pool.map(lambda task: try_group(prover, folder, *task), tasks))
+        answers = list(pool.map(lambda task: try_group(prover, *task), tasks))
     for (name, number, group), found in zip(tasks, answers):
         for fault in found:
             print(f"wrong answers of {name}, check {number} ({' '.join(e.label for e in group)}): {fault}")

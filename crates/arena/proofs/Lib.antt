@@ -1,8 +1,6 @@
 pub mod Prelude
 pub mod FlagLaws
 pub mod MovingLaws
-pub mod Remade
-pub mod Callable
 pub mod PlaceLaws
 pub mod SoundLaws
 pub mod RowLaws

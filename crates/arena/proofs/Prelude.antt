@@ -1,6 +1,5 @@
 -- What proofs over one arena's record cite of the kit and of the crates below, passed on by one name. Assumes nothing.
 pub use Prim.Native.Nat.{◌%◌, ◌*◌, ◌+◌, ◌-◌, ◌/◌, ◌<◌, ◌^◌, ◌≤◌, suc, zero, ℕ}
-pub use borrow.Author.Rules.{rules}
 pub use borrow.Author.Tests.{eq-eqb, eqb-true, le-leb, leb-true, lt-ltb, ltb-true}
 pub use lib.Bits.{bit_and}
 pub use lib.Dec.{eqb, leb, ltb}
@@ -11,8 +10,6 @@ pub use mathlib.Core.List.{List, [], ◌++◌}
 pub use mathlib.Core.Logic.{◌↔◌, ⊎_elim}
 pub use mathlib.Core.Path.{◌∙◌, ◌≡◌, ap, ap₂, refl, subst, sym}
 pub use native.Mathlib.Omega.{arith}
-pub use Rattle.clock.specs.Clock.{age_of}
-unfoldable pub use Rattle.clock.specs.Clock.{armed}
 pub use Rattle.bitmap.proofs.runs.LowestLaws.{First}
 pub use Rattle.bitmap.proofs.runs.SearchLaws.{and_both, same}
 pub use Rattle.bitmap.proofs.words.BitLaws.{bit_high}
@@ -26,10 +23,10 @@ pub use Rattle.bitmap.specs.declared.runs.Found.TheVariants.{At, Nothing}
 unfoldable pub use Rattle.arena.specs.Claiming.{commit_run, dirty_run, finish_grant, give_back_run, take_run}
 pub use Rattle.arena.specs.Maps.{armed_for}
 unfoldable pub use Rattle.arena.specs.Maps.{next_deadline, next_in, wait_in}
-pub use Rattle.arena.specs.Record.{with_committed, with_deadline}
+pub use Rattle.arena.specs.Record.{with_deadline}
 pub use Rattle.arena.specs.Registering.{each_bit, no_bits}
 unfoldable pub use Rattle.arena.specs.Registering.{grown_arena, new_arena}
-unfoldable pub use Rattle.arena.specs.Releasing.{pend_run, release_run, stamp_run, tell_run, told_row}
+unfoldable pub use Rattle.arena.specs.Releasing.{pend_run, release_run, stamp_run, tell_run}
 pub use Rattle.arena.specs.Rows.{IsRow, Rows}
 unfoldable pub use Rattle.arena.specs.Soundness.{clear_past, sound_range}
 pub use Rattle.arena.specs.Sweeping.{nearer, rearm_at}

@@ -7,6 +7,7 @@ ghost use Rattle.arena.specs.Releasing.{told_row, tell_run, pend_run};
 use crate::{Arena, Commitment};
 
 // The run's used bits set.
+#[tactic(auto, unfolding(crate::specs::Claiming::take_run))]
 pub fn take_run(a: Arena, s: usize, n: usize) -> Arena
     requires { s + n ≤ 1024 }
     ensures { result ≡ take_run a s n }
@@ -17,6 +18,7 @@ pub fn take_run(a: Arena, s: usize, n: usize) -> Arena
 }
 
 // The run granted: its used and its dirty bits set.
+#[tactic(auto, unfolding(crate::specs::Claiming::take_run, crate::specs::Claiming::dirty_run))]
 pub fn grant_run(a: Arena, s: usize, n: usize) -> Arena
     requires { s + n ≤ 1024 }
     ensures { result ≡ dirty_run (take_run a s n) s n }
@@ -33,6 +35,7 @@ pub fn grant_run(a: Arena, s: usize, n: usize) -> Arena
 }
 
 // The run that was taken granted after all, and committed.
+#[tactic(auto, unfolding(crate::specs::Claiming::commit_run, crate::specs::Claiming::dirty_run, crate::specs::Claiming::finish_grant))]
 pub fn finish_grant(a: Arena, s: usize, n: usize) -> Arena
     requires { s + n ≤ 1024 }
     ensures { result ≡ finish_grant a s n true }
@@ -49,6 +52,7 @@ pub fn finish_grant(a: Arena, s: usize, n: usize) -> Arena
 }
 
 // The run's used bits cleared, held or not.
+#[tactic(auto, unfolding(crate::specs::Claiming::give_back_run))]
 pub fn give_back_run(a: Arena, s: usize, n: usize) -> Arena
     requires { s + n ≤ 1024 }
     ensures { result ≡ give_back_run a s n }
@@ -59,6 +63,7 @@ pub fn give_back_run(a: Arena, s: usize, n: usize) -> Arena
 }
 
 // A run of the map of committed chunks set, cleared or left, as the release says.
+#[tactic(auto, unfolding(crate::specs::Releasing::told_row))]
 fn row_told(row: [u32; 32], s: usize, n: usize, told: Commitment) -> [u32; 32]
     requires { s + n ≤ 1024 }
     ensures { result ≡ told_row row s n told }
@@ -71,6 +76,7 @@ fn row_told(row: [u32; 32], s: usize, n: usize, told: Commitment) -> [u32; 32]
 }
 
 // The run released: its used bits cleared, held or not, and its commitment told.
+#[tactic(auto, unfolding(crate::specs::Claiming::give_back_run, crate::specs::Releasing::told_row, crate::specs::Releasing::tell_run))]
 pub fn release_run(a: Arena, s: usize, n: usize, told: Commitment) -> Arena
     requires { s + n ≤ 1024 }
     ensures { result ≡ tell_run (give_back_run a s n) s n told }
@@ -87,6 +93,7 @@ pub fn release_run(a: Arena, s: usize, n: usize, told: Commitment) -> Arena
 }
 
 // The same, with its pending bits set and the deadline armed.
+#[tactic(auto, unfolding(crate::specs::Claiming::give_back_run, crate::specs::Releasing::told_row, crate::specs::Releasing::tell_run, crate::specs::Releasing::pend_run))]
 pub fn release_pending(a: Arena, s: usize, n: usize, told: Commitment, ms: u32, delay: u32) -> Arena
     requires { s + n ≤ 1024 }
     ensures { result ≡ pend_run (tell_run (give_back_run a s n) s n told) s n ms delay }

@@ -8,6 +8,7 @@ ghost use Rattle.arena.specs.Sweeping.{disarm, borrow_chunk, return_chunk};
 use crate::Arena;
 
 // The arena is disarmed, and chunk j's used bit is set while the host is asked to purge it.
+#[tactic(auto, unfolding(crate::specs::Claiming::take_run, crate::specs::Sweeping::disarm, crate::specs::Sweeping::borrow_chunk))]
 pub fn first_borrowed(a: Arena, j: usize) -> Arena
     requires { j < 1024 }
     ensures { result ≡ borrow_chunk (disarm a) j }
@@ -43,6 +44,7 @@ fn row_purged(row: [u32; 32], j: usize, granted: bool, decommit: bool) -> [u32; 
 
 // Chunk j comes back after the host's answer, neither used nor pending, and not committed where it was
 // decommitted; chunk k is borrowed for the next question.
+#[tactic(auto, unfolding(crate::specs::Claiming::take_run, crate::specs::Claiming::give_back_run, crate::specs::Releasing::tell_run, crate::specs::Sweeping::borrow_chunk, crate::specs::Sweeping::unpend_chunk, crate::specs::Sweeping::return_chunk))]
 pub fn next_borrowed(a: Arena, j: usize, granted: bool, decommit: bool, k: usize) -> Arena
     requires { (j < 1024) × (k < 1024) }
     ensures { result ≡ borrow_chunk (return_chunk a j granted decommit) k }
@@ -63,6 +65,7 @@ pub fn next_borrowed(a: Arena, j: usize, granted: bool, decommit: bool, k: usize
 }
 
 // Chunk j comes back, and the deadline is another.
+#[tactic(auto, unfolding(crate::specs::Claiming::give_back_run, crate::specs::Releasing::tell_run, crate::specs::Sweeping::unpend_chunk, crate::specs::Sweeping::return_chunk))]
 pub fn last_returned(a: Arena, j: usize, granted: bool, decommit: bool, deadline: u32) -> Arena
     requires { j < 1024 }
     ensures { result ≡ with_deadline (return_chunk a j granted decommit) deadline }

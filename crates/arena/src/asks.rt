@@ -7,6 +7,7 @@ ghost use Rattle.arena.specs.Maps.{next_in};
 use bitmap::runs::Found;
 
 // Whether chunk j is too young to be asked about; a forced sweep judges no age.
+#[tactic(auto, unfolding(crate::specs::Sweeping::young))]
 fn is_young(stamps: &[u32], force: bool, ms: u32, delay: u32, j: usize) -> bool
     requires { j < length stamps.now }
     ensures { result ≡ young stamps.now force ms delay j }

@@ -80,6 +80,7 @@ fn each_bit(chunks: usize, on: bool) -> [u32; 32]
 }
 
 // A new arena: the whole record is written, with no chunk used or pending and no deadline.
+#[tactic(auto, unfolding(crate::specs::Registering::new_arena))]
 fn new_arena(
     base: u64,
     chunks: usize,
@@ -111,6 +112,7 @@ fn new_arena(
 }
 
 // Memory that the layer reserved: untouched, and committed if that was asked.
+#[tactic(auto, unfolding(crate::specs::Registering::reserved_arena))]
 pub fn reserved_arena(base: u64, chunks: usize, commit: bool, exclusive: bool) -> Arena
     requires { chunks ≤ 1024 }
     ensures { result ≡ reserved_arena base chunks commit exclusive }
@@ -119,6 +121,7 @@ pub fn reserved_arena(base: u64, chunks: usize, commit: bool, exclusive: bool) -
 }
 
 // Memory that the host manages: nothing is known of what it holds.
+#[tactic(auto, unfolding(crate::specs::Registering::managed_arena))]
 pub fn managed_arena(base: u64, chunks: usize, exclusive: bool, node: i32) -> Arena
     requires { chunks ≤ 1024 }
     ensures { result ≡ managed_arena base chunks exclusive node }
@@ -127,6 +130,7 @@ pub fn managed_arena(base: u64, chunks: usize, exclusive: bool, node: i32) -> Ar
 }
 
 // A block that was in use before.
+#[tactic(auto, unfolding(crate::specs::Registering::adopted_arena))]
 pub fn adopted_arena(base: u64, chunks: usize) -> Arena
     requires { chunks ≤ 1024 }
     ensures { result ≡ adopted_arena base chunks }
@@ -135,6 +139,7 @@ pub fn adopted_arena(base: u64, chunks: usize) -> Arena
 }
 
 // n adopted chunks more, at the arena's end.
+#[tactic(auto, unfolding(crate::specs::Registering::grown_arena))]
 pub fn grow(a: Arena, n: usize) -> Arena
     requires { a.chunks + n ≤ 1024 }
     ensures { result ≡ grown_arena a n }

@@ -16,6 +16,7 @@ fn nearer_of(x: usize, found: Found) -> Found
 }
 
 // The nearest wait so far, with chunk j's where it is young.
+#[tactic(auto, unfolding(crate::specs::Sweeping::young, crate::specs::Sweeping::wait))]
 fn with_wait(stamps: &[u32], ms: u32, delay: u32, j: usize, best: Found) -> Found
     requires { j < length stamps.now }
     ensures { result ≡ cond (young stamps.now false ms delay j) (nearer (wait stamps.now ms delay j) best) best }
@@ -50,6 +51,7 @@ fn next_wait(pending: &[u32; 32], chunks: usize, stamps: &[u32], ms: u32, delay:
 }
 
 // The deadline armed anew after an unforced sweep, for the pending chunks that were too young.
+#[tactic(auto, unfolding(crate::specs::Maps::next_deadline))]
 pub fn next_deadline(
     deadline: u32,
     pending: &[u32; 32],

@@ -15,6 +15,7 @@ use arena::{Arena, Commitment};
 use calls::kinds::{ActCall, Call, ClaimCall, FreeCall, MemoryCall, QueryCall};
 use layer::{Answer, Kind, Question, Reply, Settings, State, Sweep, Waiting};
 use std::io;
+use std::io::Write;
 use worked_parts::joins::{Seen, Side};
 use worked_parts::lists::{Listed, Numbers};
 use worked_parts::never::Left;
@@ -226,10 +227,22 @@ fn runs_refused(rt: &impl Print, t: Tally) -> io::Result<Tally> {
     let b = numbers::run_refusal(slice_pool::alloc_run(&mut pool, 0));
     let t2 = number(rt, t1, b"slices: a run of 0: refusal", b, 4)?;
     let c = numbers::run_refusal(slice_pool::alloc_run(&mut pool, 1));
-    let t3 = number(rt, t2, b"slices: a run of 1 in an empty pool: refusal", c, 10)?;
+    let t3 = number(
+        rt,
+        t2,
+        b"slices: a run of 1 in an empty pool: refusal",
+        c,
+        10,
+    )?;
     let mut full = [4294967295u32; 2048];
     let d = numbers::run_refusal(slice_pool::alloc_run(&mut full, 65537));
-    number(rt, t3, b"slices: a run of 65537 in a full pool: refusal", d, 10)
+    number(
+        rt,
+        t3,
+        b"slices: a run of 65537 in a full pool: refusal",
+        d,
+        10,
+    )
 }
 
 fn frees_refused(rt: &impl Print, t: Tally) -> io::Result<Tally> {
@@ -459,7 +472,13 @@ fn arenas_registered(rt: &impl Print, t: Tally) -> io::Result<Tally> {
 // Rows 1 to 5 of the table of refusals.
 fn lending_refused(rt: &impl Print, t: Tally) -> io::Result<Tally> {
     let short = refusal(answered_short(settings(false), claim(0, 1)));
-    let t1 = number(rt, t, b"arenas: a claim with 32767 stamps: refusal", short, 1)?;
+    let t1 = number(
+        rt,
+        t,
+        b"arenas: a claim with 32767 stamps: refusal",
+        short,
+        1,
+    )?;
     let purging = thrice(release(1073741824, 1, true), forced_sweep(), claim(0, 1));
     let t2 = refused(
         rt,
@@ -476,7 +495,13 @@ fn lending_refused(rt: &impl Print, t: Tally) -> io::Result<Tally> {
         unasked,
         3,
     )?;
-    let t4 = refused(rt, t3, b"arenas: id 0, run of 0: refusal", once(claim(0, 0)), 4)?;
+    let t4 = refused(
+        rt,
+        t3,
+        b"arenas: id 0, run of 0: refusal",
+        once(claim(0, 0)),
+        4,
+    )?;
     let off = refusal(answered(settings(true), once(claim(-1, 1))));
     number(rt, t4, b"arenas: id -1, option 27 on: refusal", off, 5)
 }
@@ -495,7 +520,13 @@ fn addresses_refused(rt: &impl Print, t: Tally) -> io::Result<Tally> {
 
 // Rows 10 to 13. Beside the example's arena 31 blocks stand before the last.
 fn runs_and_counts_refused(rt: &impl Print, t: Tally) -> io::Result<Tally> {
-    let t1 = refused(rt, t, b"arenas: id 0, run of 5: refusal", once(claim(0, 5)), 10)?;
+    let t1 = refused(
+        rt,
+        t,
+        b"arenas: id 0, run of 5: refusal",
+        once(claim(0, 5)),
+        10,
+    )?;
     let no = twice(claim(0, 1), answer(Kind::ForCommit, false));
     let t2 = refused(rt, t1, b"arenas: a claim at id 0, then no: refusal", no, 11)?;
     let large = once(adopt(68719476736, 34393292800));
@@ -747,7 +778,14 @@ fn second_owns(s: Seen) -> bool {
 }
 
 // A join that is granted, by what the joined table has at the second's first new id.
-fn granted(rt: &impl Print, t: Tally, name: &[u8], s: Seen, rise: u64, base: u64) -> io::Result<Tally> {
+fn granted(
+    rt: &impl Print,
+    t: Tally,
+    name: &[u8],
+    s: Seen,
+    rise: u64,
+    base: u64,
+) -> io::Result<Tally> {
     let t1 = number(rt, t, name, join_refusal(s), 0)?;
     let t2 = number(
         rt,
@@ -916,7 +954,13 @@ fn rows_one_and_two(rt: &impl Print, t: Tally) -> io::Result<Tally> {
     let a = joined_now(asks, held_table(2147483648), 0);
     let t1 = turned_down(rt, t, b"join: a question open in the first: refusal", a, 2)?;
     let b = joined_now(one, purges, 0);
-    let t2 = turned_down(rt, t1, b"join: a question open in the second: refusal", b, 2)?;
+    let t2 = turned_down(
+        rt,
+        t1,
+        b"join: a question open in the second: refusal",
+        b,
+        2,
+    )?;
     let c = joined_now(asks, one, 0);
     let t3 = turned_down(
         rt,
@@ -1060,7 +1104,13 @@ fn pending_bits(a: Arena) -> u64 {
 
 fn pending_then(rt: &impl Print, t: Tally, f: Left, want: u64) -> io::Result<Tally> {
     let a = f.arena;
-    number(rt, t, b"   pending chunks then (bits)", pending_bits(a), want)
+    number(
+        rt,
+        t,
+        b"   pending chunks then (bits)",
+        pending_bits(a),
+        want,
+    )
 }
 
 fn deadline_then(rt: &impl Print, t: Tally, f: Left, want: u64) -> io::Result<Tally> {
@@ -1070,7 +1120,13 @@ fn deadline_then(rt: &impl Print, t: Tally, f: Left, want: u64) -> io::Result<Ta
 
 fn swept_unforced(rt: &impl Print, t: Tally, f: Left, want: u64) -> io::Result<Tally> {
     let got = refusal(f.swept);
-    number(rt, t, b"   an unforced sweep: refusal (255: asks)", got, want)
+    number(
+        rt,
+        t,
+        b"   an unforced sweep: refusal (255: asks)",
+        got,
+        want,
+    )
 }
 
 fn swept_forced(rt: &impl Print, t: Tally, f: Left, want: u64) -> io::Result<Tally> {
@@ -1090,13 +1146,16 @@ fn let_go(rt: &impl Print, t: Tally, name: &[u8], f: Left, pending: u64) -> io::
 }
 
 // The used bit of chunk 0 is cleared with any delay; its stamp and the sweep go by the delay.
-fn let_go_of_0(rt: &impl Print, t: Tally,
+fn let_go_of_0(
+    rt: &impl Print,
+    t: Tally,
     name: &[u8],
     f: Left,
     pending: u64,
     stamp: u64,
     sweeps: u64,
-    deadline: u64,) -> io::Result<Tally> {
+    deadline: u64,
+) -> io::Result<Tally> {
     let t1 = let_go(rt, t, name, f, pending)?;
     let a = f.arena;
     let t2 = number(rt, t1, b"   used chunks then (bits)", used_bits(a), 4)?;
@@ -1163,7 +1222,13 @@ fn forced_sweeps(rt: &impl Print, t: Tally) -> io::Result<Tally> {
     let t2 = swept_forced(rt, t1, f, 255)?;
     let t3 = asked_chunk(rt, t2, f, 1107296256)?;
     let next = area_base(f.answered);
-    let t4 = number(rt, t3, b"   a yes: then about the chunk at", next, 1174405120)?;
+    let t4 = number(
+        rt,
+        t3,
+        b"   a yes: then about the chunk at",
+        next,
+        1174405120,
+    )?;
     let g = freed_chunk(older_table(), i64::MIN, 0, true);
     let t5 = number(
         rt,
@@ -1202,7 +1267,14 @@ fn told_is_obeyed(rt: &impl Print, t: Tally) -> io::Result<Tally> {
 }
 
 // A release that is refused, and the sweep after it.
-fn not_let_go(rt: &impl Print, t: Tally, name: &[u8], f: Left, want: u64, sweeps: u64) -> io::Result<Tally> {
+fn not_let_go(
+    rt: &impl Print,
+    t: Tally,
+    name: &[u8],
+    f: Left,
+    want: u64,
+    sweeps: u64,
+) -> io::Result<Tally> {
     let t1 = number(rt, t, name, refusal(f.released), want)?;
     swept_unforced(rt, t1, f, sweeps)
 }
@@ -1214,7 +1286,13 @@ fn rows_with_minus_one(rt: &impl Print, t: Tally) -> io::Result<Tally> {
     let asks = freed_chunk(purging_table(1073741824, false), -1, 0, false);
     let t2 = not_let_go(rt, t1, b"never: -1, a purge question: refusal", asks, 2, 2)?;
     let next = area_base(asks.answered);
-    let t3 = number(rt, t2, b"   a yes: then about the chunk at", next, 1107296256)?;
+    let t3 = number(
+        rt,
+        t2,
+        b"   a yes: then about the chunk at",
+        next,
+        1107296256,
+    )?;
     let told = Commitment::Untold;
     let out = freed_at(older_table(), -1, 1207959552, 4, told, false);
     let t4 = not_let_go(rt, t3, b"never: -1, past the arena: refusal", out, 8, 0)?;
@@ -1384,7 +1462,13 @@ fn right_numbers(rt: &impl Print, n: Numbers, places: usize) -> io::Result<()> {
 }
 
 // The list of answers.
-fn numbers_then(rt: &impl Print, t: Tally, l: Listed, places: usize, want: Numbers) -> io::Result<Tally> {
+fn numbers_then(
+    rt: &impl Print,
+    t: Tally,
+    l: Listed,
+    places: usize,
+    want: Numbers,
+) -> io::Result<Tally> {
     left(rt, b"   the list of answers (0: granted, 6: as lent)")?;
     right_numbers(rt, l.numbers, places)?;
     right_numbers(rt, want, places)?;
@@ -1397,21 +1481,44 @@ fn used_then(rt: &impl Print, t: Tally, l: Listed, want: u64) -> io::Result<Tall
 }
 
 // A list that is granted, by its answers and the used chunks then.
-fn listed_all(rt: &impl Print, t: Tally, name: &[u8], l: Listed, places: usize, want: Numbers, used: u64) -> io::Result<Tally> {
+fn listed_all(
+    rt: &impl Print,
+    t: Tally,
+    name: &[u8],
+    l: Listed,
+    places: usize,
+    want: Numbers,
+    used: u64,
+) -> io::Result<Tally> {
     let t1 = number(rt, t, name, refusal(l.reply), 0)?;
     let t2 = numbers_then(rt, t1, l, places, want)?;
     used_then(rt, t2, l, used)
 }
 
 // A list that is refused as a whole: its answers and the used chunks are as they were.
-fn listed_none(rt: &impl Print, t: Tally, name: &[u8], l: Listed, why: u64, places: usize, want: Numbers) -> io::Result<Tally> {
+fn listed_none(
+    rt: &impl Print,
+    t: Tally,
+    name: &[u8],
+    l: Listed,
+    why: u64,
+    places: usize,
+    want: Numbers,
+) -> io::Result<Tally> {
     let t1 = number(rt, t, name, refusal(l.reply), why)?;
     let t2 = numbers_then(rt, t1, l, places, want)?;
     used_then(rt, t2, l, 5)
 }
 
 // What a list leaves of what waits for a purge in the arena.
-fn waits_then(rt: &impl Print, t: Tally, l: Listed, pending: u64, stamp: u64, deadline: u64) -> io::Result<Tally> {
+fn waits_then(
+    rt: &impl Print,
+    t: Tally,
+    l: Listed,
+    pending: u64,
+    stamp: u64,
+    deadline: u64,
+) -> io::Result<Tally> {
     let a = l.first;
     let t1 = number(
         rt,
@@ -1431,7 +1538,13 @@ fn released_by_list(rt: &impl Print, t: Tally) -> io::Result<Tally> {
     let t1 = listed_all(rt, t, name, l, 2, two_numbers(0, 0), 0)?;
     let t2 = waits_then(rt, t1, l, 2, 10, 20)?;
     let a = l.first;
-    number(rt, t2, b"   committed chunks then (bits)", committed_bits(a), 7)
+    number(
+        rt,
+        t2,
+        b"   committed chunks then (bits)",
+        committed_bits(a),
+        7,
+    )
 }
 
 // A refused item does not stop the list. Of an item with several faults the first row counts: 4, 8, 7, 9.
@@ -1468,7 +1581,13 @@ fn two_arenas(rt: &impl Print, t: Tally) -> io::Result<Tally> {
     let t1 = listed_all(rt, t, name, l, 3, numbers_of(0, 0, 0, 0, 0), 0)?;
     let t2 = waits_then(rt, t1, l, 7, 50, 20)?;
     let b = l.second;
-    let t3 = number(rt, t2, b"   pending chunks of the block", pending_bits(b), 1)?;
+    let t3 = number(
+        rt,
+        t2,
+        b"   pending chunks of the block",
+        pending_bits(b),
+        1,
+    )?;
     number(rt, t3, b"   deadline of the block", b.deadline as u64, 90)
 }
 

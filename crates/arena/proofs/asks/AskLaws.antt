@@ -1,18 +1,7 @@
--- What a sweep asks about, case by case; a search from one place at which a test holds to the next, for one at which a second test holds too. Assumes
--- nothing.
-use Rattle.arena.proofs.Prelude.{◌≡◌, sym, ap, ap₂, ◌∙◌, subst, Bool, true, false, not, ◌&&◌, List, ⊎_elim, ℕ, ◌+◌, ◌-◌, ◌/◌, ◌%◌, ◌^◌, ◌≤◌, ◌<◌, arith, bit_and, eqb, ltb, get_or, bit, bit_at, lt-or-le, Found, At, Nothing, least, First, age_of, young, next_in}
+-- A bit of a row by a mask; a search from one place at which a test holds to the next, for one at which a second test holds too. Assumes nothing.
+use Rattle.arena.proofs.Prelude.{◌≡◌, sym, ap, ap₂, ◌∙◌, subst, Bool, true, false, not, ◌&&◌, List, ⊎_elim, ℕ, ◌+◌, ◌-◌, ◌/◌, ◌%◌, ◌^◌, ◌≤◌, ◌<◌, arith, bit_and, eqb, get_or, bit, bit_at, lt-or-le, Found, At, Nothing, least, First, young, next_in}
 use lib.Bits.{and_mask}
 use Rattle.bitmap.proofs.runs.LowestLaws.{least-none, least_at, first_says}
-
--- ---- whether a chunk is young
-
-pub young-forced : (stamps : List ℕ) (force : Bool) (now delay j : ℕ) → force ≡ true → false ≡ young stamps force now delay j
-unfolding young
-young-forced stamps force now delay j e = simp e
-
-pub young-by-age : (stamps : List ℕ) (force : Bool) (now delay j : ℕ) → force ≡ false → ltb (age_of now (get_or stamps j 0)) delay ≡ young stamps force now delay j
-unfolding young
-young-by-age stamps force now delay j e = simp e
 
 -- ---- a bit of a row, by a shift and a mask
 
@@ -22,9 +11,9 @@ bit-by-mask ws j = ap (λ (x : ℕ). eqb x 1) (and_mask (get_or ws (j / 32) 0 / 
 
 -- ---- the search
 
--- what an answer of `least` says, once it is known to be r
-pub least-means : (p : ℕ → Bool) (s k : ℕ) (a r : Found) → a ≡ least p s k → a ≡ r → First p s k r
-least-means p s k a r e f = subst (First p s k) (sym e ∙ f) (first_says p s k)
+-- what an answer of `least` says
+pub least-means : (p : ℕ → Bool) (s k : ℕ) (r : Found) → r ≡ least p s k → First p s k r
+least-means p s k r e = subst (First p s k) (sym e) (first_says p s k)
 
 -- p fails from s on, up to t
 abbrev pub Passed : (ℕ → Bool) → ℕ → ℕ → Type 0

@@ -1,8 +1,7 @@
--- The least of the numbers at the places where two tests hold, and the next sweep, case by case. Assumes nothing.
-use Rattle.arena.proofs.Prelude.{◌≡◌, refl, sym, ap, ap₂, ◌∙◌, Bool, true, false, cond, ◌&&◌, List, ⊎_elim, ℕ, zero, suc, ◌+◌, ◌-◌, ◌≤◌, ◌<◌, arith, lt-ltb, get_or, bit_at, Found, At, Nothing, First, age_of, young, nearer, wait_in, armed_for, next_deadline}
+-- The least of the numbers at the places where two tests hold, and the shortest wait so far, turn by turn. Assumes nothing.
+use Rattle.arena.proofs.Prelude.{◌≡◌, refl, sym, ap, ap₂, ◌∙◌, Bool, true, false, cond, ◌&&◌, List, ⊎_elim, ℕ, zero, suc, ◌+◌, ◌-◌, ◌≤◌, ◌<◌, arith, bit_at, Found, At, Nothing, First, young, nearer, wait_in}
 use Prim.Native.Nat.{min}
 use native.Mathlib.Nat.{eq-or-lt_of_le}
-use borrow.Author.Tests.{le-ltb}
 use Rattle.arena.specs.Sweeping.{nearest, wait}
 use Rattle.arena.proofs.asks.AskLaws.{Passed, both}
 
@@ -90,16 +89,6 @@ module _ (p y : ℕ → Bool) (f : ℕ → ℕ) (places at : ℕ) (best : Found)
 
 -- ---- the next sweep
 
-pub wait-young : (stamps : List ℕ) (now delay j : ℕ) (best : Found) → age_of now (get_or stamps j 0) < delay
-    → nearer (delay - age_of now (get_or stamps j 0)) best ≡ cond (young stamps false now delay j) (nearer (wait stamps now delay j) best) best
-unfolding young wait
-wait-young stamps now delay j best l = simp (lt-ltb (age_of now (get_or stamps j 0)) delay l)
-
-pub wait-old : (stamps : List ℕ) (now delay j : ℕ) (best : Found) → delay ≤ age_of now (get_or stamps j 0)
-    → best ≡ cond (young stamps false now delay j) (nearer (wait stamps now delay j) best) best
-unfolding young
-wait-old stamps now delay j best l = simp (le-ltb (age_of now (get_or stamps j 0)) delay l)
-
 -- the waits from chunk `at` on
 unfoldable pub waits_from : List ℕ → ℕ → List ℕ → ℕ → ℕ → ℕ → Found
 waits_from pending chunks stamps now delay at = nearest (both (bit_at pending) (young stamps false now delay)) (wait stamps now delay) at (chunks - at)
@@ -127,15 +116,3 @@ module _ (pending : List ℕ) (chunks : ℕ) (stamps : List ℕ) (now delay : �
   pub wait-most : AtMost delay (wait_in pending chunks stamps now delay)
   unfolding wait_in wait
   wait-most = nearest-most (both (bit_at pending) (young stamps false now delay)) (wait stamps now delay) delay (λ j. omega arith) 0 chunks
-
-  -- ---- arming anew
-
-  pub armed-forced : (deadline : ℕ) (force : Bool) → force ≡ true → deadline ≡ next_deadline deadline pending chunks stamps force now delay
-  unfolding next_deadline
-  armed-forced deadline force e = simp e
-
-  pub armed-by : (deadline : ℕ) (force : Bool) (r : Found) → force ≡ false → r ≡ wait_in pending chunks stamps now delay
-      → armed_for deadline now r ≡ next_deadline deadline pending chunks stamps force now delay
-  unfolding next_deadline
-  armed-by deadline force r e q =
-      ap (armed_for deadline now) q ∙ sym (ap (λ (t : Bool). cond t deadline (armed_for deadline now (wait_in pending chunks stamps now delay))) e)

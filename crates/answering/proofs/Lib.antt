@@ -2,4 +2,3 @@ pub mod EntryLaws
 pub mod OpenLaws
 pub mod CommitLaws
 pub mod MemoryLaws
-pub mod Callable

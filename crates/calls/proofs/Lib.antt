@@ -1,4 +1,1 @@
-pub mod Arrays
 mod CallLaws
-pub mod Callable
-pub mod Owner

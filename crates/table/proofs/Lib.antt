@@ -1,7 +1,3 @@
+-- The laws that answers of several functions cite.
 pub mod TurnLaws
 pub mod TableLaws
-pub mod TailLaws
-pub mod Elements
-pub mod Looks
-pub mod Callable
-pub mod Looking

@@ -1,5 +1,5 @@
 -- The searches over the table and row 1, by what their loops know. S is the size of a chunk. Assumes nothing.
-use Rattle.state.proofs.Prelude.{◌≡◌, refl, sym, ap, ap₂, subst, ◌∙◌, Bool, true, false, not, ◌&&◌, ◌||◌, List, ℕ, ◌+◌, ◌*◌, ◌<◌, ◌≤◌, arith, not-suc-le-zero, ltb-true, ltb-false, leb-true, leb-false, eqb-true, eqb, leb, ltb, length, bit_at, Found, At, Nothing, all, all-free-of, least-none, and_both, page_size_sound, Arena, bytes_of, end_of, is_inside, clear_past_all, sound_arena, range-facts, State, Question, at, is_at, meets, overlaps, find_arena, asked_id, sound_question, sound_lent, grows, growing}
+use Rattle.state.proofs.Prelude.{◌≡◌, refl, sym, ap, ap₂, subst, ◌∙◌, Bool, true, false, not, ◌&&◌, ◌||◌, List, ℕ, ◌+◌, ◌*◌, ◌<◌, ◌≤◌, arith, ltb-true, ltb-false, leb-true, eqb-true, eqb, leb, ltb, length, bit_at, Found, At, Nothing, all, all-free-of, least-none, and_both, page_size_sound, Arena, bytes_of, end_of, is_inside, clear_past_all, sound_arena, range-facts, State, Question, at, is_at, meets, overlaps, find_arena, asked_id, sound_question, sound_lent, grows, growing}
 use Rattle.arena.specs.Soundness.{sound_range}
 use Rattle.arena.proofs.SoundLaws.{full-clear, sound-range}
 use Rattle.layer.specs.Table.{apart, sound_table}
@@ -27,8 +27,17 @@ module _ (S : ℕ) (l : List Arena) where
   unfolding sound_arena
   range-of i e = (and_both (sound_range S (at l i).base (at l i).chunks) _ e).0
 
+  pub range-by-head : (i : ℕ) (h : Head) → h ≡ head_of (at l i) → sound i ≡ true → sound_range S h.base h.chunks ≡ true
+  range-by-head i h same e = subst (λ (x : Head). sound_range S x.base x.chunks ≡ true) (sym same) (range-of i e)
+
+  one-sound : (k : ℕ) → SoundArenas S l k → (i : ℕ) → i < k → sound i ≡ true
+  one-sound k arenas i h = all-free-of sound 0 k arenas.1 i (omega arith) (omega (arith, h))
+
   pub range_at : (k : ℕ) → SoundArenas S l k → (i : ℕ) → i < k → sound_range S (at l i).base (at l i).chunks ≡ true
-  range_at k arenas i h = range-of i (all-free-of sound 0 k arenas.1 i (omega arith) (omega (arith, h)))
+  range_at k arenas i h = range-of i (one-sound k arenas i h)
+
+  pub head-range : (k : ℕ) → SoundArenas S l k → (i : ℕ) → i < k → (h : Head) → h ≡ head_of (at l i) → sound_range S h.base h.chunks ≡ true
+  head-range k arenas i lt h same = range-by-head i h same (one-sound k arenas i lt)
 
   pub few-at : (k : ℕ) → all sound 0 k ≡ true → (i : ℕ) → i < k → (at l i).chunks ≤ 1024
   few-at k e i h = (range-facts S (at l i).base (at l i).chunks (range-of i (all-free-of sound 0 k e i (omega arith) (omega (arith, h))))).few
@@ -39,9 +48,9 @@ module _ (S : ℕ) (l : List Arena) where
     abbrev pub inside : ℕ → Bool
     inside i = is_inside S (at l i) address
 
-    pub inside-by-head : (i : ℕ) (b : Bool) → is_inside S (headed (head_of (at l i))) address ≡ b → inside i ≡ b
+    pub inside-by-head : (i : ℕ) (h : Head) (b : Bool) → h ≡ head_of (at l i) → b ≡ is_inside S (headed h) address → inside i ≡ b
     unfolding is_inside end_of bytes_of
-    inside-by-head i b e = e
+    inside-by-head i h b same e = subst (λ (x : Head). is_inside S (headed x) address ≡ b) same (sym e)
 
     pub arena-at : (k i : ℕ) → i < k → Passed false inside i → inside i ≡ true → At i ≡ find_arena S l k address
     unfolding find_arena
@@ -55,9 +64,9 @@ module _ (S : ℕ) (l : List Arena) where
     abbrev pub met : ℕ → Bool
     met i = meets S (at l i) base bytes
 
-    pub met-by-head : (i : ℕ) (b : Bool) → meets S (headed (head_of (at l i))) base bytes ≡ b → met i ≡ b
+    pub met-by-head : (i : ℕ) (h : Head) (b : Bool) → h ≡ head_of (at l i) → b ≡ meets S (headed h) base bytes → met i ≡ b
     unfolding meets end_of bytes_of
-    met-by-head i b e = e
+    met-by-head i h b same e = subst (λ (x : Head). meets S (headed x) base bytes ≡ b) same (sym e)
 
     pub overlap-at : (k i : ℕ) → i < k → Passed false met i → met i ≡ true → true ≡ overlaps S l k base bytes
     unfolding overlaps
@@ -71,9 +80,9 @@ module _ (S : ℕ) (l : List Arena) where
     abbrev pub continued : ℕ → Bool
     continued i = grows S (at l i) address n
 
-    pub continued-by-head : (i : ℕ) (b : Bool) → grows S (headed (head_of (at l i))) address n ≡ b → continued i ≡ b
+    pub continued-by-head : (i : ℕ) (h : Head) (b : Bool) → h ≡ head_of (at l i) → b ≡ grows S (headed h) address n → continued i ≡ b
     unfolding grows end_of bytes_of
-    continued-by-head i b e = e
+    continued-by-head i h b same e = subst (λ (x : Head). grows S (headed x) address n ≡ b) same (sym e)
 
     pub growing-at : (k i : ℕ) → i < k → Passed false continued i → continued i ≡ true → At i ≡ growing S l k address n
     growing-at k i h p e = found_at continued k i h p e
@@ -104,33 +113,32 @@ module _ (S : ℕ) (l : List Arena) where
         let both : h.chunks ≡ (at l i).chunks = chunks-too in
         sym (full-clear (at l i) (omega (arith, most, few, both))) ∙ tails-decide e
 
-  pub has-tail : (chunks : ℕ) → leb 1024 chunks ≡ false → chunks < 1024
-  has-tail chunks e = leb-false 1024 chunks e
-
   -- ---- apart
 
   -- record j meets none before it
   abbrev pub alone : ℕ → Bool
   alone j = not (overlaps S l j (at l j).base ((at l j).chunks * S))
 
+  pub alone-by-head : (j : ℕ) (h : Head) (b : Bool) → h ≡ head_of (at l j) → b ≡ not (overlaps S l j h.base (h.chunks * S)) → alone j ≡ b
+  alone-by-head j h b same e = subst (λ (x : Head). not (overlaps S l j x.base (x.chunks * S)) ≡ b) same (sym e)
+
   apart-is : (k : ℕ) → all alone 0 k ≡ apart S l k
   unfolding apart bytes_of
   apart-is k = refl
 
-  -- any span covers no arena
-  pub covers-none : (s : Span) → CoversAll S s l 0
-  covers-none s i h = absurd (not-suc-le-zero h)
-
   -- one arena more, in a span that covers the others and it
-  pub covers_more : (s r : Span) (j : ℕ) → CoversAll S s l j → (r.lo ≤ s.lo) × (s.hi ≤ r.hi) × (r.lo ≤ (at l j).base) × ((at l j).base + (at l j).chunks * S ≤ r.hi) → CoversAll S r l (j + 1)
+  pub covers_more : (s r : Span) (j : ℕ) (head : Head) → head ≡ head_of (at l j) → CoversAll S s l j → (r.lo ≤ s.lo) × (s.hi ≤ r.hi) × (r.lo ≤ head.base) × (head.base + head.chunks * S ≤ r.hi) → CoversAll S r l (j + 1)
   unfolding end_of bytes_of
-  covers_more s r j c e i h = go (ltb i j) refl
+  covers_more s r j head is c e i h = go (ltb i j) refl
     where
+      here : (r.lo ≤ (at l j).base) × ((at l j).base + (at l j).chunks * S ≤ r.hi)
+      here = subst (λ (x : Head). (r.lo ≤ x.base) × (x.base + x.chunks * S ≤ r.hi)) is (e.2, e.3)
+
       go : (b : Bool) → ltb i j ≡ b → (r.lo ≤ (at l i).base) × ((at l i).base + (at l i).chunks * S ≤ r.hi)
       go true t = let d = c i (ltb-true i j t) in (omega (arith, d.0, e.0), omega (arith, d.1, e.1))
       go false t =
           let same : i ≡ j = omega (arith, h, ltb-false i j t) in
-          subst (λ (m : ℕ). (r.lo ≤ (at l m).base) × ((at l m).base + (at l m).chunks * S ≤ r.hi)) (sym same) (e.2, e.3)
+          subst (λ (m : ℕ). (r.lo ≤ (at l m).base) × ((at l m).base + (at l m).chunks * S ≤ r.hi)) (sym same) here
 
   -- a range outside the span meets none of them
   pub outside_alone : (s : Span) (h : Head) (j : ℕ) → CoversAll S s l j → outside S s h ≡ true → true ≡ not (overlaps S l j h.base (h.chunks * S))
@@ -193,19 +201,6 @@ module _ (l : List Arena) (k : ℕ) (q : Question) where
 
     pub count-decides : there ≡ true → within ≡ true → used ≡ true → sound_count q ≡ sound_question asked k q
     count-decides a b c = and-4 there within used (sound_count q) a b c ∙ asks-sound asked k q some
-
-  -- what the maps and the count are asked for
-  pub run-within : ((i : ℕ) → i < k → (at l i).chunks ≤ 1024) → there ≡ true → within ≡ true → first_asked q + length_asked q ≤ 1024
-  run-within few a b =
-      let f : asked.chunks ≤ 1024 = few (asked_id q) (ltb-true (asked_id q) k a) in
-      let r : first_asked q + length_asked q ≤ asked.chunks = leb-true (first_asked q + length_asked q) asked.chunks b in
-      omega (arith, f, r)
-
-  pub asked_low : k ≤ 32 → there ≡ true → asked_id q < 32
-  asked_low m a = let i : asked_id q < k = ltb-true (asked_id q) k a in omega (arith, m, i)
-
-  pub first-low : ((i : ℕ) → i < k → (at l i).chunks ≤ 1024) → there ≡ true → within ≡ true → first_asked q ≤ 1024
-  first-low few a b = let r : first_asked q + length_asked q ≤ 1024 = run-within few a b in omega (arith, r)
 
 -- ---- row 1
 

@@ -8,6 +8,7 @@ use arena::Arena;
 use bitmap::runs::Found;
 
 // The lowest run of n free chunks.
+#[tactic(auto, unfolding(arena::specs::Claiming::find_run))]
 pub fn run_at(records: &[Arena], i: usize, chunks: usize, n: usize) -> Found
     requires { (i < length records.now) × (chunks ≡ (get_or records.now i blank).chunks) × (chunks ≤ 1024) × (0 < n) }
     ensures { result ≡ find_run (get_or records.now i blank) n }
@@ -16,6 +17,7 @@ pub fn run_at(records: &[Arena], i: usize, chunks: usize, n: usize) -> Found
 }
 
 // Whether no bit of the four maps is set at or past the last chunk.
+#[tactic(auto, unfolding(arena::specs::Soundness::clear_past_all))]
 pub fn tails_clear_at(records: &[Arena], i: usize, chunks: usize) -> bool
     requires { (i < length records.now) × (chunks ≡ (get_or records.now i blank).chunks) × (chunks < 1024) }
     ensures { result ≡ clear_past_all (get_or records.now i blank) }

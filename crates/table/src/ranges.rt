@@ -34,6 +34,7 @@ pub fn base_of(h: Head) -> u64
     first
 }
 
+#[tactic(auto, unfolding(arena::specs::Soundness::sound_range))]
 pub fn bytes_of(h: Head, chunk_size: u64) -> u64
     requires { sound_range chunk_size h.base h.chunks ≡ true }
     ensures { result ≡ h.chunks * chunk_size }
@@ -42,6 +43,7 @@ pub fn bytes_of(h: Head, chunk_size: u64) -> u64
 }
 
 // The first address past it.
+#[tactic(auto, unfolding(arena::specs::Soundness::sound_range))]
 pub fn end_of(h: Head, chunk_size: u64) -> u64
     requires { sound_range chunk_size h.base h.chunks ≡ true }
     ensures { result ≡ h.base + h.chunks * chunk_size }
@@ -50,6 +52,7 @@ pub fn end_of(h: Head, chunk_size: u64) -> u64
 }
 
 // Whether an address lies in the arena.
+#[tactic(auto, unfolding(arena::specs::Place::is_inside, arena::specs::Place::end_of, arena::specs::Place::bytes_of))]
 pub fn holds(h: Head, chunk_size: u64, address: u64) -> bool
     requires { sound_range chunk_size h.base h.chunks ≡ true }
     ensures { result ≡ is_inside chunk_size (headed h) address }
@@ -63,6 +66,7 @@ pub fn holds(h: Head, chunk_size: u64, address: u64) -> bool
 
 // Whether the arena shares an address with the range of so many bytes from base on. The end of that range may not
 // fit, so it is not computed.
+#[tactic(auto, unfolding(layer::specs::Table::meets, arena::specs::Place::end_of, arena::specs::Place::bytes_of))]
 pub fn meets_range(h: Head, chunk_size: u64, base: u64, bytes: u64) -> bool
     requires { sound_range chunk_size h.base h.chunks ≡ true }
     ensures { result ≡ meets chunk_size (headed h) base bytes }
@@ -79,6 +83,7 @@ pub fn meets_range(h: Head, chunk_size: u64, base: u64, bytes: u64) -> bool
 
 // Whether a block of n chunks at an address continues the arena: "the owned, non-exclusive arena that ends at the
 // block [..] if at most 1,024 result".
+#[tactic(auto, unfolding(layer::specs::Registering::grows, arena::specs::Soundness::sound_range, arena::specs::Place::end_of, arena::specs::Place::bytes_of))]
 pub fn grows_at(h: Head, chunk_size: u64, address: u64, n: u64) -> bool
     requires { sound_range chunk_size h.base h.chunks ≡ true }
     ensures { result ≡ grows chunk_size (headed h) address n }

@@ -16,6 +16,7 @@ pub fn used_at(records: &[Arena], i: usize, s: usize, n: usize) -> bool
 }
 
 // Whether each chunk of the run is committed.
+#[tactic(auto, unfolding(arena::specs::Claiming::run_committed))]
 pub fn committed_at(records: &[Arena], i: usize, s: usize, n: usize) -> bool
     requires { (i < length records.now) × (s + n ≤ 1024) }
     ensures { result ≡ run_committed (get_or records.now i blank) s n }
@@ -24,6 +25,7 @@ pub fn committed_at(records: &[Arena], i: usize, s: usize, n: usize) -> bool
 }
 
 // Whether no chunk of the run was dirty before.
+#[tactic(auto, unfolding(arena::specs::Claiming::run_fresh))]
 pub fn fresh_at(records: &[Arena], i: usize, s: usize, n: usize) -> bool
     requires { (i < length records.now) × (s + n ≤ 1024) }
     ensures { result ≡ run_fresh (get_or records.now i blank) s n }

@@ -22,6 +22,7 @@ pub fn no_span() -> Span
 }
 
 // Whether the range of a head lies wholly at or above the span, or wholly below it.
+#[tactic(auto, unfolding(crate::specs::Spans::outside))]
 pub fn is_outside(s: Span, h: Head, chunk_size: u64) -> bool
     requires { sound_range chunk_size h.base h.chunks ≡ true }
     ensures { result ≡ outside chunk_size s h }

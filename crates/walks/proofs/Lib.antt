@@ -1,13 +1,2 @@
+-- What proofs of the leaves share.
 pub mod Prelude
-pub mod Big
-pub mod Walk
-pub mod Locals
-pub mod Operands
-pub mod Calls
-pub mod Frame
-pub mod Walking
-pub mod ShapeMmmm
-pub mod ShapeMs
-pub mod Rotations
-pub mod ShapeSs
-pub mod ShapeMmssm

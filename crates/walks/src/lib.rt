@@ -1,2 +1,2 @@
-// What every proof by a walk over lent slices needs (proofs/). It knows no record and no table.
+// What proofs of every crate cite of the kit, by one name (proofs/). It knows no record and no table.
 #![tactic(auto)]

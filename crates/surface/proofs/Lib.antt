@@ -1,6 +1,4 @@
-mod Cases
 pub mod NumberLaws
 mod FieldLaws
 pub mod CallLaws
 pub mod Exported
-pub mod Callable

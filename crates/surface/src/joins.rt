@@ -47,6 +47,7 @@ pub fn no_join(f: StateNumbers, g: StateNumbers) -> JoinNumbers
     join_answer_numbers(JoinAnswer::NotJoined(Refusal::Broken), f, g)
 }
 
+#[tactic(auto, unfolding(crate::specs::Joins::join_reply_of))]
 pub fn join_reply_of(r: JoinReply) -> JoinNumbers
     ensures { result ≡ join_reply_of r }
 {

@@ -116,6 +116,7 @@ fn question_of(f: StateNumbers) -> Question
     Question::Idle
 }
 
+#[tactic(auto, unfolding(crate::specs::Numbers::state_of))]
 pub fn state_of(f: StateNumbers) -> State
     ensures { result ≡ state_of f }
 {
@@ -287,6 +288,7 @@ fn question_numbers(count: usize, mark: u32, q: Question) -> StateNumbers
     }
 }
 
+#[tactic(auto, unfolding(crate::specs::Numbers::numbers_of))]
 pub fn numbers_of(s: State) -> StateNumbers
     ensures { result ≡ numbers_of s }
 {

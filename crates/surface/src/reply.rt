@@ -170,6 +170,7 @@ pub fn answered(r: Reply, f: StateNumbers) -> ReplyNumbers
     answer_numbers(a, f)
 }
 
+#[tactic(auto, unfolding(crate::specs::Replies::reply_of))]
 pub fn reply_of(r: Reply) -> ReplyNumbers
     ensures { result ≡ reply_of r }
 {

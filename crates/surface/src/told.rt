@@ -17,6 +17,7 @@ pub struct SettingsNumbers {
     pub page: u64,
 }
 
+#[tactic(auto, unfolding(crate::specs::Told::settings_of))]
 pub fn settings_of(s: SettingsNumbers) -> Settings
     ensures { result ≡ settings_of s }
 {

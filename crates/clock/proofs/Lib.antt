@@ -1,2 +1,1 @@
 pub mod ClockLaws
-pub mod Callable

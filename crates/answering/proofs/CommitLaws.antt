@@ -1,5 +1,6 @@
 -- Both answers to a commit question leave what the definition says. Assumes nothing.
-use Rattle.state.proofs.Prelude.{◌≡◌, ap, Bool, true, false, List, ℕ, ◌+◌, ◌*◌, set, CommitRefused, Arena, run_fresh, give_back_run, Claimed, Outcome, reply, Leaves, turn_down, calm, at, answer_commit}
+use Rattle.std.specs.Prelude.{◌≡◌, ◌+◌, ◌*◌}
+use Rattle.state.proofs.Prelude.{ap, Bool, true, false, List, ℕ, set, CommitRefused, Arena, run_fresh, give_back_run, Claimed, Outcome, reply, Leaves, turn_down, calm, at, answer_commit}
 use Rattle.arena.specs.Claiming.{finish_grant}
 use Rattle.state.proofs.Entry.{comes}
 

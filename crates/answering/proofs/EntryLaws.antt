@@ -1,5 +1,6 @@
 -- The answer's entry point: row 3, and behind it the core. Assumes nothing.
-use Rattle.state.proofs.Prelude.{◌≡◌, refl, sym, ap, ◌∙◌, subst, Bool, true, false, not, true≢false, List, ℕ, NoSuchQuestion, when, unless, Arena, Settings, State, Question, Idle, Committing, Purging, Reserving, GivingBack, Kind, ForCommit, ForPurge, ForMemory, ForGiveBack, Reply, Outcome, size_of, world_of, Leaves, turn_down, is_idle, is_for, answer_to, answer_of, answer, step}
+use Rattle.std.specs.Prelude.{◌≡◌}
+use Rattle.state.proofs.Prelude.{refl, sym, ap, ◌∙◌, subst, Bool, true, false, not, true≢false, List, ℕ, NoSuchQuestion, when, unless, Arena, Settings, State, Question, Idle, Committing, Purging, Reserving, GivingBack, Kind, ForCommit, ForPurge, ForMemory, ForGiveBack, Reply, Outcome, size_of, world_of, Leaves, turn_down, is_idle, is_for, answer_to, answer_of, answer, step}
 use Rattle.layer.specs.declared.Kind.TheVariants.{ForNone}
 use Rattle.state.proofs.Entry.{Passes, comes, goes}
 

@@ -1,5 +1,6 @@
 -- Each return of the answer to a memory question leaves what the definition says; and the arena that is registered is sound. Assumes nothing.
-use Rattle.state.proofs.Prelude.{◌≡◌, refl, sym, ap, ◌∙◌, subst, Bool, true, false, not, ◌||◌, true≢false, List, ℕ, suc, ◌+◌, ◌*◌, ◌/◌, ◌%◌, ◌^◌, ◌<◌, ◌≤◌, mul-le-mul, div-mul-le_self, div-lt_iff_lt-mul, arith, eqb-true, ltb-false, ltb-true, lt-ltb, le-leb, leb-true, leb-false, eqb, leb, ltb, negsuc, length, set, length-set, Range, NoRun, MemoryRefused, when, unless, all-free-of, free_all, same, Arena, sound_arena, State, Reply, Registered, Count, Misaligned, Full, Waiting, Reserve, Claim, Question, Outcome, size_of, state_with, reply, after, Leaves, turn_down, calm, at, overlaps, bad_range, bad_count, with_record, with_stamps, search_of, fail_reply, resume, answer_memory}
+use Rattle.std.specs.Prelude.{◌≡◌, ◌||◌, ◌+◌, ◌*◌, ◌/◌, ◌%◌, ◌^◌, ◌<◌, ◌≤◌}
+use Rattle.state.proofs.Prelude.{refl, sym, ap, ◌∙◌, subst, Bool, true, false, not, true≢false, List, ℕ, suc, mul-le-mul, div-mul-le_self, div-lt_iff_lt-mul, arith, eqb-true, ltb-false, ltb-true, lt-ltb, le-leb, leb-true, leb-false, eqb, leb, ltb, negsuc, length, set, length-set, Range, NoRun, MemoryRefused, when, unless, all-free-of, free_all, same, Arena, sound_arena, State, Reply, Registered, Count, Misaligned, Full, Waiting, Reserve, Claim, Question, Outcome, size_of, state_with, reply, after, Leaves, turn_down, calm, at, overlaps, bad_range, bad_count, with_record, with_stamps, search_of, fail_reply, resume, answer_memory}
 use Rattle.arena.specs.Registering.{reserved_arena}
 use Rattle.arena.proofs.SoundLaws.{arena-test}
 use Rattle.layer.specs.Answering.{give_back_reply}

@@ -1,5 +1,6 @@
 -- What row 1 says of the open question, and what an answer to it does, by its kind. Assumes nothing.
-use Rattle.state.proofs.Prelude.{◌≡◌, refl, sym, subst, Bool, true, false, true≢false, List, ℕ, ◌+◌, ◌*◌, ◌<◌, ◌≤◌, arith, leb-true, ltb-true, leb, ltb, length, bit_at, and_both, Arena, SoundArena, State, Question, Idle, Committing, Purging, Reserving, GivingBack, Reply, Outcome, size_of, Leaves, at, asked_id, sound_question, ForCommit, ForPurge, ForMemory, ForGiveBack, is_for, cause_refusal, fail_reply, answer_commit, answer_purge, answer_memory, answer_to, is_idle}
+use Rattle.std.specs.Prelude.{◌≡◌, ◌+◌, ◌*◌, ◌<◌, ◌≤◌}
+use Rattle.state.proofs.Prelude.{refl, sym, subst, Bool, true, false, true≢false, List, ℕ, arith, leb-true, ltb-true, leb, ltb, length, bit_at, and_both, Arena, SoundArena, State, Question, Idle, Committing, Purging, Reserving, GivingBack, Reply, Outcome, size_of, Leaves, at, asked_id, sound_question, ForCommit, ForPurge, ForMemory, ForGiveBack, is_for, cause_refusal, fail_reply, answer_commit, answer_purge, answer_memory, answer_to, is_idle}
 use Rattle.state.specs.Ready.{Asked}
 use Rattle.state.proofs.Entry.{stands}
 use Rattle.table.specs.Questions.{first_asked, length_asked}

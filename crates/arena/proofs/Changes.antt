@@ -1,6 +1,7 @@
 -- What each change of a record leaves: that its maps stay rows, and each bit of each map that it writes. What is not said is not written: the other
 -- fields are equal by computing. Assumes nothing.
-use Rattle.arena.proofs.Prelude.{◌≡◌, refl, sym, ap, ◌∙◌, subst, Bool, true, false, cond, not, List, ℕ, ◌+◌, ◌≤◌, ◌<◌, arith, ℤ, bit_at, within, set_run, clear_run, Found, At, Nothing, Arena, Commitment, Untold, Committed, Uncommitted, no_bits, each_bit, new_arena, grown_arena, take_run, give_back_run, commit_run, dirty_run, finish_grant, tell_run, pend_run, release_run, disarm, borrow_chunk, unpend_chunk, return_chunk, next_wait, rearm_at, rearm, IsRow, Rows}
+use Rattle.std.specs.Prelude.{◌≡◌, ◌+◌, ◌≤◌, ◌<◌}
+use Rattle.arena.proofs.Prelude.{refl, sym, ap, ◌∙◌, subst, Bool, true, false, cond, not, List, ℕ, arith, ℤ, bit_at, within, set_run, clear_run, Found, At, Nothing, Arena, Commitment, Untold, Committed, Uncommitted, no_bits, each_bit, new_arena, grown_arena, take_run, give_back_run, commit_run, dirty_run, finish_grant, tell_run, pend_run, release_run, disarm, borrow_chunk, unpend_chunk, return_chunk, next_wait, rearm_at, rearm, IsRow, Rows}
 use mathlib.Core.Bool.{true≢false}
 use Rattle.bitmap.specs.Lowest.{Lowest}
 use Rattle.bitmap.proofs.runs.LowestLaws.{lowest-says}

@@ -1,5 +1,6 @@
 -- A flag is read as it was written. Assumes nothing.
-use Rattle.arena.proofs.Prelude.{◌≡◌, refl, Bool, true, false, ℕ, ℤ, new_arena}
+use Rattle.std.specs.Prelude.{◌≡◌}
+use Rattle.arena.proofs.Prelude.{refl, Bool, true, false, ℕ, ℤ, new_arena}
 use Rattle.arena.specs.Flags.{is_on, as_flag}
 
 pub flag-read : (b : Bool) → is_on (as_flag b) ≡ b

@@ -1,5 +1,6 @@
 -- Where an address lies to an arena, by facts and not by tests. Assumes nothing.
-use Rattle.arena.proofs.Prelude.{◌≡◌, ap₂, true, false, ◌&&◌, ℕ, ◌+◌, ◌*◌, ◌≤◌, ◌<◌, lt-ltb, ltb-true, le-leb, leb-true, leb, and_both, Arena}
+use Rattle.std.specs.Prelude.{◌≡◌, ◌&&◌, ◌+◌, ◌*◌, ◌≤◌, ◌<◌}
+use Rattle.arena.proofs.Prelude.{ap₂, true, false, ℕ, lt-ltb, ltb-true, le-leb, leb-true, leb, and_both, Arena}
 use Rattle.arena.specs.Place.{bytes_of, end_of, is_inside}
 use Rattle.arena.proofs.SoundLaws.{never}
 

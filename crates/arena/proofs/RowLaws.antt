@@ -1,5 +1,6 @@
 -- The laws of one bitmap of 1,024 places. Assumes nothing.
-use Rattle.arena.proofs.Prelude.{◌≡◌, refl, sym, ap, ◌∙◌, Bool, true, false, cond, List, ℕ, zero, suc, ◌+◌, ◌/◌, ◌%◌, ◌≤◌, ◌<◌, arith, get_or, replicate, length-replicate, bit, bit_at, within, write_run, bit_high, within-after, write_run-length, no_bits, IsRow}
+use Rattle.std.specs.Prelude.{◌≡◌, ◌+◌, ◌/◌, ◌%◌, ◌≤◌, ◌<◌}
+use Rattle.arena.proofs.Prelude.{refl, sym, ap, ◌∙◌, Bool, true, false, cond, List, ℕ, zero, suc, arith, get_or, replicate, length-replicate, bit, bit_at, within, write_run, bit_high, within-after, write_run-length, no_bits, IsRow}
 use Rattle.bitmap.proofs.words.RowLaws.{Stands, stands, before, inside, beyond, within-yes, within-before, write_run-word, write_run-bit, row-ext}
 
 -- a written row is a row

@@ -1,5 +1,6 @@
 -- What a sound record is, by facts and not by tests; and no bit of a map past the last chunk. Assumes nothing.
-use Rattle.arena.proofs.Prelude.{◌≡◌, refl, sym, ap, ap₂, Bool, true, false, not, ◌&&◌, List, ◌↔◌, ℕ, ◌+◌, ◌-◌, ◌*◌, ◌%◌, ◌^◌, ◌≤◌, ◌<◌, arith, lt-ltb, ltb-true, le-leb, leb-true, eqb-true, eq-eqb, eqb, leb, bit_at, and_both, Arena, sound_range, clear_past}
+use Rattle.std.specs.Prelude.{◌≡◌, ◌&&◌, ◌↔◌, ◌+◌, ◌-◌, ◌*◌, ◌%◌, ◌^◌, ◌≤◌, ◌<◌}
+use Rattle.arena.proofs.Prelude.{refl, sym, ap, ap₂, Bool, true, false, not, List, ℕ, arith, lt-ltb, ltb-true, le-leb, leb-true, eqb-true, eq-eqb, eqb, leb, bit_at, and_both, Arena, sound_range, clear_past}
 use borrow.Author.Tests.{ne_eqb, eqb-false, not-true}
 use Rattle.bitmap.proofs.runs.LowestLaws.{all-free-of, free_all}
 use Rattle.arena.specs.Soundness.{clear_past_all, sound_arena}

@@ -1,5 +1,6 @@
 -- Sound in, sound out: each change of a sound record that stays inside its chunks leaves a sound record, whatever words its maps are of. Assumes nothing.
-use Rattle.arena.proofs.Prelude.{◌≡◌, refl, ◌∙◌, Bool, true, false, List, ℕ, ◌+◌, ◌≤◌, ◌<◌, arith, ℤ, write_run, Found, At, Nothing, Arena, Commitment, Untold, Committed, Uncommitted, no_bits, each_bit, new_arena, grown_arena, take_run, give_back_run, commit_run, dirty_run, finish_grant, tell_run, pend_run, release_run, disarm, borrow_chunk, unpend_chunk, return_chunk, next_wait, rearm_at, rearm}
+use Rattle.std.specs.Prelude.{◌≡◌, ◌+◌, ◌≤◌, ◌<◌}
+use Rattle.arena.proofs.Prelude.{refl, ◌∙◌, Bool, true, false, List, ℕ, arith, ℤ, write_run, Found, At, Nothing, Arena, Commitment, Untold, Committed, Uncommitted, no_bits, each_bit, new_arena, grown_arena, take_run, give_back_run, commit_run, dirty_run, finish_grant, tell_run, pend_run, release_run, disarm, borrow_chunk, unpend_chunk, return_chunk, next_wait, rearm_at, rearm}
 use Rattle.arena.proofs.SoundLaws.{SoundRange, Past, SoundArena}
 use Rattle.bitmap.proofs.words.RowLaws.{within-after, write_run-elsewhere}
 use Rattle.arena.proofs.RowLaws.{bit_at-no_bits}

@@ -1,5 +1,6 @@
 -- A call taken apart is the call of its parts. Assumes nothing.
-use Rattle.state.proofs.Prelude.{◌≡◌, refl, sym, ap, subst, true, false, true≢false, List, ℕ, ℤ, Arena, Reply, Settings, World, Outcome, size_of, reply_in, Leaves, sound, rules, step}
+use Rattle.std.specs.Prelude.{◌≡◌}
+use Rattle.state.proofs.Prelude.{refl, sym, ap, subst, true, false, true≢false, List, ℕ, ℤ, Arena, Reply, Settings, World, Outcome, size_of, reply_in, Leaves, sound, rules, step}
 use Rattle.layer.proofs.Tools.{by-not}
 use Rattle.layer.specs.Step as S
 use Rattle.calls.specs.declared.kinds.MemoryCall.{MemoryCall}

@@ -1,6 +1,7 @@
 -- Functions of `claiming` that a walk calls, each in one step: chunk-alloc-step, chunk-alloc-n-step, chunk-claim-step, claim-step, claim-at-step, grant-found-step, granted-step, is-allowed-step, miss-step, no-such-run-step, search-step, search-pass, search-none-pass, id-of-step, is-run-step, start-of-step. Written by tools/walks.
 -- Assumes `Logic`, the callee's theorem, and that the table of calls is monotone under a frame.
-use Rattle.walks.proofs.Walking.{◌≡◌, refl, sym, ◌∙◌, ap, subst, Bool, true, false, ℕ, ◌<◌, ◌≤◌, ◌+◌, ◌*◌, ◌^◌, List, [], ◌∷◌, length, set, w32, w64, Operand, Val, vint, vbool, Fits, to_z, Ura, SProp, emp, id⊢, Memory, Routine, Env, Calls, Item, Goal, Seq, ‵, ◌⊛◌, Opds, Fun, fact_i, bool, u32, u64, usize, i32, yes, Is, Ises, owns_make, uint_Makes, bool_Tells, bool_Makes, plain, sint_Makes, only, triple_of, Contract, Triple, Loan, lent, shared, slice_of, signed, Site, plain-call, mut_call, shr-call, pass-call, mut2-call}
+use Rattle.std.specs.Prelude.{◌≡◌, ◌<◌, ◌≤◌, ◌+◌, ◌*◌, ◌^◌, ◌∷◌}
+use Rattle.walks.proofs.Walking.{refl, sym, ◌∙◌, ap, subst, Bool, true, false, ℕ, List, [], length, set, w32, w64, Operand, Val, vint, vbool, Fits, to_z, Ura, SProp, emp, id⊢, Memory, Routine, Env, Calls, Item, Goal, Seq, ‵, ◌⊛◌, Opds, Fun, fact_i, bool, u32, u64, usize, i32, yes, Is, Ises, owns_make, uint_Makes, bool_Tells, bool_Makes, plain, sint_Makes, only, triple_of, Contract, Triple, Loan, lent, shared, slice_of, signed, Site, plain-call, mut_call, shr-call, pass-call, mut2-call}
 use Rattle.layer.specs.contracts.State as T-State
 use Rattle.layer.proofs.State.TheLaws as L-State
 use denote.Struct.Laws as LL

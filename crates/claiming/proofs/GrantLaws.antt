@@ -1,5 +1,6 @@
 -- A grant's replies and records are the definition's, and its sums fit. Assumes nothing.
-use Rattle.state.proofs.Prelude.{◌≡◌, sym, ap, Bool, true, false, not, ◌&&◌, List, ℕ, ◌+◌, ◌*◌, ◌^◌, ◌<◌, ◌≤◌, mul-le-mul, arith, set, when, unless, Arena, run_committed, run_fresh, State, AskCommit, Asks, Claimed, Committing, state_with, reply, calm, grant_arena, grant_reply}
+use Rattle.std.specs.Prelude.{◌≡◌, ◌&&◌, ◌+◌, ◌*◌, ◌^◌, ◌<◌, ◌≤◌}
+use Rattle.state.proofs.Prelude.{sym, ap, Bool, true, false, not, List, ℕ, mul-le-mul, arith, set, when, unless, Arena, run_committed, run_fresh, State, AskCommit, Asks, Claimed, Committing, state_with, reply, calm, grant_arena, grant_reply}
 use Rattle.arena.specs.Claiming.{take_run, dirty_run}
 use Rattle.layer.specs.Claiming.{asks_commit}
 

@@ -1,5 +1,6 @@
 -- A miss, case by case: which test decides. Assumes nothing.
-use Rattle.state.proofs.Prelude.{◌≡◌, refl, sym, ap, ap₂, ◌∙◌, Bool, true, false, not, ◌&&◌, ℕ, ◌≤◌, ◌<◌, arith, leb-false, le-leb, lt-leb, leb, ℤ, pos, negsuc, le_z, NoRun, Settings, Claim, turn_down, calm, too_large, ask_memory, is_negative, miss_reply, when, unless}
+use Rattle.std.specs.Prelude.{◌≡◌, ◌&&◌, ◌≤◌, ◌<◌}
+use Rattle.state.proofs.Prelude.{refl, sym, ap, ap₂, ◌∙◌, Bool, true, false, not, ℕ, arith, leb-false, le-leb, lt-leb, leb, ℤ, pos, negsuc, le_z, NoRun, Settings, Claim, turn_down, calm, too_large, ask_memory, is_negative, miss_reply, when, unless}
 
 -- ---- a miss
 

@@ -1,5 +1,6 @@
 -- Each return of a claim's core leaves what the definition of a claim says. Assumes nothing.
-use Rattle.state.proofs.Prelude.{◌≡◌, sym, ap, ◌∙◌, Bool, true, false, not, List, ℕ, ◌+◌, ◌<◌, ◌≤◌, arith, eqb, ℤ, length, set, Refusal, Zero, ArenasOff, when, unless, arena_allowed, Arena, found_inside, SoundArena, Settings, State, Reply, Outcome, size_of, after, Leaves, turn_down, calm, at, grant_arena, grant_reply, miss_reply, search_of, claim_of}
+use Rattle.std.specs.Prelude.{◌≡◌, ◌+◌, ◌<◌, ◌≤◌}
+use Rattle.state.proofs.Prelude.{sym, ap, ◌∙◌, Bool, true, false, not, List, ℕ, arith, eqb, ℤ, length, set, Refusal, Zero, ArenasOff, when, unless, arena_allowed, Arena, found_inside, SoundArena, Settings, State, Reply, Outcome, size_of, after, Leaves, turn_down, calm, at, grant_arena, grant_reply, miss_reply, search_of, claim_of}
 use Rattle.state.specs.Ready.{Standing, Ready}
 use Rattle.state.proofs.Entry.{calm-is, stands, comes}
 use Rattle.claiming.specs.declared.verdicts.Verdict.{Verdict}

@@ -1,5 +1,6 @@
 -- What a claim's search finds is what the definition of a claim looks for. Assumes nothing.
-use Rattle.state.proofs.Prelude.{◌≡◌, refl, sym, ap, ◌∙◌, subst, Bool, true, false, cond, ◌&&◌, true≢false, List, ℕ, zero, suc, ◌+◌, ◌<◌, ◌≤◌, arith, ltb-true, le-leb, le-ltb, eqb, leb, ltb, ℤ, pos, negsuc, set, when, unless, Found, At, Nothing, all, least, lowest_run, Arena, find_run, found_inside, Reply, Outcome, after, at, is_at, eligible, grant_arena, grant_reply, search_of}
+use Rattle.std.specs.Prelude.{◌≡◌, ◌&&◌, ◌+◌, ◌<◌, ◌≤◌}
+use Rattle.state.proofs.Prelude.{refl, sym, ap, ◌∙◌, subst, Bool, true, false, cond, true≢false, List, ℕ, zero, suc, arith, ltb-true, le-leb, le-ltb, eqb, leb, ltb, ℤ, pos, negsuc, set, when, unless, Found, At, Nothing, all, least, lowest_run, Arena, find_run, found_inside, Reply, Outcome, after, at, is_at, eligible, grant_arena, grant_reply, search_of}
 use Rattle.arena.specs.Claiming.{free}
 use Rattle.layer.specs.Claiming.{serves, grant_found, search_at}
 use Rattle.table.specs.Heads.{head_of, headed}

@@ -1,5 +1,6 @@
 -- A claim's search, by what its loop knows: no arena before has a run. Assumes nothing.
-use Rattle.state.proofs.Prelude.{◌≡◌, refl, sym, ap, ◌∙◌, subst, Bool, true, false, cond, List, ⊎_elim, ℕ, zero, suc, ◌+◌, ◌<◌, ◌≤◌, arith, ℤ, Arena, at, eligible}
+use Rattle.std.specs.Prelude.{◌≡◌, ◌+◌, ◌<◌, ◌≤◌}
+use Rattle.state.proofs.Prelude.{refl, sym, ap, ◌∙◌, subst, Bool, true, false, cond, List, ⊎_elim, ℕ, zero, suc, arith, ℤ, Arena, at, eligible}
 use native.Mathlib.Nat.{eq-or-lt_of_le, le_refl}
 use Rattle.table.specs.Heads.{head_of, headed}
 use Rattle.table.proofs.TurnLaws.{Passed}

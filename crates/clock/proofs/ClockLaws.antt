@@ -1,5 +1,6 @@
 -- What the clock's definitions say in each case that its functions meet. Assumes nothing.
-use Rattle.walks.proofs.Prelude.{◌≡◌, refl, true, false, ℕ, zero, suc, ◌+◌, ◌%◌, ◌^◌, ◌≤◌, ◌<◌, not-suc-le-zero, arith, ltb-true, ltb-false, lt-ltb, le-ltb, eq-eqb, ne_eqb, T, leb, eqb, ℤ, pos, negsuc}
+use Rattle.std.specs.Prelude.{◌≡◌, ◌+◌, ◌%◌, ◌^◌, ◌≤◌, ◌<◌}
+use Rattle.walks.proofs.Prelude.{refl, true, false, ℕ, zero, suc, not-suc-le-zero, arith, ltb-true, ltb-false, lt-ltb, le-ltb, eq-eqb, ne_eqb, T, leb, eqb, ℤ, pos, negsuc}
 use Rattle.std.proofs.Common.{nat_abs, w32, Fits}
 use lib.Signed.{lt_z, non_neg}
 use Rattle.clock.specs.Clock.{or_one, delay_ms, never_purges, minus, keeps, armed, is_due}

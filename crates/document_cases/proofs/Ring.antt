@@ -1,5 +1,6 @@
 -- The history of the ring meets the premises of demand 3, and program 7 is told what its share book says: computed. Assumes nothing.
-use Rattle.layer.proofs.Prelude.{◌≡◌, refl, true, false, [], ◌∷◌, ◌+◌, bit, bit_at, within, as_number, pack, write_run, all, least, lowest_run, or_one, now_ms, delay_ms, never_purges, keeps, armed, is_due, arena_allowed, page_size_sound, new_arena, reserved_arena, managed_arena, adopted_arena, grown_arena, find_run, run_committed, run_fresh, take_run, give_back_run, commit_run, dirty_run, finish_grant, tell_run, pend_run, release_run, stamp_run, sweep_due, disarm, young, to_ask, next_asked, borrow_chunk, unpend_chunk, return_chunk, rearm, bytes_of, end_of, is_inside, sound_range, clear_past, clear_past_all, sound_arena, empty, meets, overlaps, bad_range, find_arena, apart, sound_question, sound_table, sound_lent, chunks_for, too_large, bytes_asked, ask_memory, reserve_reply, bad_count, no_whole_chunk, grows, reserve_of, manage_of, adopt_of, eligible, serves, asks_commit, grant_arena, grant_reply, miss_reply, search_of, claim_of, release_of, purge_reply, swept_reply, visit, sweep_from, is_for, answer_of, rules, overwritten, outcome, tables_overlap, join_on, join_rules, join, lowest, claims, releases as frees, granted, released, enter, say_all, in_range, book_of, by_rules, list_fits, release_list, release_item, list_outcome, sound, is_sound_list, World, ℕ, ap, Bool, ◌&&◌, cond, is_none, feeds, entries_of_list, arith}
+use Rattle.std.specs.Prelude.{◌≡◌, ◌∷◌, ◌+◌, ◌&&◌}
+use Rattle.layer.proofs.Prelude.{refl, true, false, [], bit, bit_at, within, as_number, pack, write_run, all, least, lowest_run, or_one, now_ms, delay_ms, never_purges, keeps, armed, is_due, arena_allowed, page_size_sound, new_arena, reserved_arena, managed_arena, adopted_arena, grown_arena, find_run, run_committed, run_fresh, take_run, give_back_run, commit_run, dirty_run, finish_grant, tell_run, pend_run, release_run, stamp_run, sweep_due, disarm, young, to_ask, next_asked, borrow_chunk, unpend_chunk, return_chunk, rearm, bytes_of, end_of, is_inside, sound_range, clear_past, clear_past_all, sound_arena, empty, meets, overlaps, bad_range, find_arena, apart, sound_question, sound_table, sound_lent, chunks_for, too_large, bytes_asked, ask_memory, reserve_reply, bad_count, no_whole_chunk, grows, reserve_of, manage_of, adopt_of, eligible, serves, asks_commit, grant_arena, grant_reply, miss_reply, search_of, claim_of, release_of, purge_reply, swept_reply, visit, sweep_from, is_for, answer_of, rules, overwritten, outcome, tables_overlap, join_on, join_rules, join, lowest, claims, releases as frees, granted, released, enter, say_all, in_range, book_of, by_rules, list_fits, release_list, release_item, list_outcome, sound, is_sound_list, World, ℕ, ap, Bool, cond, is_none, feeds, entries_of_list, arith}
 use Rattle.refusals.specs.declared.Refusal.TheVariants.{NotInside, ListLength}
 use Rattle.layer.specs.declared.Question.TheVariants.{Idle}
 use Rattle.layer.specs.declared.Answer.TheVariants.{Refused, Claimed, Released}

@@ -1,5 +1,6 @@
 -- Histories worked through call by call: what the rules and a layer leave is written out after each call, so that each call is computed by itself. Assumes nothing.
-use Rattle.layer.proofs.Prelude.{◌≡◌, refl, sym, ap, ap₂, ◌∙◌, subst, Bool, true, false, cond, ◌&&◌, true≢false, List, [], ◌++◌, inl, inr, ℕ, ◌+◌, ◌*◌, ◌<◌, ◌≤◌, when, unless, World, Outcome, JoinOutcome, empty, step, Fed, Say, say_all, Marked, MarkedJoin, Side, of_first, of_second, History, begin, next, joining, is_sound, both_sound, Layer, outcome_by, join_by, is_broken, is_broken_join, side_of, left, Lent, Trail, open_at, is_idle, follow, start, join_of, leaving, follow_join, ruled, is_joined, unites, entries, said, goes_on, tells, Place, in_range, is_none, feeds, hears, fed_by, told_by, waits, standing, OpensAt, risen, Where, place, fed, told, is_answer, declines, Premises, Keeps, book_of, claimant, chunks_of, Demand3, ListOutcome, release_list, list_fits, MarkedList, ListPremises, listing, list_by, list_of, is_sound_list, is_taken, follow_list, fed_by_list, told_by_list, entries_of_list, said_of_list, not, ◌∷◌, outcome, sound, Items, list_outcome, item_number, release_each, release_item}
+use Rattle.std.specs.Prelude.{◌≡◌, ◌&&◌, ◌++◌, ◌+◌, ◌*◌, ◌<◌, ◌≤◌, ◌∷◌}
+use Rattle.layer.proofs.Prelude.{refl, sym, ap, ap₂, ◌∙◌, subst, Bool, true, false, cond, true≢false, List, [], inl, inr, ℕ, when, unless, World, Outcome, JoinOutcome, empty, step, Fed, Say, say_all, Marked, MarkedJoin, Side, of_first, of_second, History, begin, next, joining, is_sound, both_sound, Layer, outcome_by, join_by, is_broken, is_broken_join, side_of, left, Lent, Trail, open_at, is_idle, follow, start, join_of, leaving, follow_join, ruled, is_joined, unites, entries, said, goes_on, tells, Place, in_range, is_none, feeds, hears, fed_by, told_by, waits, standing, OpensAt, risen, Where, place, fed, told, is_answer, declines, Premises, Keeps, book_of, claimant, chunks_of, Demand3, ListOutcome, release_list, list_fits, MarkedList, ListPremises, listing, list_by, list_of, is_sound_list, is_taken, follow_list, fed_by_list, told_by_list, entries_of_list, said_of_list, not, outcome, sound, Items, list_outcome, item_number, release_each, release_item}
 use Rattle.layer.specs.declared.Settings.{Settings}
 use Rattle.layer.specs.declared.Question.TheVariants.{Idle}
 use Rattle.layer.specs.declared.Answer.{Answer}

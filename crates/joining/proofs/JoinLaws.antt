@@ -1,5 +1,6 @@
 -- A join row by row: what its loops know, and that each return is the definition's. Assumes nothing.
-use Rattle.state.proofs.Prelude.{◌≡◌, refl, sym, ap, ap₂, ◌∙◌, subst, Bool, true, false, not, ◌&&◌, List, ℕ, ◌+◌, ◌*◌, ◌<◌, ◌≤◌, arith, ltb-false, ltb, length, set, replicate, length-replicate, Broken, QuestionOpen, when, unless, and_both, Arena, bytes_of, State, Settings, Question, World, world_of, size_of, calm, blank, at, is_at, overlaps, is_idle, sound}
+use Rattle.std.specs.Prelude.{◌≡◌, ◌&&◌, ◌+◌, ◌*◌, ◌<◌, ◌≤◌}
+use Rattle.state.proofs.Prelude.{refl, sym, ap, ap₂, ◌∙◌, subst, Bool, true, false, not, List, ℕ, arith, ltb-false, ltb, length, set, replicate, length-replicate, Broken, QuestionOpen, when, unless, and_both, Arena, bytes_of, State, Settings, Question, World, world_of, size_of, calm, blank, at, is_at, overlaps, is_idle, sound}
 use lib.ListN.{get_or-replicate}
 use Rattle.refusals.specs.declared.Refusal.{Refusal}
 use Rattle.refusals.specs.declared.Refusal.TheVariants.{TablesOverlap, TooManyArenas}

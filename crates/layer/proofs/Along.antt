@@ -1,5 +1,6 @@
 -- One arena along a call, in a table that changes: the book that its record shows stays, or a run of it is granted. No call and no role. Assumes nothing.
-use Rattle.layer.proofs.Prelude.{◌≡◌, refl, sym, ap, ap₂, ◌∙◌, subst, Bool, true, false, not, true≢false, List, [], ◌∷◌, ◌++◌, ℕ, zero, suc, ◌+◌, ◌-◌, ◌*◌, ◌/◌, ◌≤◌, ◌<◌, arith, ℕ_discrete, not-true, ℤ, length, set, length-set, Refusal, bit_at, by_cond, Found, At, Nothing, least, lowest_run, First, first_says, and_both, Arena, Commitment, find_run, run_fresh, run_committed, take_run, dirty_run, release_run, sweep_due, disarm, to_ask, young, next_asked, borrow_chunk, rearm, is_inside, stamps_of, Rows, found_inside, disarm-rows, rearm-rows, Settings, Sweep, Question, Idle, Committing, Purging, Waiting, Reserve, Claim, AskCommit, Answer, Asks, Claimed, Reply, Outcome, state_with, reply, after, at, is_at, ask_memory, with_record, serves, miss_reply, grant_found, search_of, release_of, purge_reply, swept_reply, visit_at, visit, sweep_from, fail_reply, reserve, answer, Book, Say, unheld, hold, claimed, said}
+use Rattle.std.specs.Prelude.{◌≡◌, ◌∷◌, ◌++◌, ◌+◌, ◌-◌, ◌*◌, ◌/◌, ◌≤◌, ◌<◌}
+use Rattle.layer.proofs.Prelude.{refl, sym, ap, ap₂, ◌∙◌, subst, Bool, true, false, not, true≢false, List, [], ℕ, zero, suc, arith, ℕ_discrete, not-true, ℤ, length, set, length-set, Refusal, bit_at, by_cond, Found, At, Nothing, least, lowest_run, First, first_says, and_both, Arena, Commitment, find_run, run_fresh, run_committed, take_run, dirty_run, release_run, sweep_due, disarm, to_ask, young, next_asked, borrow_chunk, rearm, is_inside, stamps_of, Rows, found_inside, disarm-rows, rearm-rows, Settings, Sweep, Question, Idle, Committing, Purging, Waiting, Reserve, Claim, AskCommit, Answer, Asks, Claimed, Reply, Outcome, state_with, reply, after, at, is_at, ask_memory, with_record, serves, miss_reply, grant_found, search_of, release_of, purge_reply, swept_reply, visit_at, visit, sweep_from, fail_reply, reserve, answer, Book, Say, unheld, hold, claimed, said}
 use Rattle.layer.proofs.Tools.{at_same, at_other}
 use Rattle.layer.proofs.Rules.{served-found}
 use Rattle.layer.proofs.Shown.{View, calm, committing, purging, view_of, waits_in, owed_in, book_in, Same}

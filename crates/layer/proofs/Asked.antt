@@ -1,5 +1,6 @@
 -- The open question is of the call that put it: what the rules' own run remembers of that call is what the question says. Assumes nothing.
-use Rattle.layer.proofs.Prelude.{◌≡◌, refl, sym, ap, ◌∙◌, subst, Bool, true, false, cond, List, ℕ, suc, ◌+◌, ◌-◌, ◌<◌, ◌≤◌, arith, ℤ, pos, negsuc, length, set, length-set, Refusal, Arena, is_on, take_run, never, Settings, Sweep, Question, Idle, Committing, Purging, Reserving, GivingBack, Waiting, Reserve, Claim, Kind, Reply, Outcome, after, at, chunks_for, ask_memory, with_record, with_stamps, serves, search_of, miss_reply, visit, sweep_from, is_for, counted, fail_reply, resume, answer_to, answer_of, Act, reserve, manage, adopt, claim, release, sweep, Call, act, query, answer, sweep_of, act_on, step_on, is_idle, stays_pending, sweeps_none}
+use Rattle.std.specs.Prelude.{◌≡◌, ◌+◌, ◌-◌, ◌<◌, ◌≤◌}
+use Rattle.layer.proofs.Prelude.{refl, sym, ap, ◌∙◌, subst, Bool, true, false, cond, List, ℕ, suc, arith, ℤ, pos, negsuc, length, set, length-set, Refusal, Arena, is_on, take_run, never, Settings, Sweep, Question, Idle, Committing, Purging, Reserving, GivingBack, Waiting, Reserve, Claim, Kind, Reply, Outcome, after, at, chunks_for, ask_memory, with_record, with_stamps, serves, search_of, miss_reply, visit, sweep_from, is_for, counted, fail_reply, resume, answer_to, answer_of, Act, reserve, manage, adopt, claim, release, sweep, Call, act, query, answer, sweep_of, act_on, step_on, is_idle, stays_pending, sweeps_none}
 use Rattle.layer.proofs.Tools.{at_same, by-not}
 use Rattle.layer.proofs.Rules.{not-shared, served-named, Again, again}
 use Rattle.layer.proofs.Cases.{register, grant-cases, search-cases, miss-cases, claim-cases, release-in-cases, release-cases, reserve-cases, register-cases, manage-cases, adopt-cases, memory-cases}

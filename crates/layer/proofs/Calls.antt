@@ -1,5 +1,6 @@
 -- A whole call by its rows: "Order: 1; then 2, or 3 for answers; then the call's own." Assumes nothing.
-use Rattle.layer.proofs.Prelude.{◌≡◌, refl, sym, ap, ◌∙◌, subst, Bool, true, false, not, true≢false, ℕ, ◌*◌, ◌%◌, ◌<◌, Refusal, Range, unless, reserved_arena, Settings, Question, Idle, Committing, Purging, Reserving, GivingBack, Waiting, Unusable, Kind, ForMemory, Refused, World, Outcome, state_with, world_of, outcome, after, calm, bad_range, sound, bad_count, is_for, give_back_reply, resume, answer_to, answer_of, Act, Call, act, answer, act_on, step_on, rules}
+use Rattle.std.specs.Prelude.{◌≡◌, ◌*◌, ◌%◌, ◌<◌}
+use Rattle.layer.proofs.Prelude.{refl, sym, ap, ◌∙◌, subst, Bool, true, false, not, true≢false, ℕ, Refusal, Range, unless, reserved_arena, Settings, Question, Idle, Committing, Purging, Reserving, GivingBack, Waiting, Unusable, Kind, ForMemory, Refused, World, Outcome, state_with, world_of, outcome, after, calm, bad_range, sound, bad_count, is_for, give_back_reply, resume, answer_to, answer_of, Act, Call, act, answer, act_on, step_on, rules}
 use Rattle.layer.specs.Answering.{is_idle}
 use Rattle.layer.proofs.Tools.{by-not}
 use Rattle.layer.proofs.Cases.{memory-cases}

@@ -1,5 +1,6 @@
 -- The case principle of each call: to prove P of what comes out, prove it of each outcome, with what is known there. Assumes nothing.
-use Rattle.layer.proofs.Prelude.{◌≡◌, refl, Bool, true, false, cond, not, ◌&&◌, ◌||◌, List, [], ◌∷◌, ℕ, ◌+◌, ◌-◌, ◌*◌, ◌/◌, ◌%◌, ◌<◌, arith, leb-false, eqb-true, eqb-false, eqb, leb, ℤ, set, Refusal, Zero, ArenasOff, Range, NotWhole, PastEnd, NoRun, ChunkCount, TableFull, NoWholeChunk, by_cond, Found, At, Nothing, least, First, first_says, and_both, arena_allowed, Arena, Commitment, reserved_arena, managed_arena, adopted_arena, find_run, run_committed, run_fresh, take_run, dirty_run, release_run, stamp_run, is_inside, Settings, Committing, Reserving, Waiting, Reserve, Claim, Unusable, Count, Misaligned, Full, AskCommit, Asks, Claimed, Released, Reply, Outcome, state_with, world_of, reply, after, turn_down, calm, refuse, first_of, at, is_at, bad_range, find_arena, too_large, ask_memory, bad_count, first_whole, past_whole, no_whole_chunk, grows, reserve_reply, reserve_of, manage_of, adopt_of, serves, is_negative, asks_commit, grant_arena, grant_reply, miss_reply, grant_found, search_at, search_of, claim_of, release_of, give_back_reply, resume, answer_memory}
+use Rattle.std.specs.Prelude.{◌≡◌, ◌&&◌, ◌||◌, ◌∷◌, ◌+◌, ◌-◌, ◌*◌, ◌/◌, ◌%◌, ◌<◌}
+use Rattle.layer.proofs.Prelude.{refl, Bool, true, false, cond, not, List, [], ℕ, arith, leb-false, eqb-true, eqb-false, eqb, leb, ℤ, set, Refusal, Zero, ArenasOff, Range, NotWhole, PastEnd, NoRun, ChunkCount, TableFull, NoWholeChunk, by_cond, Found, At, Nothing, least, First, first_says, and_both, arena_allowed, Arena, Commitment, reserved_arena, managed_arena, adopted_arena, find_run, run_committed, run_fresh, take_run, dirty_run, release_run, stamp_run, is_inside, Settings, Committing, Reserving, Waiting, Reserve, Claim, Unusable, Count, Misaligned, Full, AskCommit, Asks, Claimed, Released, Reply, Outcome, state_with, world_of, reply, after, turn_down, calm, refuse, first_of, at, is_at, bad_range, find_arena, too_large, ask_memory, bad_count, first_whole, past_whole, no_whole_chunk, grows, reserve_reply, reserve_of, manage_of, adopt_of, serves, is_negative, asks_commit, grant_arena, grant_reply, miss_reply, grant_found, search_at, search_of, claim_of, release_of, give_back_reply, resume, answer_memory}
 use Rattle.refusals.specs.declared.Refusal.TheVariants.{NotInside, HostRefused}
 use Rattle.layer.specs.Table.{id_found}
 use Rattle.layer.specs.Registering.{registered, grown}

@@ -1,5 +1,6 @@
 -- Whole chunks of any size S: bytes rounded up and down to them, and those inside a range; and that the size in a state is one. Assumes nothing.
-use Rattle.layer.proofs.Prelude.{◌≡◌, sym, ap, ap₂, ◌∙◌, ℕ, zero, suc, ◌+◌, ◌-◌, ◌*◌, ◌/◌, ◌%◌, ◌<◌, ◌≤◌, add-mul, mul_comm, mul-sub, suc-mul, div-add-mod', mul-div_cancel, mul-le-mul_right, arith, lit<, chunks_for, first_whole, past_whole}
+use Rattle.std.specs.Prelude.{◌≡◌, ◌+◌, ◌-◌, ◌*◌, ◌/◌, ◌%◌, ◌<◌, ◌≤◌}
+use Rattle.layer.proofs.Prelude.{sym, ap, ap₂, ◌∙◌, ℕ, zero, suc, add-mul, mul_comm, mul-sub, suc-mul, div-add-mod', mul-div_cancel, mul-le-mul_right, arith, lit<, chunks_for, first_whole, past_whole}
 use lib.Dec.{lit≤}
 use native.Mathlib.Nat.{mod-lt, le-div_iff_mul-le, div-lt_iff_lt-mul, div-mul-le_self, div-eq_of_lt-le}
 use Rattle.arena.specs.ChunkSize.{ChunkSize}

@@ -1,6 +1,7 @@
 -- What follows, in the order's words; and demand 3 as a whole. All but that no other's claim is granted a chunk there follow from what the book says, whatever the layer.
 -- Assumes nothing.
-use Rattle.layer.proofs.Prelude.{◌≡◌, refl, sym, ap, ap₂, ◌∙◌, subst, Bool, false, not, ◌&&◌, ◌||◌, List, [], ◌∷◌, ◌++◌, append_assoc, ◌⊎◌, inl, inr, ◌↔◌, ℕ, suc, ◌+◌, ◌-◌, ◌*◌, ◌/◌, ◌%◌, ◌<◌, mul-div_cancel, arith, ne_eqb, leb, eqb, length, within, by_cond, unless, Found, At, Nothing, Starts, Lowest, all, lowest_run, lowest-says, Book, lowest, Fed, claims, releases, Say, refused, granted, Turn, turn, unheld, claimed, enter, enter_all, say_all, History, Layer, Lent, Place, Where, ruled, place, fed, told, Keeps, book_of, ByTheBook}
+use Rattle.std.specs.Prelude.{◌≡◌, ◌&&◌, ◌||◌, ◌∷◌, ◌++◌, ◌⊎◌, ◌↔◌, ◌+◌, ◌-◌, ◌*◌, ◌/◌, ◌%◌, ◌<◌}
+use Rattle.layer.proofs.Prelude.{refl, sym, ap, ap₂, ◌∙◌, subst, Bool, false, not, List, [], append_assoc, inl, inr, ℕ, suc, mul-div_cancel, arith, ne_eqb, leb, eqb, length, within, by_cond, unless, Found, At, Nothing, Starts, Lowest, all, lowest_run, lowest-says, Book, lowest, Fed, claims, releases, Say, refused, granted, Turn, turn, unheld, claimed, enter, enter_all, say_all, History, Layer, Lent, Place, Where, ruled, place, fed, told, Keeps, book_of, ByTheBook}
 use Rattle.layer.specs.Demand.{held_from, left_unheld, Claims, GrantedExactly, GrantedLowest, Begins, Alike}
 use Rattle.layer.proofs.ChunkLaws.{size_fits}
 use Rattle.layer.proofs.Demand.{say-append, place-size}

@@ -1,5 +1,6 @@
 -- How many arenas there are after a call, and the book of a new one. Assumes nothing.
-use Rattle.layer.proofs.Prelude.{◌≡◌, refl, sym, ◌∙◌, subst, Bool, true, false, List, ℕ, zero, suc, ◌+◌, ◌/◌, ◌≤◌, ◌<◌, arith, ℤ, length-set, Refusal, by_cond, Found, At, Nothing, Arena, Commitment, new_arena, reserved_arena, managed_arena, adopted_arena, sweep_due, next_asked, stamps_of, Rows, Settings, Sweep, Question, Idle, Committing, Purging, Reserving, GivingBack, Waiting, Reserve, Claim, Kind, ForCommit, ForPurge, ForMemory, ForGiveBack, ForNone, Reply, Outcome, after, at, ask_memory, bad_count, with_record, with_stamps, search_of, claim_of, release_of, purge_reply, swept_reply, visit_at, visit, sweep_from, is_for, counted, fail_reply, resume, answer_of, Act, reserve, manage, adopt, claim, release, sweep, Call, act, query, answer, act_on, step_on, opened, Place, stays_pending, sweeps_none, sweep_of}
+use Rattle.std.specs.Prelude.{◌≡◌, ◌+◌, ◌/◌, ◌≤◌, ◌<◌}
+use Rattle.layer.proofs.Prelude.{refl, sym, ◌∙◌, subst, Bool, true, false, List, ℕ, zero, suc, arith, ℤ, length-set, Refusal, by_cond, Found, At, Nothing, Arena, Commitment, new_arena, reserved_arena, managed_arena, adopted_arena, sweep_due, next_asked, stamps_of, Rows, Settings, Sweep, Question, Idle, Committing, Purging, Reserving, GivingBack, Waiting, Reserve, Claim, Kind, ForCommit, ForPurge, ForMemory, ForGiveBack, ForNone, Reply, Outcome, after, at, ask_memory, bad_count, with_record, with_stamps, search_of, claim_of, release_of, purge_reply, swept_reply, visit_at, visit, sweep_from, is_for, counted, fail_reply, resume, answer_of, Act, reserve, manage, adopt, claim, release, sweep, Call, act, query, answer, act_on, step_on, opened, Place, stays_pending, sweeps_none, sweep_of}
 use Rattle.layer.proofs.Tools.{at_same, by-not}
 use Rattle.layer.proofs.Facts.{SoundTable}
 use Rattle.layer.proofs.Rules.{Again, again, count-facts}

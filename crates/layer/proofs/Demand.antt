@@ -1,5 +1,6 @@
 -- Demand 3, over every history from the empty layer, of every layer that answers and leaves what the rules say: what is told is what the book says. Assumes nothing.
-use Rattle.layer.proofs.Prelude.{◌+◌, ◌<◌, arith, and_both, World, JoinOutcome, joined_world, MarkedJoin, of_first, of_second, joining, both_sound, by_rules, is_joined, join_of, leaving, follow_join, unites, risen, ◌≡◌, refl, sym, ap, ap₂, ◌∙◌, subst, Bool, true, false, cond, ◌&&◌, true≢false, List, [], ◌∷◌, ◌++◌, append_assoc, append-nil, inl, inr, ℕ, ne_eqb, eqb, ℤ, pos, negsuc, length, by_cond, when, unless, Arena, is_on, Question, Idle, Committing, Purging, Reserving, GivingBack, Reserve, Claim, Kind, ForCommit, ForPurge, ForMemory, ForGiveBack, ForNone, Answer, Refused, Asks, Registered, Claimed, Released, Swept, Owns, Area, Outcome, at, is_for, Act, reserve, manage, adopt, claim, release, sweep, Call, act, query, answer, step_on, Book, lowest, Fed, claims, Say, enter, enter_all, say_all, Marked, History, begin, next, is_sound, Layer, outcome_by, Lent, Trail, open_at, is_idle, follow, ruled, entries_of, entries, said, goes_on, tells, Place, is_none, feeds, hears, fed_by, told_by, standing, Where, place, fed, told, Premises, Keeps, book_of, ByTheBook, Settings, page_size_sound, Untold, release_each, release_item, item_number, number_says, ListOutcome, list_fits, MarkedList, ListPremises, listing, is_sound_list, is_taken, list_by, list_of, follow_list, fed_by_list, told_by_list, entries_in, entries_of_list, said_of_list}
+use Rattle.std.specs.Prelude.{◌+◌, ◌<◌, ◌≡◌, ◌&&◌, ◌∷◌, ◌++◌}
+use Rattle.layer.proofs.Prelude.{arith, and_both, World, JoinOutcome, joined_world, MarkedJoin, of_first, of_second, joining, both_sound, by_rules, is_joined, join_of, leaving, follow_join, unites, risen, refl, sym, ap, ap₂, ◌∙◌, subst, Bool, true, false, cond, true≢false, List, [], append_assoc, append-nil, inl, inr, ℕ, ne_eqb, eqb, ℤ, pos, negsuc, length, by_cond, when, unless, Arena, is_on, Question, Idle, Committing, Purging, Reserving, GivingBack, Reserve, Claim, Kind, ForCommit, ForPurge, ForMemory, ForGiveBack, ForNone, Answer, Refused, Asks, Registered, Claimed, Released, Swept, Owns, Area, Outcome, at, is_for, Act, reserve, manage, adopt, claim, release, sweep, Call, act, query, answer, step_on, Book, lowest, Fed, claims, Say, enter, enter_all, say_all, Marked, History, begin, next, is_sound, Layer, outcome_by, Lent, Trail, open_at, is_idle, follow, ruled, entries_of, entries, said, goes_on, tells, Place, is_none, feeds, hears, fed_by, told_by, standing, Where, place, fed, told, Premises, Keeps, book_of, ByTheBook, Settings, page_size_sound, Untold, release_each, release_item, item_number, number_says, ListOutcome, list_fits, MarkedList, ListPremises, listing, is_sound_list, is_taken, list_by, list_of, follow_list, fed_by_list, told_by_list, entries_in, entries_of_list, said_of_list}
 use mathlib.Core.List.{map}
 use Rattle.layer.specs.History.{Entry, claims_at, releases_at, fed_at, bytes_in}
 use Rattle.layer.proofs.Facts.{SoundTable}

@@ -1,6 +1,7 @@
 -- What one call does to the share book of any arena below the count, shared or exclusive, and by which call: demand 3's exclusive arena is a case (`Keeps`).
 -- Assumes nothing.
-use Rattle.layer.proofs.Prelude.{◌≡◌, refl, sym, ap, ap₂, ◌∙◌, subst, Bool, true, false, cond, ◌&&◌, true≢false, List, [], ◌∷◌, ◌++◌, ◌⊎◌, inl, inr, ⊎_elim, ℕ, suc, ◌+◌, ◌-◌, ◌*◌, ◌/◌, ◌%◌, ◌≤◌, ◌<◌, div-add-mod', arith, ℕ_discrete, eq-eqb, ne_eqb, eqb-true, eqb-false, leb-true, ℤ, pos, negsuc, eqb, leb, set, length-set, Refusal, QuestionOpen, Zero, NotWhole, PastEnd, NoRun, CommitRefused, lt-or-le, when, unless, Found, At, Nothing, lowest_run, now_ms, delay_ms, arena_allowed, Arena, is_on, Commitment, grown_arena, find_run, give_back_run, bytes_of, end_of, is_inside, Rows, never, return-rows, Settings, Sweep, Question, Idle, Committing, Purging, Reserving, GivingBack, Waiting, Reserve, Claim, Kind, ForCommit, ForPurge, ForMemory, ForGiveBack, ForNone, Answer, Refused, Registered, Released, Outcome, state_with, reply, after, turn_down, at, is_at, with_record, with_stamps, grows as grows_by, eligible, serves, miss_reply, claim_of, release_of, visit, sweep_from, is_for, counted, resume, answer_commit, answer_purge, answer_of, Act, reserve, manage, adopt, claim, release, sweep, Call, act, query, answer, act_on, step_on, Eligible, Book, lowest, Fed, claims, releases, Say, refused, released, turn, unheld, hold, unhold, claimed, enter, is_idle, said, in_range, is_answer, stays_pending, sweeps_none, sweep_of}
+use Rattle.std.specs.Prelude.{◌≡◌, ◌&&◌, ◌∷◌, ◌++◌, ◌⊎◌, ◌+◌, ◌-◌, ◌*◌, ◌/◌, ◌%◌, ◌≤◌, ◌<◌}
+use Rattle.layer.proofs.Prelude.{refl, sym, ap, ap₂, ◌∙◌, subst, Bool, true, false, cond, true≢false, List, [], inl, inr, ⊎_elim, ℕ, suc, div-add-mod', arith, ℕ_discrete, eq-eqb, ne_eqb, eqb-true, eqb-false, leb-true, ℤ, pos, negsuc, eqb, leb, set, length-set, Refusal, QuestionOpen, Zero, NotWhole, PastEnd, NoRun, CommitRefused, lt-or-le, when, unless, Found, At, Nothing, lowest_run, now_ms, delay_ms, arena_allowed, Arena, is_on, Commitment, grown_arena, find_run, give_back_run, bytes_of, end_of, is_inside, Rows, never, return-rows, Settings, Sweep, Question, Idle, Committing, Purging, Reserving, GivingBack, Waiting, Reserve, Claim, Kind, ForCommit, ForPurge, ForMemory, ForGiveBack, ForNone, Answer, Refused, Registered, Released, Outcome, state_with, reply, after, turn_down, at, is_at, with_record, with_stamps, grows as grows_by, eligible, serves, miss_reply, claim_of, release_of, visit, sweep_from, is_for, counted, resume, answer_commit, answer_purge, answer_of, Act, reserve, manage, adopt, claim, release, sweep, Call, act, query, answer, act_on, step_on, Eligible, Book, lowest, Fed, claims, releases, Say, refused, released, turn, unheld, hold, unhold, claimed, enter, is_idle, said, in_range, is_answer, stays_pending, sweeps_none, sweep_of}
 use Rattle.refusals.specs.Number.{number}
 use Rattle.arena.proofs.PlaceLaws.{Within, inside-facts}
 use Rattle.layer.proofs.Tools.{at_same, by-not}

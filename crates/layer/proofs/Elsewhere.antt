@@ -1,5 +1,6 @@
 -- "no other's claim is granted a chunk there"; and demand 3 as a whole. Assumes nothing.
-use Rattle.layer.proofs.Prelude.{Items, release_list, by_rules, join, ◌≡◌, refl, sym, ap, ap₂, ◌∙◌, subst, Bool, true, false, cond, not, ◌&&◌, true≢false, List, [], ◌∷◌, ◌++◌, ℕ, ◌+◌, ◌*◌, ◌<◌, arith, leb, ltb, eqb, pos, negsuc, when, Arena, bytes_of, end_of, is_inside, never, NoSuchQuestion, Settings, Question, Idle, Committing, Purging, Reserving, GivingBack, Reserve, Claim, Kind, Answer, Refused, Claimed, World, Outcome, at, sound, is_for, answer_of, Act, reserve, manage, adopt, claim, release, sweep, Call, act, query, answer, step_on, step, lowest, claims, Marked, is_sound, Layer, is_broken, Trail, open_at, ruled, entries, goes_on, Place, in_range, is_none, feeds, fed_by, standing, place, is_answer, claimant, chunks_of, Demand3}
+use Rattle.std.specs.Prelude.{◌≡◌, ◌&&◌, ◌∷◌, ◌++◌, ◌+◌, ◌*◌, ◌<◌}
+use Rattle.layer.proofs.Prelude.{Items, release_list, by_rules, join, refl, sym, ap, ap₂, ◌∙◌, subst, Bool, true, false, cond, not, true≢false, List, [], ℕ, arith, leb, ltb, eqb, pos, negsuc, when, Arena, bytes_of, end_of, is_inside, never, NoSuchQuestion, Settings, Question, Idle, Committing, Purging, Reserving, GivingBack, Reserve, Claim, Kind, Answer, Refused, Claimed, World, Outcome, at, sound, is_for, answer_of, Act, reserve, manage, adopt, claim, release, sweep, Call, act, query, answer, step_on, step, lowest, claims, Marked, is_sound, Layer, is_broken, Trail, open_at, ruled, entries, goes_on, Place, in_range, is_none, feeds, fed_by, standing, place, is_answer, claimant, chunks_of, Demand3}
 use Rattle.layer.specs.World.{size_of}
 use Rattle.layer.specs.History.{bytes_in}
 use Rattle.layer.specs.Demand.{OthersElsewhere, StaysSound}

@@ -1,5 +1,6 @@
 -- A sound table, by facts, and when a store leaves one. Assumes nothing.
-use Rattle.layer.proofs.Prelude.{◌≡◌, refl, sym, ap, ap₂, ◌∙◌, true, false, not, ◌&&◌, true≢false, List, ℕ, ◌+◌, ◌*◌, ◌<◌, ◌≤◌, arith, ℕ_discrete, not-true, leb-true, ltb-true, le-leb, lt-ltb, leb, ltb, length, set, length-set, bit_at, Found, At, Nothing, least, all-free-of, free_all, First, first_says, and_both, Arena, bytes_of, end_of, SoundArena, Rows, Question, Idle, Committing, Purging, Reserving, GivingBack, at, is_at, meets, overlaps, apart, asked_id, sound_question}
+use Rattle.std.specs.Prelude.{◌≡◌, ◌&&◌, ◌+◌, ◌*◌, ◌<◌, ◌≤◌}
+use Rattle.layer.proofs.Prelude.{refl, sym, ap, ap₂, ◌∙◌, true, false, not, true≢false, List, ℕ, arith, ℕ_discrete, not-true, leb-true, ltb-true, le-leb, lt-ltb, leb, ltb, length, set, length-set, bit_at, Found, At, Nothing, least, all-free-of, free_all, First, first_says, and_both, Arena, bytes_of, end_of, SoundArena, Rows, Question, Idle, Committing, Purging, Reserving, GivingBack, at, is_at, meets, overlaps, apart, asked_id, sound_question}
 use Rattle.bitmap.proofs.runs.LowestLaws.{least-none}
 use Rattle.layer.proofs.Tools.{at_same, at_other, by-set}
 

@@ -1,5 +1,6 @@
 -- What a join comes to: both tables as they were, or one table that is sound if both were. Assumes nothing.
-use Rattle.layer.proofs.Prelude.{◌≡◌, refl, sym, ap, ◌∙◌, subst, Bool, true, false, not, ◌&&◌, true≢false, List, ⊎_elim, ℕ, ◌+◌, ◌-◌, ◌*◌, ◌<◌, ◌≤◌, arith, ltb-false, ltb, length, lt-or-le, Found, At, Nothing, least, First, first_says, by_cond, unless, when, and_both, Refusal, Arena, bytes_of, Rows, SoundArena, Settings, Idle, NotJoined, Joined, World, empty, at, is_at, sound, meets, overlaps, is_idle, JoinOutcome, join_outcome, tables_overlap, joined_world, join_on, join_rules, is_broken_join, is_joined, blank}
+use Rattle.std.specs.Prelude.{◌≡◌, ◌&&◌, ◌+◌, ◌-◌, ◌*◌, ◌<◌, ◌≤◌}
+use Rattle.layer.proofs.Prelude.{refl, sym, ap, ◌∙◌, subst, Bool, true, false, not, true≢false, List, ⊎_elim, ℕ, arith, ltb-false, ltb, length, lt-or-le, Found, At, Nothing, least, First, first_says, by_cond, unless, when, and_both, Refusal, Arena, bytes_of, Rows, SoundArena, Settings, Idle, NotJoined, Joined, World, empty, at, is_at, sound, meets, overlaps, is_idle, JoinOutcome, join_outcome, tables_overlap, joined_world, join_on, join_rules, is_broken_join, is_joined, blank}
 use Rattle.arena.proofs.MovingLaws.{overwritten-length, before-written, where-written}
 use Rattle.layer.proofs.Tools.{by-not}
 use Rattle.layer.proofs.Facts.{overlaps-none}

@@ -1,6 +1,7 @@
 -- One call keeps the invariant, moves the book as it is fed, and tells its program what the book says: of all that a call can do to an arena (`Does`), what is
 -- left where the arena is exclusive and its program keeps the premises. Assumes nothing.
-use Rattle.layer.proofs.Prelude.{◌≡◌, refl, sym, ap, ap₂, ◌∙◌, subst, Bool, false, cond, true≢false, List, [], ◌∷◌, ◌++◌, append-nil, ◌⊎◌, inl, inr, ℕ, ◌<◌, arith, eq-eqb, ne_eqb, eqb, pos, negsuc, unless, At, Arena, is_on, Settings, Question, Idle, Committing, Purging, Reserving, GivingBack, Answer, Outcome, at, is_for, Call, act, query, answer, step_on, Book, lowest, Fed, claims, releases, Say, refused, released, Turn, turn, unhold, claimed, enter, is_idle, entries_of, said, Place, is_none, feeds, is_answer, declines}
+use Rattle.std.specs.Prelude.{◌≡◌, ◌∷◌, ◌++◌, ◌⊎◌, ◌<◌}
+use Rattle.layer.proofs.Prelude.{refl, sym, ap, ap₂, ◌∙◌, subst, Bool, false, cond, true≢false, List, [], append-nil, inl, inr, ℕ, arith, eq-eqb, ne_eqb, eqb, pos, negsuc, unless, At, Arena, is_on, Settings, Question, Idle, Committing, Purging, Reserving, GivingBack, Answer, Outcome, at, is_for, Call, act, query, answer, step_on, Book, lowest, Fed, claims, releases, Say, refused, released, Turn, turn, unhold, claimed, enter, is_idle, entries_of, said, Place, is_none, feeds, is_answer, declines}
 use Rattle.refusals.specs.Number.{number}
 use Rattle.layer.proofs.Facts.{SoundTable, SoundQuestion}
 use Rattle.layer.proofs.Shown.{View, calm, committing, purging, view_of, waits_in, owed_in, Role, feeding, closing, aside, role, fed_of, asker_after, book_in, Mine, Same, book_at, owed_at, Inv, Fits}

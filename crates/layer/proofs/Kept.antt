@@ -1,5 +1,6 @@
 -- Sound in, sound out: a call on a table that row 1 lets pass leaves one that row 1 lets pass. First what does not register. Assumes nothing.
-use Rattle.layer.proofs.Prelude.{◌≡◌, refl, sym, ◌∙◌, subst, Bool, true, false, cond, List, ◌++◌, ℕ, zero, suc, ◌+◌, ◌-◌, ◌*◌, ◌/◌, ◌<◌, ◌≤◌, arith, leb-true, ℤ, length, set, take, drop, replicate, length-replicate, bit_at, by_cond, Found, At, Nothing, least, First, first_says, Arena, Commitment, Untold, Committed, Uncommitted, find_run, take_run, give_back_run, commit_run, dirty_run, finish_grant, tell_run, pend_run, release_run, stamp_run, sweep_due, to_ask, next_asked, disarm, borrow_chunk, unpend_chunk, return_chunk, next_wait, rearm_at, rearm, SoundArena, stamps_of, Rows, bit_in, found_inside, disarm-rows, rearm-rows, Sweep, Committing, Reply, World, Outcome, world_of, calm, at, search_of, release_of, purge_reply, swept_reply, visit_at, visit, sweep_from}
+use Rattle.std.specs.Prelude.{◌≡◌, ◌++◌, ◌+◌, ◌-◌, ◌*◌, ◌/◌, ◌<◌, ◌≤◌}
+use Rattle.layer.proofs.Prelude.{refl, sym, ◌∙◌, subst, Bool, true, false, cond, List, ℕ, zero, suc, arith, leb-true, ℤ, length, set, take, drop, replicate, length-replicate, bit_at, by_cond, Found, At, Nothing, least, First, first_says, Arena, Commitment, Untold, Committed, Uncommitted, find_run, take_run, give_back_run, commit_run, dirty_run, finish_grant, tell_run, pend_run, release_run, stamp_run, sweep_due, to_ask, next_asked, disarm, borrow_chunk, unpend_chunk, return_chunk, next_wait, rearm_at, rearm, SoundArena, stamps_of, Rows, bit_in, found_inside, disarm-rows, rearm-rows, Sweep, Committing, Reply, World, Outcome, world_of, calm, at, search_of, release_of, purge_reply, swept_reply, visit_at, visit, sweep_from}
 use lib.ListN.{length-append, length-take, length-drop}
 use Rattle.arena.proofs.Changes.{take-rows, dirty-rows, release-rows, borrow-rows}
 use Rattle.arena.proofs.StaysSound.{take-sound, dirty-sound, release-sound, disarm-sound, borrow-sound, rearm-sound}

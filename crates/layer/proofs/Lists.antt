@@ -1,5 +1,6 @@
 -- A list of releases: by its rows; and item after item, each of which leaves a sound table sound and the state as it was. So row 1 is looked at once. Assumes nothing.
-use Rattle.layer.proofs.Prelude.{◌≡◌, refl, sym, ap, ap₂, ◌∙◌, subst, Bool, true, false, not, ◌&&◌, List, [], ◌∷◌, ℕ, when, unless, length, Refusal, now_ms, delay_ms, Settings, Idle, Refused, Released, Untold, World, Outcome, outcome, calm, sound, release_of, stays_pending, is_broken, is_idle, said, number_says, Items, ListOutcome, item_number, list_outcome, release_each, release_item, list_fits, release_list, ◌+◌, ◌-◌, ◌*◌, ◌/◌, ◌<◌, ◌≤◌, arith, leb-true, cond, set, length-set, by_cond, Arena, SoundArena, Commitment, release_run, stamp_run, world_of, at}
+use Rattle.std.specs.Prelude.{◌≡◌, ◌&&◌, ◌∷◌, ◌+◌, ◌-◌, ◌*◌, ◌/◌, ◌<◌, ◌≤◌}
+use Rattle.layer.proofs.Prelude.{refl, sym, ap, ap₂, ◌∙◌, subst, Bool, true, false, not, List, [], ℕ, when, unless, length, Refusal, now_ms, delay_ms, Settings, Idle, Refused, Released, Untold, World, Outcome, outcome, calm, sound, release_of, stays_pending, is_broken, is_idle, said, number_says, Items, ListOutcome, item_number, list_outcome, release_each, release_item, list_fits, release_list, arith, leb-true, cond, set, length-set, by_cond, Arena, SoundArena, Commitment, release_run, stamp_run, world_of, at}
 use Rattle.layer.specs.World.{size_of}
 use Rattle.layer.specs.declared.State.{State}
 use Rattle.arena.proofs.StaysSound.{release-sound}

@@ -1,6 +1,7 @@
 -- The book opens where Registering's rules, in plain arithmetic, register an exclusive arena: a managed one, and a reserved one whose memory question is open.
 -- Assumes nothing.
-use Rattle.layer.proofs.Prelude.{◌≡◌, refl, sym, ap, ap₂, ◌∙◌, subst, Bool, true, false, not, ◌||◌, true≢false, List, [], ℕ, suc, ◌+◌, ◌-◌, ◌*◌, ◌/◌, ◌%◌, ◌^◌, ◌<◌, ◌≤◌, mul-div_cancel, mul-le-mul_right, arith, eq-eqb, ne_eqb, lt-leb, eqb, leb, ℤ, negsuc, unless, Arena, is_on, new_arena, reserved_arena, managed_arena, Question, Idle, Committing, Purging, Reserving, GivingBack, Reserve, Claim, ForMemory, Registered, Outcome, outcome, world_of, at, bad_range, chunks_for, bad_count, with_record, with_stamps, first_whole, past_whole, no_whole_chunk, manage_of, is_for, answer_memory, answer_of, claim, reserve, Call, act, answer, step_on, opened, Marked, Trail, open_at, follow, standing, Registrable, OpensAt}
+use Rattle.std.specs.Prelude.{◌≡◌, ◌||◌, ◌+◌, ◌-◌, ◌*◌, ◌/◌, ◌%◌, ◌^◌, ◌<◌, ◌≤◌}
+use Rattle.layer.proofs.Prelude.{refl, sym, ap, ap₂, ◌∙◌, subst, Bool, true, false, not, true≢false, List, [], ℕ, suc, mul-div_cancel, mul-le-mul_right, arith, eq-eqb, ne_eqb, lt-leb, eqb, leb, ℤ, negsuc, unless, Arena, is_on, new_arena, reserved_arena, managed_arena, Question, Idle, Committing, Purging, Reserving, GivingBack, Reserve, Claim, ForMemory, Registered, Outcome, outcome, world_of, at, bad_range, chunks_for, bad_count, with_record, with_stamps, first_whole, past_whole, no_whole_chunk, manage_of, is_for, answer_memory, answer_of, claim, reserve, Call, act, answer, step_on, opened, Marked, Trail, open_at, follow, standing, Registrable, OpensAt}
 use Rattle.layer.specs.World as W
 use Rattle.layer.specs.History.{bytes_in, Manages, Reserves, Registers}
 use Rattle.layer.proofs.Cases.{register}

@@ -1,6 +1,7 @@
 -- What the answer of a call on a sound table tells, whatever the call: a refusal is none of row 1's, and a grant lies in no exclusive arena but one that the
 -- call or the open question names. Assumes nothing.
-use Rattle.layer.proofs.Prelude.{◌≡◌, refl, sym, ap, ap₂, ◌∙◌, subst, Bool, true, false, cond, not, List, ℕ, suc, ◌+◌, ◌-◌, ◌*◌, ◌/◌, ◌%◌, ◌<◌, ◌≤◌, add-mul, mul-le-mul_right, arith, eqb-false, leb, ltb, eqb, ℤ, pos, negsuc, length, by_cond, all, and_both, page_size_sound, Refusal, Broken, Arena, is_on, reserved_arena, is_inside, sound_arena, never, found_inside, Settings, Question, Idle, Committing, Purging, Reserving, GivingBack, Waiting, Reserve, Claim, Unusable, Count, Misaligned, Full, Kind, Answer, Refused, Asks, Registered, Claimed, Released, Swept, Owns, Area, World, Outcome, after, outcome, at, meets, bad_range, apart, sound_table, sound_lent, sound, ask_memory, bad_count, with_record, with_stamps, serves, claim_of, is_for, cause_refusal, counted, fail_reply, answer_commit, resume, answer_memory, answer_to, answer_of, Act, reserve, manage, adopt, claim, release, sweep, owns, area, Call, act, query, answer, sweep_of, act_on, step_on, rules, is_broken, chunks_of, stays_pending, sweeps_none}
+use Rattle.std.specs.Prelude.{◌≡◌, ◌+◌, ◌-◌, ◌*◌, ◌/◌, ◌%◌, ◌<◌, ◌≤◌}
+use Rattle.layer.proofs.Prelude.{refl, sym, ap, ap₂, ◌∙◌, subst, Bool, true, false, cond, not, List, ℕ, suc, add-mul, mul-le-mul_right, arith, eqb-false, leb, ltb, eqb, ℤ, pos, negsuc, length, by_cond, all, and_both, page_size_sound, Refusal, Broken, Arena, is_on, reserved_arena, is_inside, sound_arena, never, found_inside, Settings, Question, Idle, Committing, Purging, Reserving, GivingBack, Waiting, Reserve, Claim, Unusable, Count, Misaligned, Full, Kind, Answer, Refused, Asks, Registered, Claimed, Released, Swept, Owns, Area, World, Outcome, after, outcome, at, meets, bad_range, apart, sound_table, sound_lent, sound, ask_memory, bad_count, with_record, with_stamps, serves, claim_of, is_for, cause_refusal, counted, fail_reply, answer_commit, resume, answer_memory, answer_to, answer_of, Act, reserve, manage, adopt, claim, release, sweep, owns, area, Call, act, query, answer, sweep_of, act_on, step_on, rules, is_broken, chunks_of, stays_pending, sweeps_none}
 use Rattle.refusals.specs.Number.{number}
 use Rattle.arena.proofs.PlaceLaws.{inside-test}
 use Rattle.layer.specs.Answering.{is_idle}

@@ -1,5 +1,6 @@
 -- What rows 6 and 12 ask, by plain arithmetic: the tests of the rules let pass what `Registrable` says. Assumes nothing.
-use Rattle.layer.proofs.Prelude.{◌≡◌, ap, ap₂, ◌∙◌, true, false, ◌&&◌, ◌||◌, ⊎_elim, ℕ, ◌+◌, ◌*◌, ◌^◌, ◌<◌, ◌≤◌, arith, ne_eqb, lt-leb, ltb-true, eqb, leb, ltb, length, lt-or-le, all, all-free-of, and_both, page_size_sound, bytes_of, end_of, sound_arena, never, SoundArena, arena-facts, Settings, Question, World, at, meets, bad_range, apart, asked_id, sound_question, sound_table, sound_lent, sound, bad_count, Call, step_on, step, Registrable}
+use Rattle.std.specs.Prelude.{◌≡◌, ◌&&◌, ◌||◌, ◌+◌, ◌*◌, ◌^◌, ◌<◌, ◌≤◌}
+use Rattle.layer.proofs.Prelude.{ap, ap₂, ◌∙◌, true, false, ⊎_elim, ℕ, arith, ne_eqb, lt-leb, ltb-true, eqb, leb, ltb, length, lt-or-le, all, all-free-of, and_both, page_size_sound, bytes_of, end_of, sound_arena, never, SoundArena, arena-facts, Settings, Question, World, at, meets, bad_range, apart, asked_id, sound_question, sound_table, sound_lent, sound, bad_count, Call, step_on, step, Registrable}
 use Rattle.layer.specs.World.{size_of}
 use Rattle.layer.proofs.ChunkLaws.{size_fits, mul-pos}
 use Rattle.layer.proofs.Facts.{none-overlaps}

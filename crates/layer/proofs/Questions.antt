@@ -1,5 +1,6 @@
 -- What each call leaves of the open question. Assumes nothing.
-use Rattle.layer.proofs.Prelude.{by_rules, ◌≡◌, refl, sym, ap, ◌∙◌, subst, Bool, true, false, not, true≢false, List, ◌⊎◌, inl, inr, ℕ, suc, ◌+◌, ◌-◌, ◌*◌, ◌%◌, ◌≤◌, ◌^◌, ◌<◌, arith, ne_eqb, lt-leb, eqb, leb, Refusal, NoSuchQuestion, Range, MemoryRefused, by_cond, when, unless, Arena, reserved_arena, Settings, Sweep, Question, Idle, Committing, Purging, Reserving, GivingBack, Waiting, Reserve, Claim, Count, Misaligned, Full, Kind, Reply, Answer, Refused, Asks, Registered, Claimed, Released, Swept, Owns, Area, World, Outcome, state_with, world_of, after, bad_range, sound, chunks_for, too_large, bytes_asked, reserve_reply, reserve_of, ask_memory, bad_count, with_record, with_stamps, is_for, counted, fail_reply, resume, answer_purge, answer_memory, answer_to, answer_of, Act, reserve, manage, adopt, claim, release, sweep, Call, act, query, answer, sweep_of, act_on, step_on, stays_pending, sweeps_none}
+use Rattle.std.specs.Prelude.{◌≡◌, ◌⊎◌, ◌+◌, ◌-◌, ◌*◌, ◌%◌, ◌≤◌, ◌^◌, ◌<◌}
+use Rattle.layer.proofs.Prelude.{by_rules, refl, sym, ap, ◌∙◌, subst, Bool, true, false, not, true≢false, List, inl, inr, ℕ, suc, arith, ne_eqb, lt-leb, eqb, leb, Refusal, NoSuchQuestion, Range, MemoryRefused, by_cond, when, unless, Arena, reserved_arena, Settings, Sweep, Question, Idle, Committing, Purging, Reserving, GivingBack, Waiting, Reserve, Claim, Count, Misaligned, Full, Kind, Reply, Answer, Refused, Asks, Registered, Claimed, Released, Swept, Owns, Area, World, Outcome, state_with, world_of, after, bad_range, sound, chunks_for, too_large, bytes_asked, reserve_reply, reserve_of, ask_memory, bad_count, with_record, with_stamps, is_for, counted, fail_reply, resume, answer_purge, answer_memory, answer_to, answer_of, Act, reserve, manage, adopt, claim, release, sweep, Call, act, query, answer, sweep_of, act_on, step_on, stays_pending, sweeps_none}
 use Rattle.refusals.specs.Number.{number}
 use Rattle.layer.specs.declared.Ask.{Ask}
 use Rattle.layer.specs.declared.Ask.TheVariants.{AskMemory}

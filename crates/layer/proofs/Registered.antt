@@ -1,5 +1,6 @@
 -- Sound in, sound out, for what registers: a new arena, one that grows, and the calls that make them. Assumes nothing.
-use Rattle.layer.proofs.Prelude.{◌≡◌, refl, sym, ap, ap₂, ◌∙◌, subst, Bool, true, false, ◌&&◌, true≢false, List, ◌⊎◌, inl, inr, ⊎_elim, ℕ, zero, suc, ◌+◌, ◌-◌, ◌*◌, ◌/◌, ◌%◌, ◌^◌, ◌<◌, ◌≤◌, add-mul, mul-mod_left, arith, ℕ_discrete, leb-false, ltb-false, eqb-false, lt-ltb, leb, ltb, eqb, ℤ, negsuc, length, set, length-set, lt-or-le, Arena, new_arena, reserved_arena, managed_arena, adopted_arena, grown_arena, bytes_of, end_of, SoundRange, SoundArena, Rows, at, meets, bad_range, chunks_for, ask_memory, bad_count, with_stamps, first_whole, past_whole, grows, reserve_of, manage_of, adopt_of}
+use Rattle.std.specs.Prelude.{◌≡◌, ◌&&◌, ◌⊎◌, ◌+◌, ◌-◌, ◌*◌, ◌/◌, ◌%◌, ◌^◌, ◌<◌, ◌≤◌}
+use Rattle.layer.proofs.Prelude.{refl, sym, ap, ap₂, ◌∙◌, subst, Bool, true, false, true≢false, List, inl, inr, ⊎_elim, ℕ, zero, suc, add-mul, mul-mod_left, arith, ℕ_discrete, leb-false, ltb-false, eqb-false, lt-ltb, leb, ltb, eqb, ℤ, negsuc, length, set, length-set, lt-or-le, Arena, new_arena, reserved_arena, managed_arena, adopted_arena, grown_arena, bytes_of, end_of, SoundRange, SoundArena, Rows, at, meets, bad_range, chunks_for, ask_memory, bad_count, with_stamps, first_whole, past_whole, grows, reserve_of, manage_of, adopt_of}
 use borrow.Author.Tests.{le-ltb}
 use Rattle.arena.proofs.Changes.{new-rows, grown-rows}
 use Rattle.arena.proofs.StaysSound.{new-sound, grown-sound}

@@ -1,5 +1,6 @@
 -- What single rules say, each as a short fact: a layer that breaks one of them fails demand 3. Assumes nothing.
-use Rattle.layer.proofs.Prelude.{◌≡◌, refl, sym, ap, ◌∙◌, Bool, true, false, not, ◌&&◌, true≢false, List, ℕ, zero, suc, ◌+◌, ◌≤◌, arith, eqb-true, eqb-false, leb-true, ltb-false, eqb, leb, ℤ, pos, negsuc, NoRun, and_both, Arena, is_on, find_run, end_of, never, Claim, turn_down, calm, at, is_at, grows, bad_count, with_record, with_stamps, eligible, serves, search_of, answer_commit, resume, Eligible}
+use Rattle.std.specs.Prelude.{◌≡◌, ◌&&◌, ◌+◌, ◌≤◌}
+use Rattle.layer.proofs.Prelude.{refl, sym, ap, ◌∙◌, Bool, true, false, not, true≢false, List, ℕ, zero, suc, arith, eqb-true, eqb-false, leb-true, ltb-false, eqb, leb, ℤ, pos, negsuc, NoRun, and_both, Arena, is_on, find_run, end_of, never, Claim, turn_down, calm, at, is_at, grows, bad_count, with_record, with_stamps, eligible, serves, search_of, answer_commit, resume, Eligible}
 use Rattle.layer.proofs.Tools.{or-false, at_other}
 
 -- ---- claims

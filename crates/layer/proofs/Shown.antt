@@ -1,6 +1,7 @@
 -- The share book that a record and what is open about it show; what a call is to one arena; the invariant of a history, and what one call does to it. The book
 -- shown knows no id and no table. Assumes nothing.
-use Rattle.layer.proofs.Prelude.{◌≡◌, Bool, true, false, cond, not, ◌&&◌, ◌||◌, List, [], ◌∷◌, ◌++◌, ℕ, ◌+◌, ◌*◌, ◌<◌, eqb, bit_at, within, Arena, is_on, run_fresh, Question, Idle, Committing, Purging, Reserving, GivingBack, Kind, Answer, Outcome, at, is_for, Call, act, query, answer, Book, lowest, Fed, claims, Say, granted, enter_all, say_all, is_idle, entries_of, said, Place, feeds}
+use Rattle.std.specs.Prelude.{◌≡◌, ◌&&◌, ◌||◌, ◌∷◌, ◌++◌, ◌+◌, ◌*◌, ◌<◌}
+use Rattle.layer.proofs.Prelude.{Bool, true, false, cond, not, List, [], ℕ, eqb, bit_at, within, Arena, is_on, run_fresh, Question, Idle, Committing, Purging, Reserving, GivingBack, Kind, Answer, Outcome, at, is_for, Call, act, query, answer, Book, lowest, Fed, claims, Say, granted, enter_all, say_all, is_idle, entries_of, said, Place, feeds}
 
 -- ---- what is open about an arena
 

@@ -1,5 +1,6 @@
 -- As many arenas stand after a call, or one more, the one that the call asked for. Assumes nothing.
-use Rattle.layer.proofs.Prelude.{by_rules, ◌≡◌, refl, sym, ap, ◌∙◌, subst, Bool, true, false, List, ◌⊎◌, inl, inr, ℕ, suc, ◌+◌, ◌-◌, ◌*◌, ◌/◌, ◌%◌, ◌<◌, ◌≤◌, arith, ℕ_discrete, eqb, ℤ, length, set, length-set, eqb-true, Refusal, MemoryRefused, and_both, Arena, is_on, new_arena, reserved_arena, managed_arena, adopted_arena, take_run, dirty_run, flag-read, Settings, Question, Idle, Committing, Purging, Reserving, GivingBack, Waiting, Reserve, Claim, Kind, Outcome, after, at, sound_lent, ask_memory, with_record, with_stamps, first_whole, past_whole, is_for, cause_refusal, counted, fail_reply, resume, answer_to, answer_of, Act, reserve, manage, adopt, claim, release, sweep, Call, act, query, answer, sweep_of, act_on, step_on, stays_pending, sweeps_none}
+use Rattle.std.specs.Prelude.{◌≡◌, ◌⊎◌, ◌+◌, ◌-◌, ◌*◌, ◌/◌, ◌%◌, ◌<◌, ◌≤◌}
+use Rattle.layer.proofs.Prelude.{by_rules, refl, sym, ap, ◌∙◌, subst, Bool, true, false, List, inl, inr, ℕ, suc, arith, ℕ_discrete, eqb, ℤ, length, set, length-set, eqb-true, Refusal, MemoryRefused, and_both, Arena, is_on, new_arena, reserved_arena, managed_arena, adopted_arena, take_run, dirty_run, flag-read, Settings, Question, Idle, Committing, Purging, Reserving, GivingBack, Waiting, Reserve, Claim, Kind, Outcome, after, at, sound_lent, ask_memory, with_record, with_stamps, first_whole, past_whole, is_for, cause_refusal, counted, fail_reply, resume, answer_to, answer_of, Act, reserve, manage, adopt, claim, release, sweep, Call, act, query, answer, sweep_of, act_on, step_on, stays_pending, sweeps_none}
 use Rattle.layer.specs.World.{size_of}
 use Rattle.layer.specs.Standing.{Brought, AskedFor, NoneUnasked}
 use Rattle.layer.proofs.Tools.{at_same, at_other, by-not}

@@ -1,5 +1,6 @@
 -- Sound in, sound out, for every call: answers, and then the one step. Assumes nothing.
-use Rattle.layer.proofs.Prelude.{◌≡◌, ap₂, ◌∙◌, Bool, true, false, ◌&&◌, List, ℕ, suc, ◌+◌, ◌-◌, ◌*◌, ◌<◌, ◌≤◌, arith, leb-true, le-leb, eqb-true, eq-eqb, leb, eqb, ℤ, length, all, all-free-of, free_all, and_both, page_size_sound, Arena, reserved_arena, give_back_run, finish_grant, return_chunk, sound_arena, SoundRange, arena-facts, Rows, return-rows, Settings, Sweep, Question, Idle, Committing, Purging, Reserving, GivingBack, Waiting, Reserve, Claim, Kind, Refusal, NoRun, World, world_of, calm, turn_down, at, meets, apart, sound_table, sound_lent, sound, ask_memory, with_record, with_stamps, miss_reply, claim_of, is_for, counted, fail_reply, answer_commit, answer_purge, resume, answer_memory, answer_to, answer_of, sweep_from, Act, reserve, manage, adopt, claim, release, sweep, Call, act, query, answer, sweep_of, act_on, step_on, rules, stays_pending, sweeps_none, SoundArena, bytes_of}
+use Rattle.std.specs.Prelude.{◌≡◌, ◌&&◌, ◌+◌, ◌-◌, ◌*◌, ◌<◌, ◌≤◌}
+use Rattle.layer.proofs.Prelude.{ap₂, ◌∙◌, Bool, true, false, List, ℕ, suc, arith, leb-true, le-leb, eqb-true, eq-eqb, leb, eqb, ℤ, length, all, all-free-of, free_all, and_both, page_size_sound, Arena, reserved_arena, give_back_run, finish_grant, return_chunk, sound_arena, SoundRange, arena-facts, Rows, return-rows, Settings, Sweep, Question, Idle, Committing, Purging, Reserving, GivingBack, Waiting, Reserve, Claim, Kind, Refusal, NoRun, World, world_of, calm, turn_down, at, meets, apart, sound_table, sound_lent, sound, ask_memory, with_record, with_stamps, miss_reply, claim_of, is_for, counted, fail_reply, answer_commit, answer_purge, resume, answer_memory, answer_to, answer_of, sweep_from, Act, reserve, manage, adopt, claim, release, sweep, Call, act, query, answer, sweep_of, act_on, step_on, rules, stays_pending, sweeps_none, SoundArena, bytes_of}
 use Rattle.arena.proofs.SoundLaws.{arena-test}
 use Rattle.arena.proofs.Changes.{finish-rows, give-back-rows}
 use Rattle.arena.proofs.StaysSound.{finish-sound, give-back-sound, return-sound}

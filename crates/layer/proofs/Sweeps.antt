@@ -1,5 +1,6 @@
 -- The case principle of a sweep: to prove P of what comes out, prove it of each question that it may put, and of its end. Assumes nothing.
-use Rattle.layer.proofs.Prelude.{ℕ, zero, suc, ◌+◌, ◌-◌, ◌*◌, ◌≤◌, Bool, cond, List, arith, by_cond, Found, At, Nothing, least, First, first_says, Arena, sweep_due, disarm, to_ask, next_asked, stamps_of, Sweep, Purging, Asks, Swept, Outcome, state_with, reply, after, calm, at, purge_reply, swept_reply, visit_at, visit, sweep_from}
+use Rattle.std.specs.Prelude.{◌+◌, ◌-◌, ◌*◌, ◌≤◌}
+use Rattle.layer.proofs.Prelude.{ℕ, zero, suc, Bool, cond, List, arith, by_cond, Found, At, Nothing, least, First, first_says, Arena, sweep_due, disarm, to_ask, next_asked, stamps_of, Sweep, Purging, Asks, Swept, Outcome, state_with, reply, after, calm, at, purge_reply, swept_reply, visit_at, visit, sweep_from}
 use Rattle.layer.specs.declared.Ask.TheVariants.{AskPurge}
 
 -- it asks about a place from lo on, or ends

@@ -1,5 +1,6 @@
 -- Refusal 10 comes exactly where no eligible arena has the run: of a claim, and of one that goes on once its memory came. Assumes nothing.
-use Rattle.layer.proofs.Prelude.{by_rules, ◌≡◌, refl, sym, ap, ap₂, ◌∙◌, subst, Bool, true, not, ◌&&◌, true≢false, List, ◌↔◌, ℕ, suc, ◌%◌, ◌*◌, arith, eq-eqb, ne_eqb, not-true, lt-leb, eqb, leb, ℤ, pos, negsuc, bit_at, unless, Found, At, Nothing, Starts, Lowest, lowest-says, arena_allowed, Arena, reserved_arena, free, find_run, NoRun, Settings, Idle, Reserving, Claim, ForMemory, Reply, Outcome, turn_down, calm, at, is_at, bad_range, ask_memory, bad_count, with_record, with_stamps, eligible, serves, miss_reply, search_of, claim_of, is_for, answer_memory, answer_of, claim, act, answer, Eligible, TenExactly}
+use Rattle.std.specs.Prelude.{◌≡◌, ◌&&◌, ◌↔◌, ◌%◌, ◌*◌}
+use Rattle.layer.proofs.Prelude.{by_rules, refl, sym, ap, ap₂, ◌∙◌, subst, Bool, true, not, true≢false, List, ℕ, suc, arith, eq-eqb, ne_eqb, not-true, lt-leb, eqb, leb, ℤ, pos, negsuc, bit_at, unless, Found, At, Nothing, Starts, Lowest, lowest-says, arena_allowed, Arena, reserved_arena, free, find_run, NoRun, Settings, Idle, Reserving, Claim, ForMemory, Reply, Outcome, turn_down, calm, at, is_at, bad_range, ask_memory, bad_count, with_record, with_stamps, eligible, serves, miss_reply, search_of, claim_of, is_for, answer_memory, answer_of, claim, act, answer, Eligible, TenExactly}
 use Rattle.layer.specs.World.{size_of}
 use Rattle.layer.specs.Ten.{ClearFrom, NoneHas, IsMiss, TenAfterMemory}
 use Rattle.layer.proofs.Rules.{served-eligible, served-found}

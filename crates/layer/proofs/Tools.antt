@@ -1,5 +1,6 @@
 -- Tests, and a table after a store. Assumes nothing.
-use Rattle.layer.proofs.Prelude.{◌≡◌, refl, sym, subst, Bool, true, false, cond, not, ◌||◌, true≢false, List, ℕ, ◌<◌, ℕ_discrete, length, set, Arena, blank, at}
+use Rattle.std.specs.Prelude.{◌≡◌, ◌||◌, ◌<◌}
+use Rattle.layer.proofs.Prelude.{refl, sym, subst, Bool, true, false, cond, not, true≢false, List, ℕ, ℕ_discrete, length, set, Arena, blank, at}
 use lib.Seq.{get_or-set_same, get_or-set_other}
 
 pub or-false : (a b : Bool) → a || b ≡ false → (a ≡ false) × (b ≡ false)

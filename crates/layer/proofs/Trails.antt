@@ -1,5 +1,6 @@
 -- The rules' own run of a history: its table stays sound and its open question is of the call that put it; and the rules, lent as they left it, go that way. Assumes nothing.
-use Rattle.layer.proofs.Prelude.{◌≡◌, refl, sym, ap, ap₂, ◌∙◌, subst, Bool, true, false, cond, not, ℕ, arith, length-replicate, when, unless, World, Outcome, empty, step_on, step, JoinOutcome, join, Marked, MarkedJoin, Side, of_first, of_second, History, begin, next, joining, is_sound, both_sound, by_rules, outcome_by, join_by, is_broken, is_broken_join, side_of, left, Lent, Trail, open_at, is_idle, follow, follow_join, join_of, leaving, start, ruled, by_cond, Question, Idle, sound, ListOutcome, release_list, MarkedList, is_sound_list, list_by, listing, list_of, follow_list}
+use Rattle.std.specs.Prelude.{◌≡◌}
+use Rattle.layer.proofs.Prelude.{refl, sym, ap, ap₂, ◌∙◌, subst, Bool, true, false, cond, not, ℕ, arith, length-replicate, when, unless, World, Outcome, empty, step_on, step, JoinOutcome, join, Marked, MarkedJoin, Side, of_first, of_second, History, begin, next, joining, is_sound, both_sound, by_rules, outcome_by, join_by, is_broken, is_broken_join, side_of, left, Lent, Trail, open_at, is_idle, follow, follow_join, join_of, leaving, start, ruled, by_cond, Question, Idle, sound, ListOutcome, release_list, MarkedList, is_sound_list, list_by, listing, list_of, follow_list}
 use Rattle.layer.specs.World.{size_of}
 use Rattle.layer.specs.declared.State.{State}
 use Rattle.layer.specs.History.{bytes_in}

@@ -1,5 +1,6 @@
 -- What each change of a record does to the share book that it shows, and what it leaves of the record's range. No id and no table. Assumes nothing.
-use Rattle.layer.proofs.Prelude.{◌≡◌, refl, sym, ap, ◌∙◌, Bool, true, false, cond, not, ◌&&◌, ◌||◌, List, [], ◌∷◌, ℕ, ◌+◌, ◌*◌, ◌≤◌, ◌<◌, arith, eq-eqb, ne_eqb, ℤ, bit_at, within, clear_run, Stands, stands, before, inside, within-before, within-after, Found, At, Nothing, Arena, Commitment, Untold, Committed, Uncommitted, no_bits, each_bit, new_arena, reserved_arena, managed_arena, adopted_arena, grown_arena, run_fresh, take_run, give_back_run, commit_run, dirty_run, finish_grant, tell_run, pend_run, release_run, disarm, borrow_chunk, unpend_chunk, return_chunk, next_wait, rearm_at, rearm, Rows, no-bits-row, bit_at-no_bits, Sweep, Committing, Purging, Book, granted, opened, hold, unhold, claimed}
+use Rattle.std.specs.Prelude.{◌≡◌, ◌&&◌, ◌||◌, ◌∷◌, ◌+◌, ◌*◌, ◌≤◌, ◌<◌}
+use Rattle.layer.proofs.Prelude.{refl, sym, ap, ◌∙◌, Bool, true, false, cond, not, List, [], ℕ, arith, eq-eqb, ne_eqb, ℤ, bit_at, within, clear_run, Stands, stands, before, inside, within-before, within-after, Found, At, Nothing, Arena, Commitment, Untold, Committed, Uncommitted, no_bits, each_bit, new_arena, reserved_arena, managed_arena, adopted_arena, grown_arena, run_fresh, take_run, give_back_run, commit_run, dirty_run, finish_grant, tell_run, pend_run, release_run, disarm, borrow_chunk, unpend_chunk, return_chunk, next_wait, rearm_at, rearm, Rows, no-bits-row, bit_at-no_bits, Sweep, Committing, Purging, Book, granted, opened, hold, unhold, claimed}
 use Rattle.bitmap.proofs.words.RowLaws.{beyond, within-yes}
 use Rattle.arena.proofs.RowLaws.{bit-write}
 use Rattle.arena.proofs.SoundLaws.{Past}

@@ -1,5 +1,6 @@
 -- The answer to an open question. Document 01: "A second call brings yes or no, for memory a base too." Assumes nothing.
-use Rattle.layer.specs.Prelude.{Bool, true, false, cond, not, List, [], ◌∷◌, ℕ, suc, ◌+◌, ◌-◌, ◌*◌, ◌%◌, eqb, leb, negsuc, set, Refusal, NoSuchQuestion, Range, NotWhole, NoRun, CommitRefused, ChunkCount, TableFull, MemoryRefused, Arena, reserved_arena, run_fresh, give_back_run, finish_grant, return_chunk, Sweep, Question, Idle, Committing, Purging, Reserving, GivingBack, Waiting, Reserve, Claim, Unusable, Count, Misaligned, Full, Kind, ForCommit, ForPurge, ForMemory, ForGiveBack, ForNone, AskGiveBack, Asks, Claimed, Reply}
+use Rattle.std.specs.Prelude.{◌∷◌, ◌+◌, ◌-◌, ◌*◌, ◌%◌}
+use Rattle.layer.specs.Prelude.{Bool, true, false, cond, not, List, [], ℕ, suc, eqb, leb, negsuc, set, Refusal, NoSuchQuestion, Range, NotWhole, NoRun, CommitRefused, ChunkCount, TableFull, MemoryRefused, Arena, reserved_arena, run_fresh, give_back_run, finish_grant, return_chunk, Sweep, Question, Idle, Committing, Purging, Reserving, GivingBack, Waiting, Reserve, Claim, Unusable, Count, Misaligned, Full, Kind, ForCommit, ForPurge, ForMemory, ForGiveBack, ForNone, AskGiveBack, Asks, Claimed, Reply}
 use Rattle.layer.specs.World.{Outcome, state_with, calm, world_of, reply, after, turn_down, Row, row, refuse, first_of}
 use Rattle.layer.specs.Table.{at, bad_range}
 use Rattle.layer.specs.Registering.{bad_count, with_record, with_stamps, registered}

@@ -1,5 +1,6 @@
 -- The three claims, where no question is open. Document 01, "Claiming". k arenas stand; S is the size of a chunk. Assumes nothing.
-use Rattle.layer.specs.Prelude.{Bool, true, false, cond, not, ◌&&◌, List, [], ◌∷◌, ℕ, ◌+◌, ◌*◌, eqb, leb, ℤ, pos, negsuc, set, Zero, ArenasOff, NoRun, arena_allowed, Found, At, Nothing, least, Arena, is_on, find_run, run_committed, run_fresh, take_run, dirty_run, Settings, Committing, Claim, AskCommit, Asks, Claimed, Reply}
+use Rattle.std.specs.Prelude.{◌&&◌, ◌∷◌, ◌+◌, ◌*◌}
+use Rattle.layer.specs.Prelude.{Bool, true, false, cond, not, List, [], ℕ, eqb, leb, ℤ, pos, negsuc, set, Zero, ArenasOff, NoRun, arena_allowed, Found, At, Nothing, least, Arena, is_on, find_run, run_committed, run_fresh, take_run, dirty_run, Settings, Committing, Claim, AskCommit, Asks, Claimed, Reply}
 use Rattle.layer.specs.World.{Outcome, state_with, calm, world_of, reply, after, turn_down, refuse, first_of}
 use Rattle.layer.specs.Table.{at, is_at}
 use Rattle.layer.specs.Registering.{too_large, ask_memory}

@@ -1,5 +1,6 @@
 -- Joining, wish 1 of document 02: one table out of two. The rules of the call on any two lent tables; it is no call of one table, so it stands beside `step`. Assumes nothing.
-use Rattle.layer.specs.Prelude.{◌≡◌, Bool, not, ◌&&◌, List, [], ◌∷◌, ℕ, ◌+◌, ◌*◌, ltb, Refusal, Broken, QuestionOpen, TablesOverlap, TooManyArenas, least, Arena, bytes_of, overwritten, State, Settings, JoinAnswer, NotJoined, Joined, JoinReply}
+use Rattle.std.specs.Prelude.{◌≡◌, ◌&&◌, ◌∷◌, ◌+◌, ◌*◌}
+use Rattle.layer.specs.Prelude.{Bool, not, List, [], ℕ, ltb, Refusal, Broken, QuestionOpen, TablesOverlap, TooManyArenas, least, Arena, bytes_of, overwritten, State, Settings, JoinAnswer, NotJoined, Joined, JoinReply}
 use Rattle.layer.specs.World.{World, size_of, calm, world_of, Row, row, first_of, empty}
 use Rattle.layer.specs.Table.{at, is_at, overlaps, sound}
 use Rattle.layer.specs.Answering.{is_idle}

@@ -1,6 +1,7 @@
 -- A list of releases, wish 3 of document 02: the rules of the call on any lent table and any lent lists. Its items are releases of `step`, so it stands beside it.
 -- Assumes nothing.
-use Rattle.layer.specs.Prelude.{◌≡◌, Bool, not, ◌&&◌, List, [], ◌∷◌, ℕ, eqb, leb, length, Refusal, Broken, QuestionOpen, ListLength, Arena, Untold, Settings, Answer, Refused, Asks, Registered, Claimed, Released, Swept, Owns, Area, Reply}
+use Rattle.std.specs.Prelude.{◌≡◌, ◌&&◌, ◌∷◌}
+use Rattle.layer.specs.Prelude.{Bool, not, List, [], ℕ, eqb, leb, length, Refusal, Broken, QuestionOpen, ListLength, Arena, Untold, Settings, Answer, Refused, Asks, Registered, Claimed, Released, Swept, Owns, Area, Reply}
 use Rattle.refusals.specs.Number.{number}
 use Rattle.layer.specs.World.{World, Outcome, size_of, outcome, Leaves, Row, row, first_of}
 use Rattle.layer.specs.Table.{sound}

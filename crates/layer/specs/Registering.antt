@@ -1,5 +1,6 @@
 -- The calls that register arenas, where no question is open. Document 01, "Registering". k arenas stand; S is the size of a chunk. Assumes nothing.
-use Rattle.layer.specs.Prelude.{Bool, cond, not, ◌&&◌, ◌||◌, List, [], ◌∷◌, ℕ, suc, ◌+◌, ◌-◌, ◌*◌, ◌/◌, ◌%◌, ◌^◌, eqb, leb, ltb, ℤ, set, Zero, Range, NotWhole, ChunkCount, TableFull, NoWholeChunk, HostRefused, Found, least, Arena, is_on, managed_arena, adopted_arena, grown_arena, stamp_run, end_of, Reserving, Waiting, Reserve, AskMemory, Asks, Registered, Reply}
+use Rattle.std.specs.Prelude.{◌&&◌, ◌||◌, ◌∷◌, ◌+◌, ◌-◌, ◌*◌, ◌/◌, ◌%◌, ◌^◌}
+use Rattle.layer.specs.Prelude.{Bool, cond, not, List, [], ℕ, suc, eqb, leb, ltb, ℤ, set, Zero, Range, NotWhole, ChunkCount, TableFull, NoWholeChunk, HostRefused, Found, least, Arena, is_on, managed_arena, adopted_arena, grown_arena, stamp_run, end_of, Reserving, Waiting, Reserve, AskMemory, Asks, Registered, Reply}
 use Rattle.layer.specs.World.{Outcome, state_with, calm, world_of, reply, after, turn_down, row, refuse, first_of}
 use Rattle.layer.specs.Table.{at, is_at, id_found, bad_range}
 

@@ -1,5 +1,6 @@
 -- `chunk_release`, where no question is open. Document 01, "Releasing". k arenas stand; S is the size of a chunk. Assumes nothing.
-use Rattle.layer.specs.Prelude.{Bool, cond, not, List, [], ◌∷◌, ℕ, ◌+◌, ◌-◌, ◌*◌, ◌/◌, ◌%◌, eqb, leb, set, Zero, NotInside, NotWhole, PastEnd, Arena, Commitment, release_run, stamp_run, Released}
+use Rattle.std.specs.Prelude.{◌∷◌, ◌+◌, ◌-◌, ◌*◌, ◌/◌, ◌%◌}
+use Rattle.layer.specs.Prelude.{Bool, cond, not, List, [], ℕ, eqb, leb, set, Zero, NotInside, NotWhole, PastEnd, Arena, Commitment, release_run, stamp_run, Released}
 use Rattle.layer.specs.World.{Outcome, calm, world_of, reply, after, refuse, first_of}
 use Rattle.layer.specs.Table.{at, is_at, id_found, find_arena}
 

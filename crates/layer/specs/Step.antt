@@ -1,5 +1,6 @@
 -- One call: the rules of document 01, with what document 02 changes, put together. Assumes nothing.
-use Rattle.layer.specs.Prelude.{Bool, cond, not, ◌&&◌, List, [], ◌∷◌, ℕ, ltb, ℤ, pos, negsuc, Broken, QuestionOpen, now_ms, delay_ms, never_purges, Arena, Commitment, bytes_of, Settings, Sweep, Question, Kind, Answer, Owns, Area}
+use Rattle.std.specs.Prelude.{◌&&◌, ◌∷◌}
+use Rattle.layer.specs.Prelude.{Bool, cond, not, List, [], ℕ, ltb, ℤ, pos, negsuc, Broken, QuestionOpen, now_ms, delay_ms, never_purges, Arena, Commitment, bytes_of, Settings, Sweep, Question, Kind, Answer, Owns, Area}
 use Rattle.layer.specs.World.{World, Outcome, size_of, state_with, world_of, reply, after, refuse, first_of}
 use Rattle.layer.specs.Table.{at, is_at, find_arena, sound}
 use Rattle.layer.specs.Registering.{reserve_of, manage_of, adopt_of}

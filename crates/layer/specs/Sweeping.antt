@@ -1,6 +1,7 @@
 -- `purge_due`: a sweep over the arenas, until it has a question or ends. Document 01, "Sweeping": "Arenas by id, chunks ascending." k arenas stand; S is
 -- the size of a chunk. Assumes nothing.
-use Rattle.layer.specs.Prelude.{Bool, cond, List, ℕ, zero, suc, ◌+◌, ◌*◌, set, Found, At, Nothing, Arena, sweep_due, disarm, next_asked, borrow_chunk, rearm, stamps_of, Sweep, Purging, AskPurge, Asks, Swept, Reply}
+use Rattle.std.specs.Prelude.{◌+◌, ◌*◌}
+use Rattle.layer.specs.Prelude.{Bool, cond, List, ℕ, zero, suc, set, Found, At, Nothing, Arena, sweep_due, disarm, next_asked, borrow_chunk, rearm, stamps_of, Sweep, Purging, AskPurge, Asks, Swept, Reply}
 use Rattle.layer.specs.World.{Outcome, state_with, calm, reply, after}
 use Rattle.layer.specs.Table.{at}
 

@@ -1,5 +1,6 @@
 -- The table of arenas: what row 1 of document 01's "Turned down" lets pass, and what is asked of it. S is the size of a chunk. Assumes nothing.
-use Rattle.layer.specs.Prelude.{Bool, true, false, not, ◌&&◌, ◌||◌, List, ℕ, ◌+◌, ◌*◌, ◌^◌, eqb, leb, ltb, length, get_or, bit_at, Found, At, Nothing, all, least, page_size_sound, Arena, bytes_of, end_of, is_inside, sound_arena, State, Question, Idle, Committing, Purging, Reserving, GivingBack}
+use Rattle.std.specs.Prelude.{◌&&◌, ◌||◌, ◌+◌, ◌*◌, ◌^◌}
+use Rattle.layer.specs.Prelude.{Bool, true, false, not, List, ℕ, eqb, leb, ltb, length, get_or, bit_at, Found, At, Nothing, all, least, page_size_sound, Arena, bytes_of, end_of, is_inside, sound_arena, State, Question, Idle, Committing, Purging, Reserving, GivingBack}
 use Rattle.layer.specs.World.{World, blank}
 
 -- the record at an id

@@ -1,5 +1,6 @@
 -- What a call works on and what it leaves: the 32 records, the 32,768 stamps and the state; and the rows that end a call. Assumes nothing.
-use Rattle.layer.specs.Prelude.{◌≡◌, Bool, false, cond, List, [], ◌∷◌, ℕ, pos, replicate, Refusal, Arena, no_bits, State, Question, Idle, Answer, Refused, Reply}
+use Rattle.std.specs.Prelude.{◌≡◌, ◌∷◌}
+use Rattle.layer.specs.Prelude.{Bool, false, cond, List, [], ℕ, pos, replicate, Refusal, Arena, no_bits, State, Question, Idle, Answer, Refused, Reply}
 
 pub record World : Type 0 where
   pub records : List Arena

@@ -1,6 +1,7 @@
 -- Functions of `layer_samples` that a walk calls, each in one step: call-line-step, called-step, first-more-step, hash-line-step, hashed-step, is-call-step, is-hash-step, make-step, noted_step, ns-of-step, recorded-step, reply-line-step, second-more-step, settings-of-step, hash-pass, state-of-step. Written by tools/walks.
 -- Assumes `Logic`, the callee's theorem, and that the table of calls is monotone under a frame.
-use Rattle.walks.proofs.Walking.{◌≡◌, refl, sym, ◌∙◌, ap, subst, ℕ, ◌<◌, ◌^◌, List, [], ◌∷◌, length, w32, w64, Operand, Val, vint, vbool, Ura, SProp, id⊢, Memory, Routine, Env, Calls, Item, Goal, Seq, ‵, ◌⊛◌, Opds, Fun, bool, u32, u64, yes, Is, Ises, owns_make, uint_Makes, bool_Tells, plain, only, triple_of, Contract, Triple, Loan, lent, shared, slice_of, Site, plain-call, mut2-call}
+use Rattle.std.specs.Prelude.{◌≡◌, ◌<◌, ◌^◌, ◌∷◌}
+use Rattle.walks.proofs.Walking.{refl, sym, ◌∙◌, ap, subst, ℕ, List, [], length, w32, w64, Operand, Val, vint, vbool, Ura, SProp, id⊢, Memory, Routine, Env, Calls, Item, Goal, Seq, ‵, ◌⊛◌, Opds, Fun, bool, u32, u64, yes, Is, Ises, owns_make, uint_Makes, bool_Tells, plain, only, triple_of, Contract, Triple, Loan, lent, shared, slice_of, Site, plain-call, mut2-call}
 use Rattle.layer_samples.specs.contracts.Session as T-Session
 use Rattle.layer_samples.proofs.Session.TheLaws as L-Session
 use denote.Struct.Laws as LL

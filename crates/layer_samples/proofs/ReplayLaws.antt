@@ -1,5 +1,6 @@
 -- What is kept after a line, by its kind. Assumes nothing.
-use Rattle.state.proofs.Prelude.{◌≡◌, sym, ap, ◌∙◌, true, false, List, ℕ, when, unless, Arena, reply_in}
+use Rattle.std.specs.Prelude.{◌≡◌}
+use Rattle.state.proofs.Prelude.{sym, ap, ◌∙◌, true, false, List, ℕ, when, unless, Arena, reply_in}
 use Rattle.samples.specs.declared.lines.Line.{Line}
 use Rattle.layer_samples.specs.declared.Session.{Session}
 use Rattle.layer_samples.specs.Session.{is_call, is_hash, called_of, hashed_of, noted_of}

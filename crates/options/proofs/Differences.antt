@@ -1,6 +1,7 @@
 -- The documented purge delay (option 15) against the port's: from 0 on they agree up to the longest delay of the clock; -1 means never to both, and so does to the port
 -- what lies below it, of which nothing is documented. Assumes nothing.
-use Rattle.walks.proofs.Prelude.{◌≡◌, refl, sym, ap, Bool, true, false, true≢false, ℕ, suc, ◌≤◌, ◌<◌, arith, ℤ, pos, negsuc}
+use Rattle.std.specs.Prelude.{◌≡◌, ◌≤◌, ◌<◌}
+use Rattle.walks.proofs.Prelude.{refl, sym, ap, Bool, true, false, true≢false, ℕ, suc, arith, ℤ, pos, negsuc}
 use Rattle.clock.specs.Clock.{delay_ms, never_purges}
 use Rattle.options.specs.Options.{Purging, never, delayed, unsaid, documented_delay}
 

@@ -1,5 +1,6 @@
 -- What the definitions of the options and of a sound page size mean. Assumes nothing.
-use Rattle.walks.proofs.Prelude.{◌≡◌, refl, sym, ap, ◌∙◌, Bool, true, false, not, ◌||◌, ◌⊎◌, inl, inr, ⊎_elim, ℕ, zero, suc, ◌+◌, ◌-◌, ◌^◌, ◌≤◌, arith, eqb-true, eqb, leb·zero, ℤ, pos, negsuc, le_z}
+use Rattle.std.specs.Prelude.{◌≡◌, ◌||◌, ◌⊎◌, ◌+◌, ◌-◌, ◌^◌, ◌≤◌}
+use Rattle.walks.proofs.Prelude.{refl, sym, ap, ◌∙◌, Bool, true, false, not, inl, inr, ⊎_elim, ℕ, zero, suc, arith, eqb-true, eqb, leb·zero, ℤ, pos, negsuc, le_z}
 use Rattle.options.specs.Options.{arena_allowed, page_size_sound}
 
 -- true and false differ

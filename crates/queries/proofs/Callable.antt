@@ -1,6 +1,7 @@
 -- Functions of `queries` that a walk calls, each in one step: answered-step, area-answer-step, area-of-pass, arena-area-step, arena-area-pass, is-registered-step, lies-in-arena-pass, no-area-step, owns-step, owns-pass, owns-answer-step, place-of-step. Written by tools/walks.
 -- Assumes `Logic`, the callee's theorem, and that the table of calls is monotone under a frame.
-use Rattle.walks.proofs.Walking.{◌≡◌, refl, sym, ◌∙◌, ap, subst, Bool, true, ℕ, ◌<◌, ◌≤◌, ◌*◌, ◌^◌, List, [], ◌∷◌, w32, w64, Operand, Val, vint, vbool, Fits, to_z, Ura, SProp, emp, id⊢, Memory, Routine, Env, Calls, Item, Goal, Seq, ‵, ◌⊛◌, Opds, Fun, fact_i, bool, u32, u64, usize, i32, yes, Is, Ises, owns_make, uint_Makes, bool_Tells, bool_Makes, plain, sint_Makes, only, triple_of, Contract, Triple, Loan, lent, shared, slice_of, signed, Site, plain-call, pass-call}
+use Rattle.std.specs.Prelude.{◌≡◌, ◌<◌, ◌≤◌, ◌*◌, ◌^◌, ◌∷◌}
+use Rattle.walks.proofs.Walking.{refl, sym, ◌∙◌, ap, subst, Bool, true, ℕ, List, [], w32, w64, Operand, Val, vint, vbool, Fits, to_z, Ura, SProp, emp, id⊢, Memory, Routine, Env, Calls, Item, Goal, Seq, ‵, ◌⊛◌, Opds, Fun, fact_i, bool, u32, u64, usize, i32, yes, Is, Ises, owns_make, uint_Makes, bool_Tells, bool_Makes, plain, sint_Makes, only, triple_of, Contract, Triple, Loan, lent, shared, slice_of, signed, Site, plain-call, pass-call}
 use Rattle.layer.specs.contracts.Answer as T-Answer
 use Rattle.layer.proofs.Answer.TheLaws as L-Answer
 use denote.Enum.Laws as EL

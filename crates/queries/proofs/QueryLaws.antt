@@ -1,5 +1,6 @@
 -- The queries: behind row 1 the cores' answers are the layer's. Assumes nothing.
-use Rattle.state.proofs.Prelude.{◌≡◌, refl, sym, ap, true, false, true≢false, List, ℕ, ◌*◌, ◌<◌, ◌≤◌, arith, ltb-true, ℤ, pos, negsuc, nat_abs, length, when, unless, Arena, bytes_of, Area, Settings, State, size_of, world_of, reply_in, reply, at, Query, query, query_on, step}
+use Rattle.std.specs.Prelude.{◌≡◌, ◌*◌, ◌<◌, ◌≤◌}
+use Rattle.state.proofs.Prelude.{refl, sym, ap, true, false, true≢false, List, ℕ, arith, ltb-true, ℤ, pos, negsuc, nat_abs, length, when, unless, Arena, bytes_of, Area, Settings, State, size_of, world_of, reply_in, reply, at, Query, query, query_on, step}
 use Rattle.layer.specs.Step.{area_of}
 use Rattle.state.specs.Ready.{Standing}
 use Rattle.state.proofs.Entry.{Passes, goes, stands}

@@ -1,5 +1,6 @@
 -- Each return of an adopt's core leaves what the definition of an adopt says. Assumes nothing.
-use Rattle.state.proofs.Prelude.{◌≡◌, sym, ap, subst, ◌∙◌, Bool, true, false, cond, not, ◌&&◌, List, ℕ, ◌+◌, ◌/◌, ◌%◌, ◌≤◌, ◌<◌, arith, leb-true, eqb, length, set, Zero, Range, NotWhole, when, unless, Found, At, First, first_says, and_both, Arena, is_on, end_of, State, Reply, Registered, Outcome, size_of, reply, Leaves, turn_down, calm, at, is_at, id_found, bad_range, grows, growing}
+use Rattle.std.specs.Prelude.{◌≡◌, ◌&&◌, ◌+◌, ◌/◌, ◌%◌, ◌≤◌, ◌<◌}
+use Rattle.state.proofs.Prelude.{sym, ap, subst, ◌∙◌, Bool, true, false, cond, not, List, ℕ, arith, leb-true, eqb, length, set, Zero, Range, NotWhole, when, unless, Found, At, First, first_says, and_both, Arena, is_on, end_of, State, Reply, Registered, Outcome, size_of, reply, Leaves, turn_down, calm, at, is_at, id_found, bad_range, grows, growing}
 use Rattle.arena.specs.Registering.{adopted_arena, grown_arena}
 use Rattle.layer.specs.Registering.{grown, adopt_of}
 use Rattle.state.specs.Ready.{Ready}

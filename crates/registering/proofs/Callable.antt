@@ -1,6 +1,7 @@
 -- Functions of `registering` that a walk calls, each in one step: adopt-os-block-step, adopt-step, as-recorded-step, has-bad-count-step, is-full-step, whole-chunks-step, manage-os-memory-ex-step, manage-step, range-bad-step, range-bad-pass, reserve-os-memory-ex-step, reserve-step, registered-step, write-new-step. Written by tools/walks.
 -- Assumes `Logic`, the callee's theorem, and that the table of calls is monotone under a frame.
-use Rattle.walks.proofs.Walking.{◌≡◌, refl, sym, ◌∙◌, ap, subst, Bool, ℕ, ◌<◌, ◌^◌, List, [], ◌∷◌, leb, length, w32, w64, Operand, Val, vint, vbool, Fits, to_z, Ura, SProp, emp, id⊢, Memory, Routine, Env, Calls, Item, Goal, Seq, ‵, ◌⊛◌, Opds, Fun, fact_i, bool, u32, u64, usize, i32, yes, Is, Ises, owns_make, Nothing, uint_Makes, bool_Tells, bool_Makes, plain, sint_Makes, only, triple_of, Contract, Triple, Loan, lent, shared, slice_of, signed, Site, plain-call, shr-call, pass-call, mut2-call}
+use Rattle.std.specs.Prelude.{◌≡◌, ◌<◌, ◌^◌, ◌∷◌}
+use Rattle.walks.proofs.Walking.{refl, sym, ◌∙◌, ap, subst, Bool, ℕ, List, [], leb, length, w32, w64, Operand, Val, vint, vbool, Fits, to_z, Ura, SProp, emp, id⊢, Memory, Routine, Env, Calls, Item, Goal, Seq, ‵, ◌⊛◌, Opds, Fun, fact_i, bool, u32, u64, usize, i32, yes, Is, Ises, owns_make, Nothing, uint_Makes, bool_Tells, bool_Makes, plain, sint_Makes, only, triple_of, Contract, Triple, Loan, lent, shared, slice_of, signed, Site, plain-call, shr-call, pass-call, mut2-call}
 use Rattle.layer.specs.contracts.State as T-State
 use Rattle.layer.proofs.State.TheLaws as L-State
 use denote.Struct.Laws as LL

@@ -1,5 +1,6 @@
 -- Bytes in whole chunks, and a number of chunks that may be registered. S is the size of a chunk. Assumes nothing.
-use Rattle.state.proofs.Prelude.{◌≡◌, true, false, ℕ, ◌+◌, ◌*◌, ◌/◌, ◌%◌, ◌≤◌, ◌<◌, mul-le-mul, arith, ltb-false, eq-eqb, ne_eqb, eqb, ltb, chunks_for, bad_count}
+use Rattle.std.specs.Prelude.{◌≡◌, ◌+◌, ◌*◌, ◌/◌, ◌%◌, ◌≤◌, ◌<◌}
+use Rattle.state.proofs.Prelude.{true, false, ℕ, mul-le-mul, arith, ltb-false, eq-eqb, ne_eqb, eqb, ltb, chunks_for, bad_count}
 use native.Mathlib.Nat.{mod-lt, div-add-mod', div-eq_of_lt-le}
 use Rattle.registering.proofs.TestLaws.{or-first, or-second, neither}
 

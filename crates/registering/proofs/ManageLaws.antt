@@ -1,5 +1,6 @@
 -- Each return of a manage's core leaves what the definition of a manage says. Assumes nothing.
-use Rattle.state.proofs.Prelude.{◌≡◌, sym, subst, ◌∙◌, Bool, true, false, not, ◌||◌, List, ℕ, ◌-◌, ◌/◌, ℤ, Range, NoWholeChunk, HostRefused, when, unless, Arena, State, Reply, Outcome, size_of, Leaves, turn_down, bad_range, first_whole, past_whole, no_whole_chunk}
+use Rattle.std.specs.Prelude.{◌≡◌, ◌||◌, ◌-◌, ◌/◌}
+use Rattle.state.proofs.Prelude.{sym, subst, ◌∙◌, Bool, true, false, not, List, ℕ, ℤ, Range, NoWholeChunk, HostRefused, when, unless, Arena, State, Reply, Outcome, size_of, Leaves, turn_down, bad_range, first_whole, past_whole, no_whole_chunk}
 use Rattle.arena.specs.Registering.{managed_arena}
 use Rattle.layer.specs.Registering.{manage_of}
 use Rattle.state.specs.Ready.{Ready}

@@ -1,5 +1,6 @@
 -- Row 6 by its two parts: the ends of the range, and the arenas. S is the size of a chunk. Assumes nothing.
-use Rattle.state.proofs.Prelude.{◌≡◌, refl, sym, ◌∙◌, Bool, true, false, ◌||◌, List, ℕ, ◌+◌, ◌-◌, ◌^◌, ◌<◌, ◌≤◌, arith, eq-eqb, ne_eqb, ltb-true, lt-ltb, leb-true, le-leb, eqb, leb, ltb, same, Arena, overlaps, bad_range}
+use Rattle.std.specs.Prelude.{◌≡◌, ◌||◌, ◌+◌, ◌-◌, ◌^◌, ◌<◌, ◌≤◌}
+use Rattle.state.proofs.Prelude.{refl, sym, ◌∙◌, Bool, true, false, List, ℕ, arith, eq-eqb, ne_eqb, ltb-true, lt-ltb, leb-true, le-leb, eqb, leb, ltb, same, Arena, overlaps, bad_range}
 use Rattle.registering.proofs.TestLaws.{or-first, or-second, neither}
 
 -- the first of three tests, or the second

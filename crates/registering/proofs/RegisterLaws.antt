@@ -1,5 +1,6 @@
 -- A new arena, case by case: 12, 13, or its record and stamps; and what writing it requires. Assumes nothing.
-use Rattle.state.proofs.Prelude.{◌≡◌, sym, ap, ◌∙◌, true, false, List, ℕ, suc, ◌+◌, ◌*◌, ◌<◌, arith, leb-false, leb, length, Refusal, ChunkCount, TableFull, when, unless, Arena, stamp_run, State, Registered, Outcome, reply, after, Leaves, turn_down, calm, bad_count, with_record, with_stamps}
+use Rattle.std.specs.Prelude.{◌≡◌, ◌+◌, ◌*◌, ◌<◌}
+use Rattle.state.proofs.Prelude.{sym, ap, ◌∙◌, true, false, List, ℕ, suc, arith, leb-false, leb, length, Refusal, ChunkCount, TableFull, when, unless, Arena, stamp_run, State, Registered, Outcome, reply, after, Leaves, turn_down, calm, bad_count, with_record, with_stamps}
 use Rattle.state.specs.Ready.{Ready, Stamped}
 use Rattle.state.proofs.Entry.{calm-is, comes}
 use Rattle.registering.specs.New.{register_new}

@@ -1,5 +1,6 @@
 -- A reserve: what it leaves, and one whose whole chunks pass the last address, by counts. S is the size of a chunk. Assumes nothing.
-use Rattle.state.proofs.Prelude.{◌≡◌, refl, Bool, false, List, ℕ, ◌+◌, ◌*◌, ◌/◌, ◌^◌, ◌≤◌, ◌<◌, div-lt_iff_lt-mul, mul-le-mul, arith, le-leb, leb-true, leb-false, leb, same, Arena, State, size_of, Leaves, chunks_for, too_large, reserve_reply}
+use Rattle.std.specs.Prelude.{◌≡◌, ◌+◌, ◌*◌, ◌/◌, ◌^◌, ◌≤◌, ◌<◌}
+use Rattle.state.proofs.Prelude.{refl, Bool, false, List, ℕ, div-lt_iff_lt-mul, mul-le-mul, arith, le-leb, leb-true, leb-false, leb, same, Arena, State, size_of, Leaves, chunks_for, too_large, reserve_reply}
 use native.Mathlib.Nat.{lt-div-mul-add}
 use Rattle.layer.specs.Registering.{reserve_of}
 use Rattle.state.proofs.Entry.{comes}

@@ -1,5 +1,6 @@
 -- Two tests, one after the other. Assumes nothing.
-use Rattle.state.proofs.Prelude.{◌≡◌, refl, ap, Bool, true, false, true≢false, ◌&&◌, ◌||◌}
+use Rattle.std.specs.Prelude.{◌≡◌, ◌&&◌, ◌||◌}
+use Rattle.state.proofs.Prelude.{refl, ap, Bool, true, false, true≢false}
 
 pub or-first : (a b : Bool) → a ≡ true → a || b ≡ true
 or-first a b e = ap (λ (t : Bool). t || b) e

@@ -1,5 +1,6 @@
 -- The whole chunks inside a range. S is the size of a chunk. Assumes nothing.
-use Rattle.state.proofs.Prelude.{◌≡◌, sym, ◌∙◌, true, false, ℕ, ◌+◌, ◌-◌, ◌*◌, ◌/◌, ◌^◌, ◌≤◌, ◌<◌, mul-le-mul, div-mul-le_self, arith, le-leb, lt-leb, leb-true, leb-false, eq-eqb, ne_eqb, eqb, leb, same, chunks_for, first_whole, past_whole, no_whole_chunk}
+use Rattle.std.specs.Prelude.{◌≡◌, ◌+◌, ◌-◌, ◌*◌, ◌/◌, ◌^◌, ◌≤◌, ◌<◌}
+use Rattle.state.proofs.Prelude.{sym, ◌∙◌, true, false, ℕ, mul-le-mul, div-mul-le_self, arith, le-leb, lt-leb, leb-true, leb-false, eq-eqb, ne_eqb, eqb, leb, same, chunks_for, first_whole, past_whole, no_whole_chunk}
 use native.Mathlib.Nat.{le_of_mul-le-mul_right}
 use Rattle.registering.proofs.TestLaws.{or-first, or-second, neither}
 use Rattle.layer.proofs.ChunkLaws.{up-tight}

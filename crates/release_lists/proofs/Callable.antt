@@ -1,6 +1,7 @@
 -- Functions of `release_lists` that a walk calls, each in one step: address-at-pass, as-number-step, chunk-release-list-as-mmssm, count-at-pass, fits-step, number-of-step, put-number-step, release-each-as-mmssm, release-item-step, untold-step. Written by tools/walks.
 -- Assumes `Logic`, the callee's theorem, and that the table of calls is monotone under a frame.
-use Rattle.walks.proofs.Walking.{◌≡◌, refl, sym, ◌∙◌, ap, subst, Bool, ℕ, ◌<◌, ◌^◌, List, [], ◌∷◌, eqb, leb, length, get_or, set, w32, w64, Operand, Val, vint, vbool, Ura, SProp, emp, id⊢, Memory, Routine, Env, Calls, Item, Goal, Seq, ‵, ◌⊛◌, Opds, Fun, fact_i, bool, u32, u64, usize, yes, Is, Ises, owns_make, Nothing, uint_Makes, bool_Tells, bool_Makes, plain, only, triple_of, Contract, Triple, Loan, lent, shared, slice_of, Site, plain-call, mut_call, pass-call, mut2-call}
+use Rattle.std.specs.Prelude.{◌≡◌, ◌<◌, ◌^◌, ◌∷◌}
+use Rattle.walks.proofs.Walking.{refl, sym, ◌∙◌, ap, subst, Bool, ℕ, List, [], eqb, leb, length, get_or, set, w32, w64, Operand, Val, vint, vbool, Ura, SProp, emp, id⊢, Memory, Routine, Env, Calls, Item, Goal, Seq, ‵, ◌⊛◌, Opds, Fun, fact_i, bool, u32, u64, usize, yes, Is, Ises, owns_make, Nothing, uint_Makes, bool_Tells, bool_Makes, plain, only, triple_of, Contract, Triple, Loan, lent, shared, slice_of, Site, plain-call, mut_call, pass-call, mut2-call}
 use Rattle.layer.specs.contracts.State as T-State
 use Rattle.layer.proofs.State.TheLaws as L-State
 use denote.Struct.Laws as LL

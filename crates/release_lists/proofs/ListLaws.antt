@@ -1,5 +1,6 @@
 -- A list turn by turn, and its rows. Assumes nothing.
-use Rattle.layer.proofs.Prelude.{◌≡◌, refl, sym, ap, ap₂, ◌∙◌, subst, Bool, true, false, not, ◌&&◌, List, [], ◌∷◌, ◌++◌, append_assoc, append-nil, ℕ, suc, ◌+◌, ◌<◌, arith, eqb-true, eqb, leb, length, get_or, set, take, drop, when, unless, and_both, Broken, QuestionOpen, ListLength, now_ms, delay_ms, Arena, Untold, World, Outcome, world_of, reply, calm, turn_down, sound, release_of, stays_pending, is_idle, ListOutcome, item_number, release_each, release_item, list_fits, release_list}
+use Rattle.std.specs.Prelude.{◌≡◌, ◌&&◌, ◌∷◌, ◌++◌, ◌+◌, ◌<◌}
+use Rattle.layer.proofs.Prelude.{refl, sym, ap, ap₂, ◌∙◌, subst, Bool, true, false, not, List, [], append_assoc, append-nil, ℕ, suc, arith, eqb-true, eqb, leb, length, get_or, set, take, drop, when, unless, and_both, Broken, QuestionOpen, ListLength, now_ms, delay_ms, Arena, Untold, World, Outcome, world_of, reply, calm, turn_down, sound, release_of, stays_pending, is_idle, ListOutcome, item_number, release_each, release_item, list_fits, release_list}
 use lib.Seq.{drop-cons, drop-length, take-length, take-suc-set}
 use Rattle.layer.specs.declared.State.{State}
 use Rattle.layer.specs.declared.Settings.{Settings}

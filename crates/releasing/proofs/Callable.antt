@@ -1,6 +1,7 @@
 -- Functions of `releasing` that a walk calls, each in one step: chunk-release-step, delay-of-step, fits-step, is-untold-step, is-whole-step, offset-of-step, release-step, release-in-step, released-step, start-of-step, stays-pending-step. Written by tools/walks.
 -- Assumes `Logic`, the callee's theorem, and that the table of calls is monotone under a frame.
-use Rattle.walks.proofs.Walking.{◌≡◌, refl, sym, ◌∙◌, ap, subst, Bool, ℕ, ◌<◌, ◌≤◌, ◌+◌, ◌*◌, ◌^◌, List, [], ◌∷◌, eqb, leb, length, set, w32, w64, Operand, Val, vint, vbool, Ura, SProp, emp, id⊢, Memory, Routine, Env, Calls, Item, Goal, Seq, ‵, ◌⊛◌, Opds, Fun, fact_i, bool, u32, u64, usize, yes, Is, Ises, owns_make, uint_Makes, bool_Tells, bool_Makes, plain, only, triple_of, Contract, Triple, Loan, lent, slice_of, Site, plain-call, mut2-call}
+use Rattle.std.specs.Prelude.{◌≡◌, ◌<◌, ◌≤◌, ◌+◌, ◌*◌, ◌^◌, ◌∷◌}
+use Rattle.walks.proofs.Walking.{refl, sym, ◌∙◌, ap, subst, Bool, ℕ, List, [], eqb, leb, length, set, w32, w64, Operand, Val, vint, vbool, Ura, SProp, emp, id⊢, Memory, Routine, Env, Calls, Item, Goal, Seq, ‵, ◌⊛◌, Opds, Fun, fact_i, bool, u32, u64, usize, yes, Is, Ises, owns_make, uint_Makes, bool_Tells, bool_Makes, plain, only, triple_of, Contract, Triple, Loan, lent, slice_of, Site, plain-call, mut2-call}
 use Rattle.layer.specs.contracts.State as T-State
 use Rattle.layer.proofs.State.TheLaws as L-State
 use denote.Struct.Laws as LL

@@ -1,5 +1,6 @@
 -- A release in one record is the definition's, pending or not. Assumes nothing.
-use Rattle.state.proofs.Prelude.{◌≡◌, refl, sym, ap, ◌∙◌, Bool, true, false, true≢false, cond, List, ℕ, ◌+◌, ◌*◌, set, when, unless, Arena, Commitment, give_back_run, release_run, stamp_run, Reply, at}
+use Rattle.std.specs.Prelude.{◌≡◌, ◌+◌, ◌*◌}
+use Rattle.state.proofs.Prelude.{refl, sym, ap, ◌∙◌, Bool, true, false, true≢false, cond, List, ℕ, set, when, unless, Arena, Commitment, give_back_run, release_run, stamp_run, Reply, at}
 use Rattle.arena.specs.Releasing.{tell_run, pend_run}
 use Rattle.releasing.specs.Told.{is_untold}
 use Rattle.arena.specs.declared.Commitment.TheVariants.{Untold, Committed, Uncommitted}

@@ -1,5 +1,6 @@
 -- A release row by row: what is known of the arena that the address lies in, and that each return is the definition's. Assumes nothing.
-use Rattle.state.proofs.Prelude.{◌≡◌, refl, sym, ap, ◌∙◌, subst, Bool, true, false, not, cond, true≢false, List, [], ◌∷◌, ℕ, ◌+◌, ◌-◌, ◌*◌, ◌/◌, ◌%◌, ◌<◌, ◌≤◌, div-lt_iff_lt-mul, arith, leb-true, eqb, leb, length, set, Refusal, Zero, NotInside, NotWhole, PastEnd, when, unless, now_ms, delay_ms, Found, At, Nothing, First, first_says, Arena, Commitment, stays_pending, release_run, stamp_run, is_inside, inside-facts, Released, Settings, State, Outcome, size_of, world_of, after, Leaves, reply, turn_down, calm, at, is_at, id_found, find_arena, release_of}
+use Rattle.std.specs.Prelude.{◌≡◌, ◌∷◌, ◌+◌, ◌-◌, ◌*◌, ◌/◌, ◌%◌, ◌<◌, ◌≤◌}
+use Rattle.state.proofs.Prelude.{refl, sym, ap, ◌∙◌, subst, Bool, true, false, not, cond, true≢false, List, [], ℕ, div-lt_iff_lt-mul, arith, leb-true, eqb, leb, length, set, Refusal, Zero, NotInside, NotWhole, PastEnd, when, unless, now_ms, delay_ms, Found, At, Nothing, First, first_says, Arena, Commitment, stays_pending, release_run, stamp_run, is_inside, inside-facts, Released, Settings, State, Outcome, size_of, world_of, after, Leaves, reply, turn_down, calm, at, is_at, id_found, find_arena, release_of}
 use Rattle.arena.proofs.PlaceLaws.{Within}
 use Rattle.layer.specs.World.{refuse, first_of}
 use Rattle.state.specs.Ready.{Standing, Ready}

@@ -1,5 +1,6 @@
 -- Which of the two a line asks: numbers alone, or the slice pool. Assumes nothing.
-use Rattle.walks.proofs.Prelude.{◌≡◌, true, false, List, ℕ, eqb, leb}
+use Rattle.std.specs.Prelude.{◌≡◌}
+use Rattle.walks.proofs.Prelude.{true, false, List, ℕ, eqb, leb}
 use Rattle.samples.specs.declared.lines.Line.{Line}
 use Rattle.replay.specs.Answers.{of_numbers, of_pool, left_pool, agrees_on, leaves}
 

@@ -1,5 +1,6 @@
 -- Words that are set to 0 one after the other. Assumes nothing.
-use Rattle.walks.proofs.Prelude.{◌≡◌, sym, ◌∙◌, List, ℕ, ◌+◌, ◌<◌, arith, below_more, length, get_or, set, get_or-set_same, get_or-set_other, ext_get_or}
+use Rattle.std.specs.Prelude.{◌≡◌, ◌+◌, ◌<◌}
+use Rattle.walks.proofs.Prelude.{sym, ◌∙◌, List, ℕ, arith, below_more, length, get_or, set, get_or-set_same, get_or-set_other, ext_get_or}
 use lib.ListN.{replicate, length-replicate, get_or-replicate}
 
 -- one word more

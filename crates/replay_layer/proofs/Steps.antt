@@ -1,6 +1,7 @@
 -- The functions that a replay calls, each in one step of a walk (`walks`' Calls.antt). The walks say nothing of what is replayed, so of a callee's contract they take only that it may be called; of `fewer`, that it counts down.
 -- Assumes `Logic`, the callee's theorem, and that the table of calls is monotone under a frame.
-use Rattle.state.proofs.Prelude.{◌≡◌, refl, sym, ap, subst, ℕ, ◌<◌, ◌^◌, List, [], ◌∷◌, length, Arena}
+use Rattle.std.specs.Prelude.{◌≡◌, ◌<◌, ◌^◌, ◌∷◌}
+use Rattle.state.proofs.Prelude.{refl, sym, ap, subst, ℕ, List, [], length, Arena}
 use seplogic.Ra.Ura.{Ura}
 use mir.Syntax.{Opd as Operand, w64}
 use mir.Val.{Val, vint}

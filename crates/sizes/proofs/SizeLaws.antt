@@ -1,5 +1,6 @@
 -- The laws of the size arithmetic: what the definitions mean, and what the machine's masks say of them. Assumes nothing.
-use Rattle.walks.proofs.Prelude.{◌≡◌, refl, sym, ap, ap₂, ◌∙◌, subst, Bool, true, false, cond, ◌&&◌, ◌||◌, ◌⊎◌, inl, inr, ⊎_elim, ℕ, zero, suc, ◌+◌, ◌-◌, ◌*◌, ◌/◌, ◌%◌, ◌^◌, ◌≤◌, ◌<◌, min, not-suc-le-zero, le_of_suc-le-suc, zero-lt-suc, mod-lt, mul-one, eq-or-lt_of_le, arith, eqb-true, eq-eqb, ne_eqb, lt-ltb, le-ltb, bit_and, and_step, count_trailing_zeros, under, eqb, pow_pos, pow_mono}
+use Rattle.std.specs.Prelude.{◌≡◌, ◌&&◌, ◌||◌, ◌⊎◌, ◌+◌, ◌-◌, ◌*◌, ◌/◌, ◌%◌, ◌^◌, ◌≤◌, ◌<◌}
+use Rattle.walks.proofs.Prelude.{refl, sym, ap, ap₂, ◌∙◌, subst, Bool, true, false, cond, inl, inr, ⊎_elim, ℕ, zero, suc, min, not-suc-le-zero, le_of_suc-le-suc, zero-lt-suc, mod-lt, mul-one, eq-or-lt_of_le, arith, eqb-true, eq-eqb, ne_eqb, lt-ltb, le-ltb, bit_and, and_step, count_trailing_zeros, under, eqb, pow_pos, pow_mono}
 use native.Mathlib.Nat.{mod_self, mod-eq_of_lt, mul-mod_left, div-add-mod', one-mul, mul_assoc, mul_left_comm, add-mul, mul-add-mod_self_right}
 use lib.Bits.{and_self, and_mask, and_high}
 use lib.Count.{trailing_of_zero}

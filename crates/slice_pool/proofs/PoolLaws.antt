@@ -1,5 +1,6 @@
 -- The slice pool's definitions, case by case: which test decides. Assumes nothing.
-use Rattle.walks.proofs.Prelude.{◌≡◌, sym, ap, ◌∙◌, subst, Bool, true, ◌&&◌, List, ℕ, ◌+◌, ◌/◌, ◌%◌, ◌≤◌, ◌<◌, eq-eqb, ne_eqb, lt-ltb, le-ltb, eqb, length}
+use Rattle.std.specs.Prelude.{◌≡◌, ◌&&◌, ◌+◌, ◌/◌, ◌%◌, ◌≤◌, ◌<◌}
+use Rattle.walks.proofs.Prelude.{sym, ap, ◌∙◌, subst, Bool, true, List, ℕ, eq-eqb, ne_eqb, lt-ltb, le-ltb, eqb, length}
 use Rattle.refusals.specs.declared.Refusal.TheVariants.{Broken, Zero, NotWhole, NotInside, PastEnd}
 use Rattle.bitmap.specs.Bits.{bit_at}
 use Rattle.bitmap.specs.Rows.{set_run}

@@ -1,5 +1,6 @@
 -- Rows 1 and 2 of every call, and what they say of the table that they let pass. Assumes nothing.
-use Rattle.layer.proofs.Prelude.{◌≡◌, sym, ap, subst, ◌∙◌, true, false, not, List, ℕ, ◌<◌, ◌≤◌, arith, eqb-true, leb-true, eqb, leb, length, Broken, QuestionOpen, when, unless, all, all-free-of, and_both, page_size_sound, Arena, sound_arena, SoundArena, arena-facts, Outcome, state_with, world_of, after, turn_down, calm, at, apart, sound_table, sound_lent, Act, Call, act, act_on, step_on, rules, step}
+use Rattle.std.specs.Prelude.{◌≡◌, ◌<◌, ◌≤◌}
+use Rattle.layer.proofs.Prelude.{sym, ap, subst, ◌∙◌, true, false, not, List, ℕ, arith, eqb-true, leb-true, eqb, leb, length, Broken, QuestionOpen, when, unless, all, all-free-of, and_both, page_size_sound, Arena, sound_arena, SoundArena, arena-facts, Outcome, state_with, world_of, after, turn_down, calm, at, apart, sound_table, sound_lent, Act, Call, act, act_on, step_on, rules, step}
 use Rattle.layer.specs.declared.Settings.{Settings}
 use Rattle.layer.specs.declared.State.{State}
 use Rattle.layer.specs.declared.Reply.{Reply}

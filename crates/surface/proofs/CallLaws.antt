@@ -1,7 +1,8 @@
 -- An exported call is the layer's step in numbers, the exported list the layer's list, and the exported join the layer's join. Each law takes what the code of an
 -- export gives: whether the numbers are a state's, the state and the settings that are read, the entry point's reply, and its numbers. Assumes nothing.
+use Rattle.std.specs.Prelude.{◌≡◌, ◌&&◌}
 use Rattle.std.proofs.Math.Path.{subst₂}
-use Rattle.state.proofs.Prelude.{◌≡◌, refl, sym, ap, ap₂, ◌∙◌, subst, Bool, true, false, ◌&&◌, List, ℕ, when, unless, Arena, State, Reply, Settings, World, Outcome, size_of, world_of, Leaves, sound, Query, Call, query, rules, step}
+use Rattle.state.proofs.Prelude.{refl, sym, ap, ap₂, ◌∙◌, subst, Bool, true, false, List, ℕ, when, unless, Arena, State, Reply, Settings, World, Outcome, size_of, world_of, Leaves, sound, Query, Call, query, rules, step}
 use Rattle.layer.specs.declared.JoinReply.{JoinReply}
 use Rattle.layer.specs.World.{reply_in}
 use Rattle.layer.specs.Listing.{Items, ListOutcome, release_list, LeavesList}

@@ -1,5 +1,6 @@
 -- Demand 3 of the exported calls: read back, they answer and leave what the rules say. Assumes nothing.
-use Rattle.state.proofs.Prelude.{◌≡◌, refl, sym, ap, ap₂, ◌∙◌, subst, Bool, true, false, List, ℕ, suc, ◌+◌, ◌-◌, ◌&&◌, arith, eqb, ltb, pos, negsuc, by_cond, when, unless, Refusal, Broken, QuestionOpen, NoSuchQuestion, Zero, ArenasOff, Range, NotWhole, NotInside, PastEnd, NoRun, CommitRefused, ChunkCount, TableFull, MemoryRefused, NoWholeChunk, HostRefused, Arena, Settings, State, Question, Idle, Committing, Purging, Reserving, GivingBack, Waiting, Reserve, Claim, Kind, AskCommit, AskPurge, AskMemory, Answer, Asks, Registered, Claimed, Released, Area, World, Outcome, size_of, world_of, after, sound, ask_memory, with_record, with_stamps, is_for, counted, fail_reply, resume, answer_to, answer_of as answer_on, Act, claim, release, sweep, Query, Call, act, query, answer, stays_pending, sweep_of, sweeps_none, act_on, query_on, rules, step}
+use Rattle.std.specs.Prelude.{◌≡◌, ◌+◌, ◌-◌, ◌&&◌}
+use Rattle.state.proofs.Prelude.{refl, sym, ap, ap₂, ◌∙◌, subst, Bool, true, false, List, ℕ, suc, arith, eqb, ltb, pos, negsuc, by_cond, when, unless, Refusal, Broken, QuestionOpen, NoSuchQuestion, Zero, ArenasOff, Range, NotWhole, NotInside, PastEnd, NoRun, CommitRefused, ChunkCount, TableFull, MemoryRefused, NoWholeChunk, HostRefused, Arena, Settings, State, Question, Idle, Committing, Purging, Reserving, GivingBack, Waiting, Reserve, Claim, Kind, AskCommit, AskPurge, AskMemory, Answer, Asks, Registered, Claimed, Released, Area, World, Outcome, size_of, world_of, after, sound, ask_memory, with_record, with_stamps, is_for, counted, fail_reply, resume, answer_to, answer_of as answer_on, Act, claim, release, sweep, Query, Call, act, query, answer, stays_pending, sweep_of, sweeps_none, act_on, query_on, rules, step}
 use Rattle.refusals.specs.declared.Refusal.TheVariants.{TablesOverlap, TooManyArenas, ListLength}
 use Rattle.refusals.specs.Number.{number}
 use Rattle.arena.proofs.FlagLaws.{flag-read}

@@ -1,5 +1,6 @@
 -- The test of numbers field by field says whether they are a state's. Assumes nothing.
-use Rattle.state.proofs.Prelude.{◌≡◌, refl, sym, ap, ap₂, ◌∙◌, subst, Bool, true, false, cond, ◌&&◌, ◌||◌, true≢false, ℕ, ◌<◌, ◌≤◌, arith, eqb-true, leb-true, leb-false, eq-eqb, ne_eqb, le-leb, lt-leb, eqb, leb, when, unless, by_cond, same, and_both, as_flag, State, Question, Idle, Committing, Purging, Reserving, GivingBack, Waiting, Reserve, Claim, Unusable, Count, Misaligned, Full}
+use Rattle.std.specs.Prelude.{◌≡◌, ◌&&◌, ◌||◌, ◌<◌, ◌≤◌}
+use Rattle.state.proofs.Prelude.{refl, sym, ap, ap₂, ◌∙◌, subst, Bool, true, false, cond, true≢false, ℕ, arith, eqb-true, leb-true, leb-false, eq-eqb, ne_eqb, le-leb, lt-leb, eqb, leb, when, unless, by_cond, same, and_both, as_flag, State, Question, Idle, Committing, Purging, Reserving, GivingBack, Waiting, Reserve, Claim, Unusable, Count, Misaligned, Full}
 use borrow.Author.Tests.{eqb-false}
 use Rattle.layer.specs.World.{state_with}
 use Rattle.surface.specs.declared.StateNumbers.{StateNumbers}

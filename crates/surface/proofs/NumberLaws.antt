@@ -1,5 +1,6 @@
 -- The state and its numbers: they are read as they were written, and written as they were read. Assumes nothing.
-use Rattle.state.proofs.Prelude.{◌≡◌, refl, ap, ap₂, ◌∙◌, Bool, true, false, ◌&&◌, ℕ, eqb-true, eq-eqb, eqb, and_both, State, Question, Idle, Committing, Purging, Reserving, GivingBack, Reserve, Claim, Count, Misaligned, Full, as_flag}
+use Rattle.std.specs.Prelude.{◌≡◌, ◌&&◌}
+use Rattle.state.proofs.Prelude.{refl, ap, ap₂, ◌∙◌, Bool, true, false, ℕ, eqb-true, eq-eqb, eqb, and_both, State, Question, Idle, Committing, Purging, Reserving, GivingBack, Reserve, Claim, Count, Misaligned, Full, as_flag}
 use Rattle.layer.specs.World.{state_with}
 use Rattle.surface.specs.declared.StateNumbers.{StateNumbers}
 use Rattle.surface.specs.Numbers.{question_of, state_of, state_numbers, question_numbers, numbers_of, same_numbers, is_state}

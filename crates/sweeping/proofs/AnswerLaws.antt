@@ -1,5 +1,6 @@
 -- The answer to a purge question: what it is handed, and its two ways. Assumes nothing.
-use Rattle.state.proofs.Prelude.{◌≡◌, sym, ap, ◌∙◌, subst, Bool, true, false, List, ℕ, ◌+◌, ◌-◌, ◌*◌, ◌^◌, ◌<◌, ◌≤◌, arith, leb-true, ltb-true, ltb, length, set, length-set, bit_at, Found, At, Nothing, and_both, Arena, with_deadline, borrow_chunk, stamps_of, next_deadline, SoundArena, State, Sweep, Reply, Question, Purging, Outcome, size_of, after, Leaves, at, is_at, asked_id, sound_question, purge_reply, visit_at, visit, sweep_from, counted, answer_purge}
+use Rattle.std.specs.Prelude.{◌≡◌, ◌+◌, ◌-◌, ◌*◌, ◌^◌, ◌<◌, ◌≤◌}
+use Rattle.state.proofs.Prelude.{sym, ap, ◌∙◌, subst, Bool, true, false, List, ℕ, arith, leb-true, ltb-true, ltb, length, set, length-set, bit_at, Found, At, Nothing, and_both, Arena, with_deadline, borrow_chunk, stamps_of, next_deadline, SoundArena, State, Sweep, Reply, Question, Purging, Outcome, size_of, after, Leaves, at, is_at, asked_id, sound_question, purge_reply, visit_at, visit, sweep_from, counted, answer_purge}
 use Rattle.bitmap.specs.Rows.{clear_run}
 use Rattle.arena.specs.Sweeping.{return_chunk}
 use Rattle.arena.proofs.purge.MapLaws.{next-returned, rearm-returned}

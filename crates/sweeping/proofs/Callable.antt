@@ -1,6 +1,7 @@
 -- Functions of `sweeping` that a walk calls, each in one step: answer-purge-step, behind-step, chunk-of-step, count-answer-step, deadline-anew-step, deadline-without-step, decommits-step, is-due-at-step, next-chunk-step, purge-due-step, purge-question-step, question-at-step, sweep-step, sweep-of-step, sweep-on-step, sweeps-none-step, swept_step, visit-step. Written by tools/walks.
 -- Assumes `Logic`, the callee's theorem, and that the table of calls is monotone under a frame.
-use Rattle.walks.proofs.Walking.{◌≡◌, refl, sym, ◌∙◌, ap, subst, Bool, true, ℕ, ◌<◌, ◌≤◌, ◌+◌, ◌*◌, ◌^◌, List, [], ◌∷◌, length, set, w32, w64, Operand, Val, vint, vbool, Ura, SProp, emp, id⊢, Memory, Routine, Env, Calls, Item, Goal, Seq, ‵, ◌⊛◌, Opds, Fun, fact_i, bool, u32, u64, usize, yes, Is, Ises, owns_make, uint_Makes, bool_Tells, bool_Makes, plain, only, triple_of, Contract, Triple, Loan, lent, slice_of, Site, plain-call, shr-call, mut2-call}
+use Rattle.std.specs.Prelude.{◌≡◌, ◌<◌, ◌≤◌, ◌+◌, ◌*◌, ◌^◌, ◌∷◌}
+use Rattle.walks.proofs.Walking.{refl, sym, ◌∙◌, ap, subst, Bool, true, ℕ, List, [], length, set, w32, w64, Operand, Val, vint, vbool, Ura, SProp, emp, id⊢, Memory, Routine, Env, Calls, Item, Goal, Seq, ‵, ◌⊛◌, Opds, Fun, fact_i, bool, u32, u64, usize, yes, Is, Ises, owns_make, uint_Makes, bool_Tells, bool_Makes, plain, only, triple_of, Contract, Triple, Loan, lent, slice_of, Site, plain-call, shr-call, mut2-call}
 use Rattle.layer.specs.contracts.State as T-State
 use Rattle.layer.proofs.State.TheLaws as L-State
 use denote.Struct.Laws as LL

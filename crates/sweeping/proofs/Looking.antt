@@ -1,6 +1,7 @@
 -- Functions that a walk lends a field of an element where it lies, each in one step: comes-due-looked. Written by tools/walks.
 -- Assumes `Logic`, the callee's theorem, and that the table of calls is monotone under a frame.
-use Rattle.walks.proofs.Walking.{◌≡◌, sym, ◌∙◌, ap, subst, ℕ, ◌<◌, ◌+◌, ◌*◌, List, [], ◌∷◌, length, get_or, Operand, Val, vbool, Ura, SProp, id⊢, Memory, Routine, Env, Calls, Item, Goal, Seq, ‵, ◌⊛◌, Opds, Fun, bool, u32, yes, Is, Ises, owns_make, bool_Tells, plain, only, triple_of, Contract, Triple, Loan, shared, Site}
+use Rattle.std.specs.Prelude.{◌≡◌, ◌<◌, ◌+◌, ◌*◌, ◌∷◌}
+use Rattle.walks.proofs.Walking.{sym, ◌∙◌, ap, subst, ℕ, List, [], length, get_or, Operand, Val, vbool, Ura, SProp, id⊢, Memory, Routine, Env, Calls, Item, Goal, Seq, ‵, ◌⊛◌, Opds, Fun, bool, u32, yes, Is, Ises, owns_make, bool_Tells, plain, only, triple_of, Contract, Triple, Loan, shared, Site}
 use Rattle.layer.specs.contracts.Sweep as T-Sweep
 use Rattle.layer.proofs.Sweep.TheLaws as L-Sweep
 use denote.Struct.Laws as LL

@@ -1,5 +1,6 @@
 -- A sweep over the arenas, turn by turn, and what its core is handed. S is the size of a chunk. Assumes nothing.
-use Rattle.state.proofs.Prelude.{◌≡◌, refl, sym, ap, ap₂, ◌∙◌, subst, Bool, true, false, cond, true≢false, List, ℕ, suc, ◌+◌, ◌-◌, ◌*◌, ◌^◌, ◌<◌, ◌≤◌, arith, length, set, length-set, set-get_or, when, unless, by_cond, Found, At, Nothing, Arena, sweep_due, disarm, stamps_of, State, Sweep, AskPurge, Asks, Purging, Reply, Outcome, state_with, reply, after, Leaves, blank, at, is_at, purge_reply, swept_reply, visit_at, visit, sweep_from}
+use Rattle.std.specs.Prelude.{◌≡◌, ◌+◌, ◌-◌, ◌*◌, ◌^◌, ◌<◌, ◌≤◌}
+use Rattle.state.proofs.Prelude.{refl, sym, ap, ap₂, ◌∙◌, subst, Bool, true, false, cond, true≢false, List, ℕ, suc, arith, length, set, length-set, set-get_or, when, unless, by_cond, Found, At, Nothing, Arena, sweep_due, disarm, stamps_of, State, Sweep, AskPurge, Asks, Purging, Reply, Outcome, state_with, reply, after, Leaves, blank, at, is_at, purge_reply, swept_reply, visit_at, visit, sweep_from}
 use Rattle.layer.proofs.Tools.{by-set, at_same}
 use Rattle.layer.proofs.Kept.{disarm-range}
 use Rattle.state.specs.Ready.{Standing}

@@ -1,5 +1,6 @@
 -- A sweep at one arena, case by case. Assumes nothing.
-use Rattle.state.proofs.Prelude.{◌≡◌, refl, sym, ap, ◌∙◌, subst, Bool, true, false, true≢false, List, ℕ, ◌+◌, ◌-◌, ◌*◌, ◌^◌, ◌<◌, ◌≤◌, arith, set, set-get_or, when, unless, by_cond, Found, At, Nothing, First, first_says, Arena, with_deadline, sweep_due, disarm, borrow_chunk, stamps_of, next_deadline, Sweep, blank, at, is_at, purge_reply}
+use Rattle.std.specs.Prelude.{◌≡◌, ◌+◌, ◌-◌, ◌*◌, ◌^◌, ◌<◌, ◌≤◌}
+use Rattle.state.proofs.Prelude.{refl, sym, ap, ◌∙◌, subst, Bool, true, false, true≢false, List, ℕ, arith, set, set-get_or, when, unless, by_cond, Found, At, Nothing, First, first_says, Arena, with_deadline, sweep_due, disarm, borrow_chunk, stamps_of, next_deadline, Sweep, blank, at, is_at, purge_reply}
 use native.Mathlib.Nat.{mul-le-mul_right}
 use Rattle.arena.specs.Sweeping.{to_ask, next_asked}
 use Rattle.arena.proofs.purge.MapLaws.{next-disarmed, rearm-disarmed}

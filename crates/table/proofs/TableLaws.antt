@@ -1,5 +1,6 @@
 -- The searches over the table and row 1, by what their loops know. S is the size of a chunk. Assumes nothing.
-use Rattle.state.proofs.Prelude.{◌≡◌, refl, sym, ap, ap₂, subst, ◌∙◌, Bool, true, false, not, ◌&&◌, ◌||◌, List, ℕ, ◌+◌, ◌*◌, ◌<◌, ◌≤◌, arith, ltb-true, ltb-false, leb-true, eqb-true, eqb, leb, ltb, length, bit_at, Found, At, Nothing, all, all-free-of, least-none, and_both, page_size_sound, Arena, bytes_of, end_of, is_inside, clear_past_all, sound_arena, range-facts, State, Question, at, is_at, meets, overlaps, find_arena, asked_id, sound_question, sound_lent, grows, growing}
+use Rattle.std.specs.Prelude.{◌≡◌, ◌&&◌, ◌||◌, ◌+◌, ◌*◌, ◌<◌, ◌≤◌}
+use Rattle.state.proofs.Prelude.{refl, sym, ap, ap₂, subst, ◌∙◌, Bool, true, false, not, List, ℕ, arith, ltb-true, ltb-false, leb-true, eqb-true, eqb, leb, ltb, length, bit_at, Found, At, Nothing, all, all-free-of, least-none, and_both, page_size_sound, Arena, bytes_of, end_of, is_inside, clear_past_all, sound_arena, range-facts, State, Question, at, is_at, meets, overlaps, find_arena, asked_id, sound_question, sound_lent, grows, growing}
 use Rattle.arena.specs.Soundness.{sound_range}
 use Rattle.arena.proofs.SoundLaws.{full-clear, sound-range}
 use Rattle.layer.specs.Table.{apart, sound_table}

@@ -1,5 +1,6 @@
 -- A loop that looks at place after place: what it knows before each turn, and what that says once it ends. Assumes nothing.
-use Rattle.state.proofs.Prelude.{◌≡◌, sym, subst, ◌∙◌, Bool, true, false, true≢false, ⊎_elim, ℕ, ◌+◌, ◌<◌, ◌≤◌, arith, not-suc-le-zero, At, Nothing, all, least, least-none, all-free-of, free_all, never}
+use Rattle.std.specs.Prelude.{◌≡◌, ◌+◌, ◌<◌, ◌≤◌}
+use Rattle.state.proofs.Prelude.{sym, subst, ◌∙◌, Bool, true, false, true≢false, ⊎_elim, ℕ, arith, not-suc-le-zero, At, Nothing, all, least, least-none, all-free-of, free_all, never}
 use Rattle.bitmap.proofs.words.RowLaws.{lt-or-le}
 use Rattle.bitmap.proofs.runs.LowestLaws.{least_at}
 

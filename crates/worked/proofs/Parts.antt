@@ -3,7 +3,8 @@
 --     lends_part, shares-part      the array's entry becomes that, and the walk's first entry gains `lent R (local_loan ν γ b n) (take n l)`, or `shared`, at a lifetime ν that the step makes
 --     part-back, shared_back       the other way, for a `&mut` at whatever list of that length: the array's entry is room
 -- A position p here is that of the entry among those AFTER the first, as in Arrays.antt. Assumes `Logic`.
-use Rattle.state.proofs.Prelude.{◌≡◌, refl, sym, subst, ℕ, zero, suc, ◌+◌, List, [], ◌∷◌, length}
+use Rattle.std.specs.Prelude.{◌≡◌, ◌+◌, ◌∷◌}
+use Rattle.state.proofs.Prelude.{refl, sym, subst, ℕ, zero, suc, List, [], length}
 use mathlib.Core.List.{◌++◌}
 use lib.ListN.{take, drop, take-append-drop}
 use seplogic.Ra.Ura.{Ura}

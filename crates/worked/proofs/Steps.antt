@@ -1,6 +1,7 @@
 -- The functions that the cases on the table call, each in one step of a walk (`walks`' Calls.antt). The walks say nothing of what is answered, so of a callee's contract they take only that it may be called.
 -- Assumes `Logic`, the callee's theorem, and that the table of calls is monotone under a frame.
-use Rattle.state.proofs.Prelude.{refl, sym, ap, subst, ℕ, ◌<◌, ◌^◌, List, [], ◌∷◌, Arena}
+use Rattle.std.specs.Prelude.{◌<◌, ◌^◌, ◌∷◌}
+use Rattle.state.proofs.Prelude.{refl, sym, ap, subst, ℕ, List, [], Arena}
 use seplogic.Ra.Ura.{Ura}
 use mir.Syntax.{Opd as Operand, w32}
 use mir.Val.{Val, vint}

@@ -1,6 +1,7 @@
 -- Functions of `worked_parts` that a walk calls, each in one step: join-and-look-step, state-after-step, arena-at-step, list-and-look-as-mmssm, place-of-step, release-and-sweep-step. Written by tools/walks.
 -- Assumes `Logic`, the callee's theorem, and that the table of calls is monotone under a frame.
-use Rattle.walks.proofs.Walking.{◌≡◌, refl, sym, ◌∙◌, ap, subst, Bool, ℕ, ◌<◌, ◌^◌, List, [], ◌∷◌, length, get_or, w32, w64, Operand, Val, vint, vbool, Fits, to_z, Ura, SProp, id⊢, Memory, Routine, Env, Calls, Item, Goal, Seq, ‵, ◌⊛◌, Opds, Fun, bool, u32, u64, usize, i32, yes, Is, Ises, owns_make, uint_Makes, bool_Makes, plain, sint_Makes, only, triple_of, Contract, Triple, Loan, lent, shared, slice_of, signed, Site, plain-call, shr-call, mut2-call}
+use Rattle.std.specs.Prelude.{◌≡◌, ◌<◌, ◌^◌, ◌∷◌}
+use Rattle.walks.proofs.Walking.{refl, sym, ◌∙◌, ap, subst, Bool, ℕ, List, [], length, get_or, w32, w64, Operand, Val, vint, vbool, Fits, to_z, Ura, SProp, id⊢, Memory, Routine, Env, Calls, Item, Goal, Seq, ‵, ◌⊛◌, Opds, Fun, bool, u32, u64, usize, i32, yes, Is, Ises, owns_make, uint_Makes, bool_Makes, plain, sint_Makes, only, triple_of, Contract, Triple, Loan, lent, shared, slice_of, signed, Site, plain-call, shr-call, mut2-call}
 use Rattle.worked_parts.specs.contracts.joins.Side as T-Side
 use Rattle.worked_parts.proofs.joins.Side.TheLaws as L-Side
 use denote.Struct.Laws as LL

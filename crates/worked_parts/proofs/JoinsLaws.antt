@@ -1,5 +1,6 @@
 -- Blocks adopted one by one, and what is seen of two tables joined. Assumes nothing.
-use Rattle.state.proofs.Prelude.{◌≡◌, refl, ap, ap₂, ◌∙◌, false, List, ℕ, suc, ◌+◌, ◌<◌, ◌≤◌, arith, Arena, State, Settings, World, world_of}
+use Rattle.std.specs.Prelude.{◌≡◌, ◌+◌, ◌<◌, ◌≤◌}
+use Rattle.state.proofs.Prelude.{refl, ap, ap₂, ◌∙◌, false, List, ℕ, suc, arith, Arena, State, Settings, World, world_of}
 use lib.IntN.{ℤ}
 use Rattle.layer.specs.declared.Reply.{Reply}
 use Rattle.layer.specs.declared.JoinReply.{JoinReply}

@@ -1,5 +1,6 @@
 -- What is seen of a list released after a block is adopted. Assumes nothing.
-use Rattle.state.proofs.Prelude.{◌≡◌, ap, ap₂, ◌∙◌, List, ℕ, get_or, Arena, Settings, World, world_of}
+use Rattle.std.specs.Prelude.{◌≡◌}
+use Rattle.state.proofs.Prelude.{ap, ap₂, ◌∙◌, List, ℕ, get_or, Arena, Settings, World, world_of}
 use Rattle.layer.specs.declared.Reply.{Reply}
 use Rattle.layer.specs.World.{reply_in, Leaves}
 use Rattle.layer.specs.Table.{at}

@@ -1,5 +1,6 @@
 -- What is seen of a chunk released and of the sweep after it. Assumes nothing.
-use Rattle.state.proofs.Prelude.{◌≡◌, ap, ap₂, ◌∙◌, Bool, true, List, ℕ, get_or, Arena, Settings, World, world_of}
+use Rattle.std.specs.Prelude.{◌≡◌}
+use Rattle.state.proofs.Prelude.{ap, ap₂, ◌∙◌, Bool, true, List, ℕ, get_or, Arena, Settings, World, world_of}
 use Rattle.layer.specs.declared.Reply.{Reply}
 use Rattle.layer.specs.declared.Kind.TheVariants.{ForPurge}
 use Rattle.layer.specs.World.{Outcome, reply_in, Leaves}

@@ -1,5 +1,6 @@
 -- A case counted, by whether the two answers are the same. Assumes nothing.
-use Rattle.walks.proofs.Prelude.{◌≡◌, sym, ap, ap₂, Bool, true, false, true≢false, ℕ}
+use Rattle.std.specs.Prelude.{◌≡◌}
+use Rattle.walks.proofs.Prelude.{sym, ap, ap₂, Bool, true, false, true≢false, ℕ}
 use Rattle.worked_parts.specs.declared.tally.Tally.{Tally}
 use Rattle.worked_parts.specs.Tally.{one_more, counted}
 

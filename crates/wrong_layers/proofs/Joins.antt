@@ -1,6 +1,7 @@
 -- Wrong joins that demand 3 rules out, each on a short history. Most on the switch-over of document_cases: program 7 holds chunk 0 of its arena, the tables are joined, and its next claim, at the new
 -- id, is told what the share book does not say. Assumes nothing.
-use Rattle.layer.proofs.Prelude.{◌≡◌, refl, sym, ap, ◌∙◌, Bool, true, false, true≢false, List, [], ◌∷◌, ℕ, ◌+◌, arith, lit<, pos, negsuc, replicate, World, blank, state_with, world_of, outcome, step, manage, claim, act, JoinOutcome, join_outcome, joined_world, join, lowest, claims, Say, refused, granted, released, say_all, Marked, MarkedJoin, of_first, of_second, begin, next, joining, is_sound, both_sound, is_broken, is_broken_join, said, start, Place, entries, hears, OpensAt, book_of, sound, Demand3, NoRun, Range, enter, in_range, bit, bit_at, within, as_number, pack, write_run, all, least, lowest_run, or_one, now_ms, delay_ms, never_purges, keeps, armed, is_due, arena_allowed, page_size_sound, new_arena, reserved_arena, managed_arena, adopted_arena, grown_arena, find_run, run_committed, run_fresh, take_run, give_back_run, commit_run, dirty_run, finish_grant, tell_run, pend_run, release_run, stamp_run, sweep_due, disarm, young, to_ask, next_asked, borrow_chunk, unpend_chunk, return_chunk, rearm, bytes_of, end_of, is_inside, sound_range, clear_past, clear_past_all, sound_arena, empty, meets, overlaps, bad_range, find_arena, apart, sound_question, sound_table, sound_lent, chunks_for, too_large, bytes_asked, ask_memory, reserve_reply, bad_count, no_whole_chunk, grows, reserve_of, manage_of, adopt_of, eligible, serves, asks_commit, grant_arena, grant_reply, miss_reply, search_of, claim_of, release_of, purge_reply, swept_reply, visit, sweep_from, is_for, answer_of, rules, overwritten, tables_overlap, join_on, join_rules}
+use Rattle.std.specs.Prelude.{◌≡◌, ◌∷◌, ◌+◌}
+use Rattle.layer.proofs.Prelude.{refl, sym, ap, ◌∙◌, Bool, true, false, true≢false, List, [], ℕ, arith, lit<, pos, negsuc, replicate, World, blank, state_with, world_of, outcome, step, manage, claim, act, JoinOutcome, join_outcome, joined_world, join, lowest, claims, Say, refused, granted, released, say_all, Marked, MarkedJoin, of_first, of_second, begin, next, joining, is_sound, both_sound, is_broken, is_broken_join, said, start, Place, entries, hears, OpensAt, book_of, sound, Demand3, NoRun, Range, enter, in_range, bit, bit_at, within, as_number, pack, write_run, all, least, lowest_run, or_one, now_ms, delay_ms, never_purges, keeps, armed, is_due, arena_allowed, page_size_sound, new_arena, reserved_arena, managed_arena, adopted_arena, grown_arena, find_run, run_committed, run_fresh, take_run, give_back_run, commit_run, dirty_run, finish_grant, tell_run, pend_run, release_run, stamp_run, sweep_due, disarm, young, to_ask, next_asked, borrow_chunk, unpend_chunk, return_chunk, rearm, bytes_of, end_of, is_inside, sound_range, clear_past, clear_past_all, sound_arena, empty, meets, overlaps, bad_range, find_arena, apart, sound_question, sound_table, sound_lent, chunks_for, too_large, bytes_asked, ask_memory, reserve_reply, bad_count, no_whole_chunk, grows, reserve_of, manage_of, adopt_of, eligible, serves, asks_commit, grant_arena, grant_reply, miss_reply, search_of, claim_of, release_of, purge_reply, swept_reply, visit, sweep_from, is_for, answer_of, rules, overwritten, tables_overlap, join_on, join_rules}
 use Rattle.refusals.specs.declared.Refusal.TheVariants.{TablesOverlap, TooManyArenas}
 use Rattle.layer.specs.declared.Question.TheVariants.{Idle}
 use Rattle.layer.specs.declared.Answer.{Answer}

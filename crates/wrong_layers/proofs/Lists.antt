@@ -1,5 +1,6 @@
 -- Wrong lists of releases, each on a list that it does not answer, or whose items it does not release, as the rules do. Assumes nothing.
-use Rattle.layer.proofs.Prelude.{◌≡◌, refl, Bool, true, false, List, [], ◌∷◌, ℕ, arith, negsuc, replicate, bit, bit_at, within, as_number, pack, write_run, all, least, lowest_run, or_one, now_ms, delay_ms, never_purges, keeps, armed, is_due, arena_allowed, page_size_sound, new_arena, reserved_arena, managed_arena, adopted_arena, grown_arena, find_run, run_committed, run_fresh, take_run, give_back_run, commit_run, dirty_run, finish_grant, tell_run, pend_run, release_run, stamp_run, sweep_due, disarm, young, to_ask, next_asked, borrow_chunk, unpend_chunk, return_chunk, rearm, bytes_of, end_of, is_inside, sound_range, clear_past, clear_past_all, sound_arena, World, blank, state_with, world_of, outcome, empty, meets, overlaps, bad_range, find_arena, apart, sound_question, sound_table, sound_lent, chunks_for, too_large, bytes_asked, ask_memory, reserve_reply, bad_count, no_whole_chunk, grows, reserve_of, manage_of, adopt_of, eligible, serves, asks_commit, grant_arena, grant_reply, miss_reply, search_of, claim_of, release_of, purge_reply, swept_reply, visit, sweep_from, is_for, answer_of, rules, step, lowest, claims, Say, refused, granted, enter, say_all, begin, next, is_sound, Trail, in_range, book_of, sym, ap, ◌∙◌, not, true≢false, length, get_or, length-replicate, unless, at, sound, by_rules, Items, ListOutcome, list_outcome, item_number, list_fits, release_list, MarkedList, is_sound_list, Demand3, releases as frees, released, ◌≤◌, ltb, eqb, ◌&&◌, eq-eqb, ap₂, listing, is_broken, hears, entries_of_list, said_of_list, cond, first_of}
+use Rattle.std.specs.Prelude.{◌≡◌, ◌∷◌, ◌≤◌, ◌&&◌}
+use Rattle.layer.proofs.Prelude.{refl, Bool, true, false, List, [], ℕ, arith, negsuc, replicate, bit, bit_at, within, as_number, pack, write_run, all, least, lowest_run, or_one, now_ms, delay_ms, never_purges, keeps, armed, is_due, arena_allowed, page_size_sound, new_arena, reserved_arena, managed_arena, adopted_arena, grown_arena, find_run, run_committed, run_fresh, take_run, give_back_run, commit_run, dirty_run, finish_grant, tell_run, pend_run, release_run, stamp_run, sweep_due, disarm, young, to_ask, next_asked, borrow_chunk, unpend_chunk, return_chunk, rearm, bytes_of, end_of, is_inside, sound_range, clear_past, clear_past_all, sound_arena, World, blank, state_with, world_of, outcome, empty, meets, overlaps, bad_range, find_arena, apart, sound_question, sound_table, sound_lent, chunks_for, too_large, bytes_asked, ask_memory, reserve_reply, bad_count, no_whole_chunk, grows, reserve_of, manage_of, adopt_of, eligible, serves, asks_commit, grant_arena, grant_reply, miss_reply, search_of, claim_of, release_of, purge_reply, swept_reply, visit, sweep_from, is_for, answer_of, rules, step, lowest, claims, Say, refused, granted, enter, say_all, begin, next, is_sound, Trail, in_range, book_of, sym, ap, ◌∙◌, not, true≢false, length, get_or, length-replicate, unless, at, sound, by_rules, Items, ListOutcome, list_outcome, item_number, list_fits, release_list, MarkedList, is_sound_list, Demand3, releases as frees, released, ltb, eqb, eq-eqb, ap₂, listing, is_broken, hears, entries_of_list, said_of_list, cond, first_of}
 use Rattle.refusals.specs.declared.Refusal.TheVariants.{Broken, ListLength, NoRun}
 use Rattle.layer.specs.declared.Question.TheVariants.{Idle, Committing}
 use Rattle.layer.specs.declared.Answer.TheVariants.{Refused, Released, Claimed}

@@ -1,5 +1,6 @@
 -- Wrong readings of wish 2, each on a table on which it does not do what the wish says. Assumes nothing.
-use Rattle.layer.proofs.Prelude.{◌≡◌, refl, sym, ap, ◌∙◌, true, false, List, [], ◌∷◌, ℕ, arith, negsuc, replicate, Arena, World, Outcome, blank, state_with, world_of, outcome, at, first_of, release, manage, sweep, Call, act, answer, step, Marked, History, begin, next, ◌+◌, ◌*◌, cond, bit, bit_at, within, as_number, pack, write_run, all, least, or_one, now_ms, delay_ms, never_purges, keeps, armed, is_due, page_size_sound, new_arena, managed_arena, take_run, give_back_run, commit_run, tell_run, pend_run, release_run, stamp_run, sweep_due, disarm, young, to_ask, next_asked, borrow_chunk, unpend_chunk, return_chunk, rearm, bytes_of, end_of, is_inside, sound_range, clear_past, clear_past_all, sound_arena, empty, meets, overlaps, bad_range, find_arena, apart, sound_question, sound_table, sound_lent, chunks_for, bad_count, no_whole_chunk, manage_of, release_of, purge_reply, swept_reply, visit, sweep_from, is_for, answer_of, rules, stamps_of}
+use Rattle.std.specs.Prelude.{◌≡◌, ◌∷◌, ◌+◌, ◌*◌}
+use Rattle.layer.proofs.Prelude.{refl, sym, ap, ◌∙◌, true, false, List, [], ℕ, arith, negsuc, replicate, Arena, World, Outcome, blank, state_with, world_of, outcome, at, first_of, release, manage, sweep, Call, act, answer, step, Marked, History, begin, next, cond, bit, bit_at, within, as_number, pack, write_run, all, least, or_one, now_ms, delay_ms, never_purges, keeps, armed, is_due, page_size_sound, new_arena, managed_arena, take_run, give_back_run, commit_run, tell_run, pend_run, release_run, stamp_run, sweep_due, disarm, young, to_ask, next_asked, borrow_chunk, unpend_chunk, return_chunk, rearm, bytes_of, end_of, is_inside, sound_range, clear_past, clear_past_all, sound_arena, empty, meets, overlaps, bad_range, find_arena, apart, sound_question, sound_table, sound_lent, chunks_for, bad_count, no_whole_chunk, manage_of, release_of, purge_reply, swept_reply, visit, sweep_from, is_for, answer_of, rules, stamps_of}
 use Rattle.arena.specs.declared.Commitment.TheVariants.{Untold, Committed}
 use Rattle.arena.specs.Record.{with_pending, with_deadline}
 use Rattle.layer.specs.declared.Question.TheVariants.{Idle}

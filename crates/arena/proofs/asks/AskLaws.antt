@@ -1,5 +1,6 @@
 -- A bit of a row by a mask; a search from one place at which a test holds to the next, for one at which a second test holds too. Assumes nothing.
-use Rattle.arena.proofs.Prelude.{◌≡◌, sym, ap, ap₂, ◌∙◌, subst, Bool, true, false, not, ◌&&◌, List, ⊎_elim, ℕ, ◌+◌, ◌-◌, ◌/◌, ◌%◌, ◌^◌, ◌≤◌, ◌<◌, arith, bit_and, eqb, get_or, bit, bit_at, lt-or-le, Found, At, Nothing, least, First, young, next_in}
+use Rattle.std.specs.Prelude.{◌≡◌, ◌&&◌, ◌+◌, ◌-◌, ◌/◌, ◌%◌, ◌^◌, ◌≤◌, ◌<◌}
+use Rattle.arena.proofs.Prelude.{sym, ap, ap₂, ◌∙◌, subst, Bool, true, false, not, List, ⊎_elim, ℕ, arith, bit_and, eqb, get_or, bit, bit_at, lt-or-le, Found, At, Nothing, least, First, young, next_in}
 use lib.Bits.{and_mask}
 use Rattle.bitmap.proofs.runs.LowestLaws.{least-none, least_at, first_says}
 

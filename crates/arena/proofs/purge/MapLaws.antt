@@ -1,5 +1,6 @@
 -- What a sweep looks for in a record is what it looks for in its maps; and of a record whose chunk j came back. Assumes nothing.
-use Rattle.arena.proofs.Prelude.{◌≡◌, refl, sym, ap, ap₂, ◌∙◌, subst, Bool, true, false, cond, not, ◌&&◌, List, ⊎_elim, ℕ, zero, suc, ◌+◌, ◌-◌, ◌*◌, ◌<◌, ◌≤◌, arith, length, bit_at, write_run, clear_run, lt-or-le, within-after, write_run-length, Found, At, Nothing, least, Arena, with_deadline, give_back_run, tell_run, young, next_wait, rearm_at, rearm, disarm, unpend_chunk, return_chunk, next_in, wait_in, armed_for, next_deadline}
+use Rattle.std.specs.Prelude.{◌≡◌, ◌&&◌, ◌+◌, ◌-◌, ◌*◌, ◌<◌, ◌≤◌}
+use Rattle.arena.proofs.Prelude.{refl, sym, ap, ap₂, ◌∙◌, subst, Bool, true, false, cond, not, List, ⊎_elim, ℕ, zero, suc, arith, length, bit_at, write_run, clear_run, lt-or-le, within-after, write_run-length, Found, At, Nothing, least, Arena, with_deadline, give_back_run, tell_run, young, next_wait, rearm_at, rearm, disarm, unpend_chunk, return_chunk, next_in, wait_in, armed_for, next_deadline}
 use Rattle.bitmap.proofs.words.RowLaws.{pack-bit, past_the_end}
 use Rattle.arena.specs.Sweeping.{to_ask, next_asked}
 

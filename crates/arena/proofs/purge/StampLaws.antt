@@ -1,5 +1,6 @@
 -- The laws of a run of stamps: none, one more, its length, all of them, and a run in a part of a list as a run in the whole. Assumes nothing.
-use Rattle.arena.proofs.Prelude.{◌≡◌, sym, ap, ap₂, ◌∙◌, List, [], ◌++◌, ℕ, suc, ◌+◌, ◌-◌, ◌*◌, ◌≤◌, ◌<◌, arith, length, get_or, set, take, drop, replicate, length-replicate, stamp_run}
+use Rattle.std.specs.Prelude.{◌≡◌, ◌++◌, ◌+◌, ◌-◌, ◌*◌, ◌≤◌, ◌<◌}
+use Rattle.arena.proofs.Prelude.{sym, ap, ap₂, ◌∙◌, List, [], ℕ, suc, arith, length, get_or, set, take, drop, replicate, length-replicate, stamp_run}
 use mathlib.Core.List.{◌∷◌, append_assoc, append-nil}
 use native.Mathlib.Nat.{add-zero}
 use lib.ListN.{drop_of_length-le, length-append, length-take, length-drop, take-append-drop, replicate-append-replicate}

@@ -1,5 +1,6 @@
 -- How the words of one map say that no bit is set past the last chunk. Assumes nothing.
-use Rattle.arena.proofs.Prelude.{◌≡◌, sym, ap, ap₂, subst, ◌∙◌, true, false, List, ⊎_elim, ℕ, ◌+◌, ◌-◌, ◌*◌, ◌/◌, ◌%◌, ◌^◌, ◌≤◌, ◌<◌, arith, eqb-true, eq-eqb, bit_and, eqb, get_or, bit, bit_at, bit_high, lt-or-le, same, clear_past}
+use Rattle.std.specs.Prelude.{◌≡◌, ◌+◌, ◌-◌, ◌*◌, ◌/◌, ◌%◌, ◌^◌, ◌≤◌, ◌<◌}
+use Rattle.arena.proofs.Prelude.{sym, ap, ap₂, subst, ◌∙◌, true, false, List, ⊎_elim, ℕ, arith, eqb-true, eq-eqb, bit_and, eqb, get_or, bit, bit_at, bit_high, lt-or-le, same, clear_past}
 use native.Mathlib.Nat.{zero-lt-suc, le_refl, div-le_self, lt_of_le_of_lt}
 use lib.Bits.{bit_or, or_add_and, and_le_l, and_le_r}
 use Rattle.bitmap.proofs.words.BitLaws.{bit-ext, shr-bit}

@@ -1,5 +1,6 @@
 -- The least of the numbers at the places where two tests hold, and the shortest wait so far, turn by turn. Assumes nothing.
-use Rattle.arena.proofs.Prelude.{◌≡◌, refl, sym, ap, ap₂, ◌∙◌, Bool, true, false, cond, ◌&&◌, List, ⊎_elim, ℕ, zero, suc, ◌+◌, ◌-◌, ◌≤◌, ◌<◌, arith, bit_at, Found, At, Nothing, First, young, nearer, wait_in}
+use Rattle.std.specs.Prelude.{◌≡◌, ◌&&◌, ◌+◌, ◌-◌, ◌≤◌, ◌<◌}
+use Rattle.arena.proofs.Prelude.{refl, sym, ap, ap₂, ◌∙◌, Bool, true, false, cond, List, ⊎_elim, ℕ, zero, suc, arith, bit_at, Found, At, Nothing, First, young, nearer, wait_in}
 use Prim.Native.Nat.{min}
 use native.Mathlib.Nat.{eq-or-lt_of_le}
 use Rattle.arena.specs.Sweeping.{nearest, wait}

@@ -1,6 +1,7 @@
 -- The law of the lowest run: an answer that is right is the one that `lowest_run` computes, and the other way round. And the law of a scan: what is known
 -- of the places passed, and how a stretch of free or of taken places moves it. Over any test of a place. Assumes nothing.
-use Rattle.walks.proofs.Prelude.{◌≡◌, refl, sym, ap, ap₂, ◌∙◌, subst, Bool, true, false, cond, ◌&&◌, true≢false, ⊎_elim, ℕ, zero, suc, ◌+◌, ◌≤◌, ◌<◌, max, eq-or-lt_of_le, arith, le-leb, leb-true, leb}
+use Rattle.std.specs.Prelude.{◌≡◌, ◌&&◌, ◌+◌, ◌≤◌, ◌<◌}
+use Rattle.walks.proofs.Prelude.{refl, sym, ap, ap₂, ◌∙◌, subst, Bool, true, false, cond, true≢false, ⊎_elim, ℕ, zero, suc, max, eq-or-lt_of_le, arith, le-leb, leb-true, leb}
 use mathlib.Core.Logic.{◌↔◌}
 use native.Mathlib.Nat.{le_refl}
 use Rattle.bitmap.specs.declared.runs.Found.{Found}

@@ -1,6 +1,7 @@
 -- The laws of a search by words: the places from which n bits on are set, by shifts; the top of a word; and what a step says of the row.
 -- Assumes nothing.
-use Rattle.walks.proofs.Prelude.{◌≡◌, refl, sym, ap, ap₂, ◌∙◌, subst, Bool, true, false, cond, ◌&&◌, true≢false, ⊎_elim, List, ℕ, zero, suc, ◌+◌, ◌-◌, ◌*◌, ◌/◌, ◌%◌, ◌^◌, ◌≤◌, ◌<◌, pow-suc, arith, lt-ltb, le-ltb, ltb-true, ltb-false, ltb, eqb, get_or, bit_and, pow_pos, count_leading_zeros}
+use Rattle.std.specs.Prelude.{◌≡◌, ◌&&◌, ◌+◌, ◌-◌, ◌*◌, ◌/◌, ◌%◌, ◌^◌, ◌≤◌, ◌<◌}
+use Rattle.walks.proofs.Prelude.{refl, sym, ap, ap₂, ◌∙◌, subst, Bool, true, false, cond, true≢false, ⊎_elim, List, ℕ, zero, suc, pow-suc, arith, lt-ltb, le-ltb, ltb-true, ltb-false, ltb, eqb, get_or, bit_and, pow_pos, count_leading_zeros}
 use native.Mathlib.Nat.{div-lt_iff_lt-mul, eq-zero-or-pos}
 use lib.Count.{leading_top, leading_of_zero}
 use Rattle.bitmap.specs.Bits.{bit, bit_at, LowestBit}

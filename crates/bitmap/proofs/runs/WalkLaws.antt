@@ -1,5 +1,6 @@
 -- The laws of a walk over the words of a row: a stretch and its parts, a run of a word by one mask, and the next set place. Assumes nothing.
-use Rattle.walks.proofs.Prelude.{◌≡◌, refl, sym, ap, ap₂, ◌∙◌, Bool, true, false, ◌&&◌, ⊎_elim, List, ℕ, ◌+◌, ◌-◌, ◌*◌, ◌/◌, ◌%◌, ◌^◌, ◌≤◌, ◌<◌, arith, ltb-true, leb-true, eqb-true, eq-eqb, leb, ltb, eqb, get_or, bit_and, shl_exact, shl_lt, ones_lt}
+use Rattle.std.specs.Prelude.{◌≡◌, ◌&&◌, ◌+◌, ◌-◌, ◌*◌, ◌/◌, ◌%◌, ◌^◌, ◌≤◌, ◌<◌}
+use Rattle.walks.proofs.Prelude.{refl, sym, ap, ap₂, ◌∙◌, Bool, true, false, ⊎_elim, List, ℕ, arith, ltb-true, leb-true, eqb-true, eq-eqb, leb, ltb, eqb, get_or, bit_and, shl_exact, shl_lt, ones_lt}
 use native.Mathlib.Nat.{lt_of_le_of_lt}
 use lib.Bits.{and_le_r}
 use Rattle.bitmap.specs.Bits.{bit, bit_at, within, LowestBit}

@@ -1,5 +1,6 @@
 -- The laws of `bit`: how the machine's operations on words move each bit. Assumes nothing.
-use Rattle.walks.proofs.Prelude.{◌≡◌, refl, sym, ap, ap₂, ◌∙◌, Bool, true, false, not, ◌&&◌, ◌||◌, ◌⊎◌, inl, inr, ⊎_elim, ℕ, zero, suc, ◌+◌, ◌-◌, ◌*◌, ◌/◌, ◌%◌, ◌^◌, ◌≤◌, ◌<◌, min, max, zero-le, mul-one, mod-lt, not-suc-le-zero, zero-lt-suc, lt_of_lt_of_le, arith, lt-ltb, le-ltb, ltb-true, ltb-false, leb-true, bit_and, bit_or, and_step, pow_pos, pow_mono, leb, ltb, eqb, leb·zero, count_trailing_zeros, under}
+use Rattle.std.specs.Prelude.{◌≡◌, ◌&&◌, ◌||◌, ◌⊎◌, ◌+◌, ◌-◌, ◌*◌, ◌/◌, ◌%◌, ◌^◌, ◌≤◌, ◌<◌}
+use Rattle.walks.proofs.Prelude.{refl, sym, ap, ap₂, ◌∙◌, Bool, true, false, not, inl, inr, ⊎_elim, ℕ, zero, suc, min, max, zero-le, mul-one, mod-lt, not-suc-le-zero, zero-lt-suc, lt_of_lt_of_le, arith, lt-ltb, le-ltb, ltb-true, ltb-false, leb-true, bit_and, bit_or, and_step, pow_pos, pow_mono, leb, ltb, eqb, leb·zero, count_trailing_zeros, under}
 use Prim.Native.Nat.{suc-le-suc}
 use native.Mathlib.Nat.{sub-zero, div-one, suc-sub-suc, div-eq_of_lt, zero-div}
 use native.Mathlib.Numerals.{one-add}

@@ -1,5 +1,6 @@
 -- A test and the way that it takes. Assumes nothing.
-use Rattle.walks.proofs.Prelude.{◌≡◌, refl, ap, Bool, true, false, cond}
+use Rattle.std.specs.Prelude.{◌≡◌}
+use Rattle.walks.proofs.Prelude.{refl, ap, Bool, true, false, cond}
 
 -- a test that came out, put in its place
 pub when : {A : Type 0} (t : Bool) (x y : A) → t ≡ true → cond t x y ≡ x

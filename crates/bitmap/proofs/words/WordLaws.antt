@@ -1,5 +1,6 @@
 -- What a word is after `or` with a run of ones, and after `and` with its complement; and the lowest bit of a word by trailing zeros. Assumes nothing.
-use Rattle.walks.proofs.Prelude.{◌≡◌, refl, sym, ap, ◌∙◌, Bool, true, false, cond, not, ◌&&◌, ◌||◌, true≢false, ℕ, ◌+◌, ◌-◌, ◌*◌, ◌%◌, ◌^◌, ◌≤◌, ◌<◌, lt_of_lt_of_le, arith, ltb-false, lt-ltb, not-true, ltb, bit_and, bit_or, count_trailing_zeros, shl_exact, shl_lt, ones_lt, pow_mono}
+use Rattle.std.specs.Prelude.{◌≡◌, ◌&&◌, ◌||◌, ◌+◌, ◌-◌, ◌*◌, ◌%◌, ◌^◌, ◌≤◌, ◌<◌}
+use Rattle.walks.proofs.Prelude.{refl, sym, ap, ◌∙◌, Bool, true, false, cond, not, true≢false, ℕ, lt_of_lt_of_le, arith, ltb-false, lt-ltb, not-true, ltb, bit_and, bit_or, count_trailing_zeros, shl_exact, shl_lt, ones_lt, pow_mono}
 use lib.Count.{trailing_le}
 use Rattle.bitmap.specs.Bits.{bit, within, LowestBit}
 use Rattle.bitmap.proofs.words.BitLaws.{or-bit, and-bit, run-bit, not-bit, bit_high, trailing_below, trailing_at}

@@ -1,6 +1,7 @@
 -- Functions of `claiming` that a walk calls, each in one step: asks-commit-step, commit-question-step, grant-step. Written by tools/walks.
 -- Assumes `Logic`, the callee's theorem, and that the table of calls is monotone under a frame.
-use Rattle.walks.proofs.Walking.{◌≡◌, refl, sym, ◌∙◌, ap, subst, Bool, not, ℕ, ◌<◌, ◌+◌, ◌*◌, ◌^◌, List, [], ◌∷◌, length, set, w64, Operand, Val, vint, vbool, Ura, SProp, emp, id⊢, Memory, Routine, Env, Calls, Item, Goal, Seq, ‵, ◌⊛◌, Opds, Fun, fact_i, bool, u64, usize, yes, Is, Ises, owns_make, uint_Makes, bool_Tells, bool_Makes, plain, only, triple_of, Contract, Triple, Loan, lent, slice_of, Site, plain-call, mut_call}
+use Rattle.std.specs.Prelude.{◌≡◌, ◌<◌, ◌+◌, ◌*◌, ◌^◌, ◌∷◌}
+use Rattle.walks.proofs.Walking.{refl, sym, ◌∙◌, ap, subst, Bool, not, ℕ, List, [], length, set, w64, Operand, Val, vint, vbool, Ura, SProp, emp, id⊢, Memory, Routine, Env, Calls, Item, Goal, Seq, ‵, ◌⊛◌, Opds, Fun, fact_i, bool, u64, usize, yes, Is, Ises, owns_make, uint_Makes, bool_Tells, bool_Makes, plain, only, triple_of, Contract, Triple, Loan, lent, slice_of, Site, plain-call, mut_call}
 use Rattle.table.specs.contracts.heads.Head as T-Head
 use Rattle.table.proofs.heads.Head.TheLaws as L-Head
 use denote.Struct.Laws as LL

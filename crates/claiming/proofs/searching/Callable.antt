@@ -1,6 +1,7 @@
 -- Functions of `claiming` that a walk calls, each in one step: has-too-few-step, is-eligible-step, of-run-step, run-of-none-step, verdict-at-pass, without-run-step. Written by tools/walks.
 -- Assumes `Logic`, the callee's theorem, and that the table of calls is monotone under a frame.
-use Rattle.walks.proofs.Walking.{◌≡◌, refl, sym, ◌∙◌, ap, subst, ℕ, ◌<◌, ◌≤◌, ◌^◌, List, [], ◌∷◌, ltb, length, w32, w64, Operand, Val, vint, vbool, Fits, to_z, Ura, SProp, emp, id⊢, Memory, Routine, Env, Calls, Item, Goal, Seq, ‵, ◌⊛◌, Opds, Fun, fact_i, bool, usize, i32, yes, Is, Ises, owns_make, uint_Makes, bool_Tells, plain, sint_Makes, only, triple_of, Contract, Triple, Loan, shared, slice_of, signed, Site, plain-call, pass-call}
+use Rattle.std.specs.Prelude.{◌≡◌, ◌<◌, ◌≤◌, ◌^◌, ◌∷◌}
+use Rattle.walks.proofs.Walking.{refl, sym, ◌∙◌, ap, subst, ℕ, List, [], ltb, length, w32, w64, Operand, Val, vint, vbool, Fits, to_z, Ura, SProp, emp, id⊢, Memory, Routine, Env, Calls, Item, Goal, Seq, ‵, ◌⊛◌, Opds, Fun, fact_i, bool, usize, i32, yes, Is, Ises, owns_make, uint_Makes, bool_Tells, plain, sint_Makes, only, triple_of, Contract, Triple, Loan, shared, slice_of, signed, Site, plain-call, pass-call}
 use Rattle.table.specs.contracts.heads.Head as T-Head
 use Rattle.table.proofs.heads.Head.TheLaws as L-Head
 use denote.Struct.Laws as LL

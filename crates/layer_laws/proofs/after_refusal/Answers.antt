@@ -1,5 +1,6 @@
 -- An answer is one thing: a refusal is no grant and no question, and a commit question is no other answer. Assumes nothing.
-use Rattle.layer.proofs.Prelude.{◌≡◌, sym, Bool, ℕ, arith, Refusal}
+use Rattle.std.specs.Prelude.{◌≡◌}
+use Rattle.layer.proofs.Prelude.{sym, Bool, ℕ, arith, Refusal}
 use Rattle.layer.specs.declared.Ask.{Ask}
 use Rattle.layer.specs.declared.Ask.TheVariants.{AskCommit, AskMemory, AskGiveBack}
 use Rattle.layer.specs.declared.Answer.TheVariants.{Refused, Asks, Registered, Claimed, Released, Swept}

@@ -1,5 +1,6 @@
 -- Every outcome of a call is of one of six forms: what holds of each of them holds of the call. Assumes nothing.
-use Rattle.layer.proofs.Prelude.{◌≡◌, refl, sym, ap, ◌∙◌, subst, Bool, true, false, not, List, [], ◌∷◌, ◌⊎◌, inl, inr, ⊎_elim, ℕ, zero, suc, ◌+◌, ◌-◌, ◌*◌, ◌/◌, ◌%◌, ◌<◌, ◌≤◌, arith, eqb-false, eqb, leb, ltb, ℤ, pos, negsuc, set, set-get_or, Refusal, Broken, QuestionOpen, Range, NoRun, by_cond, Found, At, Nothing, and_both, Arena, is_on, Commitment, Untold, Committed, Uncommitted, grown_arena, take_run, give_back_run, commit_run, dirty_run, finish_grant, tell_run, pend_run, release_run, sweep_due, next_asked, disarm, borrow_chunk, unpend_chunk, return_chunk, next_wait, rearm_at, rearm, stamps_of, World, Outcome, blank, state_with, world_of, outcome, after, turn_down, calm, refuse, first_of, at, bad_range, sound, ask_memory, bad_count, with_record, with_stamps, grows, search_of, claim_of, purge_reply, swept_reply, visit_at, visit, sweep_from, is_for, counted, fail_reply, answer_commit, resume, answer_memory, answer_to, answer_of, Call, reserve, manage, adopt, claim, release, sweep, answer, owns, area, sweep_of, step_on, act, query, rules, stays_pending, sweeps_none}
+use Rattle.std.specs.Prelude.{◌≡◌, ◌∷◌, ◌⊎◌, ◌+◌, ◌-◌, ◌*◌, ◌/◌, ◌%◌, ◌<◌, ◌≤◌}
+use Rattle.layer.proofs.Prelude.{refl, sym, ap, ◌∙◌, subst, Bool, true, false, not, List, [], inl, inr, ⊎_elim, ℕ, zero, suc, arith, eqb-false, eqb, leb, ltb, ℤ, pos, negsuc, set, set-get_or, Refusal, Broken, QuestionOpen, Range, NoRun, by_cond, Found, At, Nothing, and_both, Arena, is_on, Commitment, Untold, Committed, Uncommitted, grown_arena, take_run, give_back_run, commit_run, dirty_run, finish_grant, tell_run, pend_run, release_run, sweep_due, next_asked, disarm, borrow_chunk, unpend_chunk, return_chunk, next_wait, rearm_at, rearm, stamps_of, World, Outcome, blank, state_with, world_of, outcome, after, turn_down, calm, refuse, first_of, at, bad_range, sound, ask_memory, bad_count, with_record, with_stamps, grows, search_of, claim_of, purge_reply, swept_reply, visit_at, visit, sweep_from, is_for, counted, fail_reply, answer_commit, resume, answer_memory, answer_to, answer_of, Call, reserve, manage, adopt, claim, release, sweep, answer, owns, area, sweep_of, step_on, act, query, rules, stays_pending, sweeps_none}
 use Rattle.layer.specs.declared.Settings.{Settings}
 use Rattle.layer.specs.declared.Sweep.{Sweep}
 use Rattle.layer.specs.declared.Question.{Question}

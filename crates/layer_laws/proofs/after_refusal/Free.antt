@@ -1,5 +1,6 @@
 -- The answers that document 01 leaves free, and that the layer never comes to them. Assumes nothing.
-use Rattle.layer.proofs.Prelude.{◌≡◌, refl, sym, ap, ap₂, ◌∙◌, subst, Bool, true, false, cond, not, ◌&&◌, List, [], ◌∷◌, ⊎_elim, ℕ, zero, suc, ◌+◌, ◌*◌, ◌<◌, ◌≤◌, arith, leb-false, eqb-true, eqb, negsuc, length, set, set-get_or, NoRun, CommitRefused, lt-or-le, Found, At, Nothing, all, least, First, first_says, Arena, is_on, reserved_arena, free, find_run, run_committed, run_fresh, take_run, give_back_run, commit_run, dirty_run, finish_grant, Rows, never, Outcome, blank, state_with, world_of, outcome, turn_down, calm, Row, first_of, at, is_at, ask_memory, with_record, with_stamps, eligible, serves, asks_commit, grant_arena, grant_reply, grant_found, search_at, search_of, is_for, answer_commit, answer_to}
+use Rattle.std.specs.Prelude.{◌≡◌, ◌&&◌, ◌∷◌, ◌+◌, ◌*◌, ◌<◌, ◌≤◌}
+use Rattle.layer.proofs.Prelude.{refl, sym, ap, ap₂, ◌∙◌, subst, Bool, true, false, cond, not, List, [], ⊎_elim, ℕ, zero, suc, arith, leb-false, eqb-true, eqb, negsuc, length, set, set-get_or, NoRun, CommitRefused, lt-or-le, Found, At, Nothing, all, least, First, first_says, Arena, is_on, reserved_arena, free, find_run, run_committed, run_fresh, take_run, give_back_run, commit_run, dirty_run, finish_grant, Rows, never, Outcome, blank, state_with, world_of, outcome, turn_down, calm, Row, first_of, at, is_at, ask_memory, with_record, with_stamps, eligible, serves, asks_commit, grant_arena, grant_reply, grant_found, search_at, search_of, is_for, answer_commit, answer_to}
 use Rattle.bitmap.proofs.runs.LowestLaws.{at-iff}
 use Rattle.arena.specs.Record.{with_used, with_dirty, with_committed}
 use Rattle.arena.proofs.RowLaws.{write_same}

@@ -1,5 +1,6 @@
 -- What each refusal leaves: one theorem over every call, `refusal-leaves`. Assumes nothing.
-use Rattle.layer.proofs.Prelude.{◌≡◌, refl, sym, subst, Bool, true, false, not, ◌&&◌, List, ◌⊎◌, inl, inr, ℕ, zero, suc, ◌+◌, ◌-◌, ◌*◌, ◌%◌, eqb, leb, ℤ, negsuc, set, Refusal, Broken, NoSuchQuestion, Range, NotWhole, NoRun, CommitRefused, ChunkCount, TableFull, MemoryRefused, by_cond, Found, At, Nothing, least, Arena, reserved_arena, find_run, sweep_due, next_asked, disarm, return_chunk, stamps_of, World, Outcome, state_with, world_of, after, turn_down, calm, at, bad_range, sound, too_large, ask_memory, bad_count, with_record, with_stamps, serves, asks_commit, grant_arena, grant_reply, is_negative, miss_reply, grant_found, search_at, search_of, claim_of, purge_reply, swept_reply, visit_at, visit, sweep_from, cause_refusal, counted, fail_reply, answer_commit, answer_purge, resume, answer_memory, is_for, answer_to, answer_of, Act, Call, reserve, manage, adopt, claim, release, sweep, answer, owns, area, sweep_of, act, act_on, query, rules, stays_pending, sweeps_none}
+use Rattle.std.specs.Prelude.{◌≡◌, ◌&&◌, ◌⊎◌, ◌+◌, ◌-◌, ◌*◌, ◌%◌}
+use Rattle.layer.proofs.Prelude.{refl, sym, subst, Bool, true, false, not, List, inl, inr, ℕ, zero, suc, eqb, leb, ℤ, negsuc, set, Refusal, Broken, NoSuchQuestion, Range, NotWhole, NoRun, CommitRefused, ChunkCount, TableFull, MemoryRefused, by_cond, Found, At, Nothing, least, Arena, reserved_arena, find_run, sweep_due, next_asked, disarm, return_chunk, stamps_of, World, Outcome, state_with, world_of, after, turn_down, calm, at, bad_range, sound, too_large, ask_memory, bad_count, with_record, with_stamps, serves, asks_commit, grant_arena, grant_reply, is_negative, miss_reply, grant_found, search_at, search_of, claim_of, purge_reply, swept_reply, visit_at, visit, sweep_from, cause_refusal, counted, fail_reply, answer_commit, answer_purge, resume, answer_memory, is_for, answer_to, answer_of, Act, Call, reserve, manage, adopt, claim, release, sweep, answer, owns, area, sweep_of, act, act_on, query, rules, stays_pending, sweeps_none}
 use Rattle.layer.specs.declared.Settings.{Settings}
 use Rattle.layer.specs.declared.Sweep.{Sweep}
 use Rattle.layer.specs.declared.Question.{Question}

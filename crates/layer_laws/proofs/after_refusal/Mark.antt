@@ -1,5 +1,6 @@
 -- No call clears the give-up mark. Assumes nothing.
-use Rattle.layer.proofs.Prelude.{◌≡◌, true, ℕ, Outcome, ask_memory}
+use Rattle.std.specs.Prelude.{◌≡◌}
+use Rattle.layer.proofs.Prelude.{true, ℕ, Outcome, ask_memory}
 use Rattle.layer_laws.specs.after_refusal.Mark.{MarkStays}
 use Rattle.layer_laws.proofs.after_refusal.Forms.{step-forms}
 

@@ -1,6 +1,7 @@
 -- "11 restores the used bits": a grant whose commit is answered no leaves the world as it was before the grant. "11 [may leave] a new arena": the one that
 -- the grant's search was made in. Assumes nothing.
-use Rattle.layer.proofs.Prelude.{◌≡◌, refl, ap, ◌∙◌, subst, Bool, true, false, not, ◌&&◌, List, [], ◌∷◌, ⊎_elim, ℕ, zero, suc, ◌*◌, ◌%◌, ◌<◌, ◌≤◌, arith, leb-false, ltb-false, eqb, leb, ℤ, negsuc, length, set, length-set, set-get_or, Refusal, NoRun, CommitRefused, unless, by_cond, lt-or-le, Found, At, Nothing, least, First, first_says, page_size_sound, Arena, new_arena, reserved_arena, find_run, take_run, give_back_run, Rows, World, Outcome, blank, state_with, world_of, outcome, after, turn_down, calm, at, bad_range, sound, too_large, ask_memory, bad_count, with_record, with_stamps, serves, asks_commit, grant_arena, grant_reply, miss_reply, is_negative, grant_found, search_at, search_of, claim_of, is_for, resume, answer_of, claim, answer, act, rules}
+use Rattle.std.specs.Prelude.{◌≡◌, ◌&&◌, ◌∷◌, ◌*◌, ◌%◌, ◌<◌, ◌≤◌}
+use Rattle.layer.proofs.Prelude.{refl, ap, ◌∙◌, subst, Bool, true, false, not, List, [], ⊎_elim, ℕ, zero, suc, arith, leb-false, ltb-false, eqb, leb, ℤ, negsuc, length, set, length-set, set-get_or, Refusal, NoRun, CommitRefused, unless, by_cond, lt-or-le, Found, At, Nothing, least, First, first_says, page_size_sound, Arena, new_arena, reserved_arena, find_run, take_run, give_back_run, Rows, World, Outcome, blank, state_with, world_of, outcome, after, turn_down, calm, at, bad_range, sound, too_large, ask_memory, bad_count, with_record, with_stamps, serves, asks_commit, grant_arena, grant_reply, miss_reply, is_negative, grant_found, search_at, search_of, claim_of, is_for, resume, answer_of, claim, answer, act, rules}
 use Rattle.arena.proofs.Changes.{grant-give-back}
 use Rattle.layer.specs.declared.Settings.{Settings}
 use Rattle.layer.specs.declared.Question.{Question}

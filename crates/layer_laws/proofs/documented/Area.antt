@@ -1,5 +1,6 @@
 -- arena_area answers the documented area. Assumes nothing.
-use Rattle.layer.proofs.Prelude.{◌≡◌, refl, ap, ◌∙◌, Bool, true, false, ℕ, ◌*◌, arith, ltb-true, ltb-false, ltb, ℤ, pos, negsuc, when, unless, bytes_of, World, Outcome, at, sound, area, area_of, query, rules}
+use Rattle.std.specs.Prelude.{◌≡◌, ◌*◌}
+use Rattle.layer.proofs.Prelude.{refl, ap, ◌∙◌, Bool, true, false, ℕ, arith, ltb-true, ltb-false, ltb, ℤ, pos, negsuc, when, unless, bytes_of, World, Outcome, at, sound, area, area_of, query, rules}
 use Rattle.layer.specs.declared.Settings.{Settings}
 use Rattle.layer.specs.declared.Answer.{Answer}
 use Rattle.layer.specs.declared.Answer.TheVariants.{Area}

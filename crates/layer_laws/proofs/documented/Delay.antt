@@ -1,5 +1,6 @@
 -- Option 15, purge_delay: where every call carries a negative delay nothing is purged, over whole histories. No deadline is ever set, so a forced sweep asks nothing either. Assumes nothing.
-use Rattle.layer.proofs.Prelude.{◌≡◌, refl, sym, ap, ◌∙◌, subst, Bool, true, false, not, ◌&&◌, ◌||◌, true≢false, List, ⊎_elim, ℕ, zero, suc, ◌+◌, ◌-◌, ◌<◌, ◌≤◌, arith, ℕ_discrete, eq-eqb, ℤ, pos, negsuc, ltb, length, set, lt-or-le, by_cond, unless, Refusal, never_purges, is_due, Arena, Commitment, new_arena, reserved_arena, managed_arena, adopted_arena, grown_arena, take_run, dirty_run, give_back_run, commit_run, finish_grant, release_run, sweep_due, World, Outcome, world_of, state_with, after, blank, at, ask_memory, with_record, with_stamps, sweep_from, swept_reply, fail_reply, resume, answer_to, answer_of, is_for, Act, claim, reserve, manage, adopt, release, sweep, owns, area, Call, act, query, answer, sweep_of, sweeps_none, act_on, step_on, rules, by_rules, History, begin, next, joining, Lent, left, join, empty, ◌/◌, search_of, release_of, now_ms, delay_ms, sound, is_idle, JoinOutcome, is_broken, outcome_by, is_broken_join, join_by, Side, side_of, of_first, of_second, Items, release_list, listing, list_by}
+use Rattle.std.specs.Prelude.{◌≡◌, ◌&&◌, ◌||◌, ◌+◌, ◌-◌, ◌<◌, ◌≤◌, ◌/◌}
+use Rattle.layer.proofs.Prelude.{refl, sym, ap, ◌∙◌, subst, Bool, true, false, not, true≢false, List, ⊎_elim, ℕ, zero, suc, arith, ℕ_discrete, eq-eqb, ℤ, pos, negsuc, ltb, length, set, lt-or-le, by_cond, unless, Refusal, never_purges, is_due, Arena, Commitment, new_arena, reserved_arena, managed_arena, adopted_arena, grown_arena, take_run, dirty_run, give_back_run, commit_run, finish_grant, release_run, sweep_due, World, Outcome, world_of, state_with, after, blank, at, ask_memory, with_record, with_stamps, sweep_from, swept_reply, fail_reply, resume, answer_to, answer_of, is_for, Act, claim, reserve, manage, adopt, release, sweep, owns, area, Call, act, query, answer, sweep_of, sweeps_none, act_on, step_on, rules, by_rules, History, begin, next, joining, Lent, left, join, empty, search_of, release_of, now_ms, delay_ms, sound, is_idle, JoinOutcome, is_broken, outcome_by, is_broken_join, join_by, Side, side_of, of_first, of_second, Items, release_list, listing, list_by}
 use lib.ListN.{get_or-eq_default}
 use lib.Seq.{set_out}
 use Rattle.options.proofs.Differences.{never-is-negative}

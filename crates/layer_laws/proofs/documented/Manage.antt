@@ -1,5 +1,6 @@
 -- manage_os_memory: the area is aligned inward, and never given back. Assumes nothing.
-use Rattle.layer.proofs.Prelude.{◌≡◌, refl, sym, ap, ◌∙◌, subst, Bool, true, false, true≢false, not, ◌||◌, ⊎_elim, ℕ, suc, ◌+◌, ◌-◌, ◌*◌, ◌/◌, ◌^◌, ◌<◌, ◌≤◌, suc-mul, mul-mod_left, mul-le-mul_right, arith, leb-false, eqb, leb, ℤ, length, Refusal, NoWholeChunk, when, by_cond, lt-or-le, Arena, flag-read, new_arena, managed_arena, bytes_of, end_of, World, Outcome, outcome, at, meets, sound, bad_range, chunks_for, bytes_asked, ask_memory, first_whole, past_whole, no_whole_chunk, manage_of, Call, manage, answer, act, rules}
+use Rattle.std.specs.Prelude.{◌≡◌, ◌||◌, ◌+◌, ◌-◌, ◌*◌, ◌/◌, ◌^◌, ◌<◌, ◌≤◌}
+use Rattle.layer.proofs.Prelude.{refl, sym, ap, ◌∙◌, subst, Bool, true, false, true≢false, not, ⊎_elim, ℕ, suc, suc-mul, mul-mod_left, mul-le-mul_right, arith, leb-false, eqb, leb, ℤ, length, Refusal, NoWholeChunk, when, by_cond, lt-or-le, Arena, flag-read, new_arena, managed_arena, bytes_of, end_of, World, Outcome, outcome, at, meets, sound, bad_range, chunks_for, bytes_asked, ask_memory, first_whole, past_whole, no_whole_chunk, manage_of, Call, manage, answer, act, rules}
 use native.Mathlib.Nat.{div-mul-le_self}
 use Rattle.layer.specs.declared.Settings.{Settings}
 use Rattle.layer.specs.declared.Question.TheVariants.{Idle, Reserving}

@@ -1,5 +1,6 @@
 -- "exclusive arenas serve only those that name them": of a claim, and of one that waited for memory. Assumes nothing.
-use Rattle.layer.proofs.Prelude.{◌≡◌, refl, sym, ap, ap₂, ◌∙◌, subst, Bool, true, false, true≢false, List, ⊎_elim, ℕ, suc, ◌+◌, ◌*◌, ◌%◌, ◌<◌, ◌≤◌, add-mul, mul-le-mul_right, eq-or-lt_of_le, arith, ℤ, pos, negsuc, NoRun, lt-or-le, At, Nothing, Arena, is_on, reserved_arena, find_run, bytes_of, end_of, found_inside, World, Outcome, turn_down, calm, at, meets, bad_range, sound, ask_memory, with_record, with_stamps, serves, miss_reply, search_of, answer_to, Call, claim, answer, act, rules}
+use Rattle.std.specs.Prelude.{◌≡◌, ◌+◌, ◌*◌, ◌%◌, ◌<◌, ◌≤◌}
+use Rattle.layer.proofs.Prelude.{refl, sym, ap, ap₂, ◌∙◌, subst, Bool, true, false, true≢false, List, ⊎_elim, ℕ, suc, add-mul, mul-le-mul_right, eq-or-lt_of_le, arith, ℤ, pos, negsuc, NoRun, lt-or-le, At, Nothing, Arena, is_on, reserved_arena, find_run, bytes_of, end_of, found_inside, World, Outcome, turn_down, calm, at, meets, bad_range, sound, ask_memory, with_record, with_stamps, serves, miss_reply, search_of, answer_to, Call, claim, answer, act, rules}
 use Rattle.layer.specs.declared.Settings.{Settings}
 use Rattle.layer.specs.declared.Question.{Question}
 use Rattle.layer.specs.declared.Question.TheVariants.{Committing, Reserving}

@@ -1,5 +1,6 @@
 -- Options 23 and 27: the default reserve, and arenas off. Assumes nothing.
-use Rattle.layer.proofs.Prelude.{◌≡◌, refl, sym, ap, ap₂, ◌∙◌, subst, Bool, true, false, cond, not, ◌&&◌, true≢false, List, ◌↔◌, ⊎_elim, ℕ, suc, ◌+◌, ◌*◌, ◌/◌, ◌%◌, ◌^◌, ◌<◌, ◌≤◌, suc-mul, mul-mod_left, div-add-mod', mul-le-mul_right, arith, eqb-true, leb-true, le-leb, eqb, leb, ℤ, pos, negsuc, Refusal, ArenasOff, by_cond, when, unless, lt-or-le, Found, At, Nothing, Starts, and_both, arena_allowed, Arena, is_on, free, find_run, never, found_inside, World, Outcome, outcome, at, is_at, sound, chunks_for, too_large, bytes_asked, ask_memory, eligible, serves, miss_reply, search_of, claim_of, claim, act, rules}
+use Rattle.std.specs.Prelude.{◌≡◌, ◌&&◌, ◌↔◌, ◌+◌, ◌*◌, ◌/◌, ◌%◌, ◌^◌, ◌<◌, ◌≤◌}
+use Rattle.layer.proofs.Prelude.{refl, sym, ap, ap₂, ◌∙◌, subst, Bool, true, false, cond, not, true≢false, List, ⊎_elim, ℕ, suc, suc-mul, mul-mod_left, div-add-mod', mul-le-mul_right, arith, eqb-true, leb-true, le-leb, eqb, leb, ℤ, pos, negsuc, Refusal, ArenasOff, by_cond, when, unless, lt-or-le, Found, At, Nothing, Starts, and_both, arena_allowed, Arena, is_on, free, find_run, never, found_inside, World, Outcome, outcome, at, is_at, sound, chunks_for, too_large, bytes_asked, ask_memory, eligible, serves, miss_reply, search_of, claim_of, claim, act, rules}
 use Rattle.bitmap.proofs.runs.LowestLaws.{nothing-iff}
 use Rattle.arena.proofs.Changes.{found-free}
 use Rattle.layer.specs.declared.Settings.{Settings}

@@ -1,5 +1,6 @@
 -- Option 5: a sweep's questions say whether to decommit as the option said at its first call, and a yes does what is documented. Assumes nothing.
-use Rattle.layer.proofs.Prelude.{◌≡◌, refl, sym, ap, ◌∙◌, subst, Bool, true, false, true≢false, List, [], ◌∷◌, ℕ, zero, suc, ◌+◌, ◌-◌, ◌<◌, arith, ℕ_discrete, set, bit_at, within, by_cond, Stands, before, inside, stands, within-before, within-after, Found, At, Nothing, Arena, take_run, give_back_run, tell_run, sweep_due, disarm, next_asked, borrow_chunk, unpend_chunk, return_chunk, next_wait, rearm_at, rearm, stamps_of, Rows, bit_in, bit-out, World, Outcome, at, sound, ask_memory, purge_reply, swept_reply, visit_at, visit, sweep_from, is_for, counted, answer_to, Call, sweep, answer, act, rules}
+use Rattle.std.specs.Prelude.{◌≡◌, ◌∷◌, ◌+◌, ◌-◌, ◌<◌}
+use Rattle.layer.proofs.Prelude.{refl, sym, ap, ◌∙◌, subst, Bool, true, false, true≢false, List, [], ℕ, zero, suc, arith, ℕ_discrete, set, bit_at, within, by_cond, Stands, before, inside, stands, within-before, within-after, Found, At, Nothing, Arena, take_run, give_back_run, tell_run, sweep_due, disarm, next_asked, borrow_chunk, unpend_chunk, return_chunk, next_wait, rearm_at, rearm, stamps_of, Rows, bit_in, bit-out, World, Outcome, at, sound, ask_memory, purge_reply, swept_reply, visit_at, visit, sweep_from, is_for, counted, answer_to, Call, sweep, answer, act, rules}
 use Rattle.bitmap.proofs.words.RowLaws.{beyond}
 use Rattle.layer.specs.declared.Settings.{Settings}
 use Rattle.layer.specs.declared.Sweep.{Sweep}

@@ -1,5 +1,6 @@
 -- reserve_os_memory: a reserve asks for the memory, and a yes registers the area that is documented. Assumes nothing.
-use Rattle.layer.proofs.Prelude.{◌≡◌, refl, sym, ◌∙◌, Bool, true, false, cond, not, List, [], ◌∷◌, ℕ, ◌%◌, ◌<◌, ◌≤◌, arith, eqb-true, eqb, length, Refusal, Broken, QuestionOpen, ChunkCount, by_cond, Arena, flag-read, new_arena, reserved_arena, World, Outcome, outcome, world_of, turn_down, calm, Row, refuse, first_of, at, sound, chunks_for, bytes_asked, ask_memory, too_large, reserve_reply, reserve_of, reserve, answer, act, rules}
+use Rattle.std.specs.Prelude.{◌≡◌, ◌∷◌, ◌%◌, ◌<◌, ◌≤◌}
+use Rattle.layer.proofs.Prelude.{refl, sym, ◌∙◌, Bool, true, false, cond, not, List, [], ℕ, arith, eqb-true, eqb, length, Refusal, Broken, QuestionOpen, ChunkCount, by_cond, Arena, flag-read, new_arena, reserved_arena, World, Outcome, outcome, world_of, turn_down, calm, Row, refuse, first_of, at, sound, chunks_for, bytes_asked, ask_memory, too_large, reserve_reply, reserve_of, reserve, answer, act, rules}
 use Rattle.layer.specs.declared.Settings.{Settings}
 use Rattle.layer.specs.declared.Question.TheVariants.{Reserving}
 use Rattle.layer.specs.declared.Waiting.TheVariants.{Reserve}

@@ -1,5 +1,6 @@
 -- What several theorems here use: a table that row 1 lets pass, a new arena's bits. Assumes nothing.
-use Rattle.layer.proofs.Prelude.{◌≡◌, refl, sym, subst, Bool, true, false, not, true≢false, List, ℕ, ◌<◌, ◌≤◌, arith, eqb-true, eqb, length, bit_at, and_both, Arena, no_bits, each_bit, bit_in, no-bits-row, bit_at-no_bits, World, at, sound_lent, sound, with_record}
+use Rattle.std.specs.Prelude.{◌≡◌, ◌<◌, ◌≤◌}
+use Rattle.layer.proofs.Prelude.{refl, sym, subst, Bool, true, false, not, true≢false, List, ℕ, arith, eqb-true, eqb, length, bit_at, and_both, Arena, no_bits, each_bit, bit_in, no-bits-row, bit_at-no_bits, World, at, sound_lent, sound, with_record}
 use Rattle.layer.specs.declared.Ask.{Ask}
 use Rattle.layer.specs.declared.Answer.TheVariants.{Asks, Registered}
 use Rattle.layer.proofs.Tools.{at_same}

@@ -1,5 +1,6 @@
 -- Wish 1 of the rules' join: the order of its refusals, by addresses, and what it leaves. Assumes nothing.
-use Rattle.layer.proofs.Prelude.{◌≡◌, refl, sym, ap, ap₂, ◌∙◌, subst, Bool, true, false, cond, not, ◌&&◌, true≢false, List, ⊎_elim, ◌↔◌, ℕ, ◌+◌, ◌-◌, ◌*◌, ◌<◌, ◌≤◌, arith, ltb-true, lt-ltb, leb-true, eqb-true, leb, ltb, eqb, length, get_or, take, drop, lt-or-le, when, unless, and_both, never, Refusal, Broken, QuestionOpen, page_size_sound, bytes_of, end_of, stamps_of, overwritten, World, empty, blank, at, sound, sound_lent, sound_table, meets, is_idle, begin, JoinOutcome, join, join_outcome, joined_world, join_on, join_rules, tables_overlap, is_broken_join, is_joined}
+use Rattle.std.specs.Prelude.{◌≡◌, ◌&&◌, ◌↔◌, ◌+◌, ◌-◌, ◌*◌, ◌<◌, ◌≤◌}
+use Rattle.layer.proofs.Prelude.{refl, sym, ap, ap₂, ◌∙◌, subst, Bool, true, false, cond, not, true≢false, List, ⊎_elim, ℕ, arith, ltb-true, lt-ltb, leb-true, eqb-true, leb, ltb, eqb, length, get_or, take, drop, lt-or-le, when, unless, and_both, never, Refusal, Broken, QuestionOpen, page_size_sound, bytes_of, end_of, stamps_of, overwritten, World, empty, blank, at, sound, sound_lent, sound_table, meets, is_idle, begin, JoinOutcome, join, join_outcome, joined_world, join_on, join_rules, tables_overlap, is_broken_join, is_joined}
 use lib.Seq.{length-take-le, ext_get_or, get_or-take, get_or-drop, drop-drop, drop-paste}
 use lib.ListN.{length-drop}
 use Rattle.refusals.specs.declared.Refusal.TheVariants.{TablesOverlap, TooManyArenas}

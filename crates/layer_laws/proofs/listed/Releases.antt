@@ -1,5 +1,6 @@
 -- Wish 3 of the rules' list: the order of its refusals, that it is single releases in list order, and what follows of these. Assumes nothing.
-use Rattle.layer.proofs.Prelude.{never, ◌≡◌, refl, sym, ap, ap₂, ◌∙◌, subst, Bool, true, false, not, ◌&&◌, true≢false, List, [], ◌∷◌, ◌⊎◌, inl, inr, ℕ, zero, suc, ◌<◌, ◌≤◌, arith, ℕ_discrete, eq-eqb, eqb-true, leb-true, le-leb, eqb, length, get_or, set, when, unless, and_both, Refusal, Broken, QuestionOpen, Zero, NotWhole, PastEnd, ListLength, now_ms, delay_ms, Arena, Untold, release_run, pend_run, tell_run, give_back_run, World, Outcome, at, sound, stays_pending, by_rules, is_idle, is_broken, Items, ListOutcome, item_number, release_each, release_item, list_fits, release_list}
+use Rattle.std.specs.Prelude.{◌≡◌, ◌&&◌, ◌∷◌, ◌⊎◌, ◌<◌, ◌≤◌}
+use Rattle.layer.proofs.Prelude.{never, refl, sym, ap, ap₂, ◌∙◌, subst, Bool, true, false, not, true≢false, List, [], inl, inr, ℕ, zero, suc, arith, ℕ_discrete, eq-eqb, eqb-true, leb-true, le-leb, eqb, length, get_or, set, when, unless, and_both, Refusal, Broken, QuestionOpen, Zero, NotWhole, PastEnd, ListLength, now_ms, delay_ms, Arena, Untold, release_run, pend_run, tell_run, give_back_run, World, Outcome, at, sound, stays_pending, by_rules, is_idle, is_broken, Items, ListOutcome, item_number, release_each, release_item, list_fits, release_list}
 use Rattle.refusals.specs.declared.Refusal.TheVariants.{NotInside}
 use Rattle.refusals.specs.Number.{number}
 use Rattle.layer.specs.declared.Settings.{Settings}

@@ -1,5 +1,6 @@
 -- Wish 2 of the rules: a negative delay means never, and from 0 on document 01's rules stand. Assumes nothing.
-use Rattle.layer.proofs.Prelude.{◌≡◌, refl, sym, ap, ◌∙◌, subst, true, false, cond, not, true≢false, List, ⊎_elim, ℕ, ℕ_discrete, pos, length, set, lt-or-le, Broken, never_purges, delay_ms, Arena, Commitment, Untold, Committed, Uncommitted, give_back_run, release_run, tell_run, World, Outcome, outcome, state_with, world_of, at, sound, claim_of, miss_reply, swept_reply, claim, reserve, manage, adopt, release, sweep, act, query, answer, rules, step}
+use Rattle.std.specs.Prelude.{◌≡◌}
+use Rattle.layer.proofs.Prelude.{refl, sym, ap, ◌∙◌, subst, true, false, cond, not, true≢false, List, ⊎_elim, ℕ, ℕ_discrete, pos, length, set, lt-or-le, Broken, never_purges, delay_ms, Arena, Commitment, Untold, Committed, Uncommitted, give_back_run, release_run, tell_run, World, Outcome, outcome, state_with, world_of, at, sound, claim_of, miss_reply, swept_reply, claim, reserve, manage, adopt, release, sweep, act, query, answer, rules, step}
 use lib.Seq.{set_out}
 use Rattle.refusals.specs.declared.Refusal.TheVariants.{QuestionOpen}
 use Rattle.layer.specs.declared.Settings.{Settings}

@@ -1,5 +1,6 @@
 -- Counting places, and the pending bits of a table after a store. Assumes nothing.
-use Rattle.layer.proofs.Prelude.{◌≡◌, refl, ap, ap₂, ◌∙◌, Bool, true, false, cond, List, ℕ, zero, suc, ◌+◌, ◌<◌, ◌≤◌, arith, ℕ_discrete, length, set, Arena, at}
+use Rattle.std.specs.Prelude.{◌≡◌, ◌+◌, ◌<◌, ◌≤◌}
+use Rattle.layer.proofs.Prelude.{refl, ap, ap₂, ◌∙◌, Bool, true, false, cond, List, ℕ, zero, suc, arith, ℕ_discrete, length, set, Arena, at}
 use Rattle.layer.proofs.Tools.{at_same, at_other}
 use Rattle.layer_laws.specs.sweep_runs.Run.{count, pending_in, pending_bits}
 

@@ -1,5 +1,6 @@
 -- The deadline that is armed at an arena's end is the earliest stamp + delay counted from now. Assumes nothing.
-use Rattle.layer.proofs.Prelude.{◌≡◌, refl, sym, ap, ap₂, ◌∙◌, subst, Bool, true, false, cond, ◌&&◌, true≢false, List, ⊎_elim, ℕ, zero, suc, ◌+◌, ◌-◌, ◌^◌, ◌<◌, ◌≤◌, eq-or-lt_of_le, arith, ltb-true, lt-ltb, get_or, bit_at, lt-or-le, Found, At, Nothing, and_both, or_one, keeps, armed, age_of, Arena, young, next_wait, rearm_at, rearm}
+use Rattle.std.specs.Prelude.{◌≡◌, ◌&&◌, ◌+◌, ◌-◌, ◌^◌, ◌<◌, ◌≤◌}
+use Rattle.layer.proofs.Prelude.{refl, sym, ap, ap₂, ◌∙◌, subst, Bool, true, false, cond, true≢false, List, ⊎_elim, ℕ, zero, suc, eq-or-lt_of_le, arith, ltb-true, lt-ltb, get_or, bit_at, lt-or-le, Found, At, Nothing, and_both, or_one, keeps, armed, age_of, Arena, young, next_wait, rearm_at, rearm}
 use Prim.Native.Nat.{min}
 use Rattle.clock.specs.Clock.{minus, plus, due_at}
 use Rattle.arena.specs.Sweeping.{nearer, nearest, wait}

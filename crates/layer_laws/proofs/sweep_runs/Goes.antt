@@ -1,5 +1,6 @@
 -- Where a sweep goes from a place on: to a question about a pending chunk, or to its end. It leaves every pending bit. Assumes nothing.
-use Rattle.layer.proofs.Prelude.{◌≡◌, refl, sym, ap, ap₂, ◌∙◌, subst, Bool, true, false, List, ℕ, zero, suc, ◌+◌, ◌-◌, ◌*◌, ◌<◌, ◌≤◌, arith, length, set, length-set, bit_at, by_cond, clear_run, Stands, before, inside, stands, within-before, within-after, Found, At, Nothing, least, First, first_says, and_both, Arena, take_run, give_back_run, tell_run, sweep_due, to_ask, next_asked, disarm, borrow_chunk, unpend_chunk, return_chunk, next_wait, rearm_at, rearm, stamps_of, Rows, bit_in, bit-out, Outcome, state_with, world_of, outcome, calm, at, purge_reply, swept_reply, visit_at, visit, sweep_from}
+use Rattle.std.specs.Prelude.{◌≡◌, ◌+◌, ◌-◌, ◌*◌, ◌<◌, ◌≤◌}
+use Rattle.layer.proofs.Prelude.{refl, sym, ap, ap₂, ◌∙◌, subst, Bool, true, false, List, ℕ, zero, suc, arith, length, set, length-set, bit_at, by_cond, clear_run, Stands, before, inside, stands, within-before, within-after, Found, At, Nothing, least, First, first_says, and_both, Arena, take_run, give_back_run, tell_run, sweep_due, to_ask, next_asked, disarm, borrow_chunk, unpend_chunk, return_chunk, next_wait, rearm_at, rearm, stamps_of, Rows, bit_in, bit-out, Outcome, state_with, world_of, outcome, calm, at, purge_reply, swept_reply, visit_at, visit, sweep_from}
 use Rattle.bitmap.proofs.words.RowLaws.{beyond}
 use Rattle.layer.specs.declared.Sweep.{Sweep}
 use Rattle.layer.specs.declared.Question.TheVariants.{Purging}

@@ -1,6 +1,7 @@
 -- A sweep from its first call to its end: the deadline that it leaves each arena is the one that the arena's pending chunks gave at its start.
 -- Assumes nothing.
-use Rattle.layer.proofs.Prelude.{◌≡◌, refl, sym, ap, ap₂, ◌∙◌, subst, Bool, true, false, cond, not, ◌&&◌, true≢false, List, [], ◌∷◌, ◌⊎◌, inl, inr, ◌↔◌, ⊎_elim, ℕ, zero, suc, ◌+◌, ◌-◌, ◌*◌, ◌/◌, ◌%◌, ◌^◌, ◌<◌, ◌≤◌, arith, ℕ_discrete, lt-ltb, not-true, ltb, ℤ, pos, negsuc, length, set, get_or, take, drop, length-set, bit_at, clear_run, by_cond, Stands, before, inside, stands, within-before, within-after, lt-or-le, Found, At, Nothing, least, First, first_says, and_both, or_one, now_ms, delay_ms, age_of, Arena, take_run, give_back_run, tell_run, sweep_due, young, to_ask, next_asked, disarm, borrow_chunk, unpend_chunk, return_chunk, rearm, stamps_of, Rows, bit_in, bit-out, World, Outcome, state_with, world_of, calm, at, sound, purge_reply, swept_reply, visit_at, visit, sweep_from, is_for, answer_purge, answer_of, Call, reserve, manage, adopt, claim, release, sweep, answer, owns, area, sweep_of, step_on, act, query, rules, sweeps_none, unless}
+use Rattle.std.specs.Prelude.{◌≡◌, ◌&&◌, ◌∷◌, ◌⊎◌, ◌↔◌, ◌+◌, ◌-◌, ◌*◌, ◌/◌, ◌%◌, ◌^◌, ◌<◌, ◌≤◌}
+use Rattle.layer.proofs.Prelude.{refl, sym, ap, ap₂, ◌∙◌, subst, Bool, true, false, cond, not, true≢false, List, [], inl, inr, ⊎_elim, ℕ, zero, suc, arith, ℕ_discrete, lt-ltb, not-true, ltb, ℤ, pos, negsuc, length, set, get_or, take, drop, length-set, bit_at, clear_run, by_cond, Stands, before, inside, stands, within-before, within-after, lt-or-le, Found, At, Nothing, least, First, first_says, and_both, or_one, now_ms, delay_ms, age_of, Arena, take_run, give_back_run, tell_run, sweep_due, young, to_ask, next_asked, disarm, borrow_chunk, unpend_chunk, return_chunk, rearm, stamps_of, Rows, bit_in, bit-out, World, Outcome, state_with, world_of, calm, at, sound, purge_reply, swept_reply, visit_at, visit, sweep_from, is_for, answer_purge, answer_of, Call, reserve, manage, adopt, claim, release, sweep, answer, owns, area, sweep_of, step_on, act, query, rules, sweeps_none, unless}
 use lib.Seq.{get_or-drop}
 use Rattle.bitmap.proofs.words.RowLaws.{beyond}
 use Rattle.layer.specs.declared.Settings.{Settings}

@@ -1,6 +1,7 @@
 -- `layer_samples::hash_line` meets its contract: a walk of its MIR. The hash of the state, held against the recorded one.
 -- Written by tools/walks. Assumes nothing.
-use Rattle.walks.proofs.Walking.{◌≡◌, refl, ℕ, List, [], ◌∷◌, length, Val, Ura, SProp, emp, Lft, GName, Share, ftrue, Memory, Routine, WpFn, Tables, fm_of, Sq, prop, !, ‵, ◌⊛◌, ◌$◌, look, init, stop, from, and_then, no_more, land, returns, params1, pass1, pass0, free0, Fun, fact_i, tables, tables_of, u32, yes, Is, plain, Meets, triple_of, Triple, entered, cited, Loan, Known, shared, slice_of, enters, used, arg, arg-fits, in-seq}
+use Rattle.std.specs.Prelude.{◌≡◌, ◌∷◌}
+use Rattle.walks.proofs.Walking.{refl, ℕ, List, [], length, Val, Ura, SProp, emp, Lft, GName, Share, ftrue, Memory, Routine, WpFn, Tables, fm_of, Sq, prop, !, ‵, ◌⊛◌, ◌$◌, look, init, stop, from, and_then, no_more, land, returns, params1, pass1, pass0, free0, Fun, fact_i, tables, tables_of, u32, yes, Is, plain, Meets, triple_of, Triple, entered, cited, Loan, Known, shared, slice_of, enters, used, arg, arg-fits, in-seq}
 use Rattle.layer_samples.specs.contracts.Session as T-Session
 use Rattle.layer_samples.proofs.Session.TheLaws as L-Session
 use denote.Struct.Laws as LL

@@ -1,6 +1,7 @@
 -- `layer_samples::make` meets its contract: a walk of its MIR. The call that the line is of.
 -- Written by tools/walks. Assumes nothing.
-use Rattle.walks.proofs.Walking.{refl, ℕ, ◌<◌, ◌^◌, List, [], ◌∷◌, length, w64, Val, vint, Ura, SProp, emp, Lft, GName, Share, ftrue, Memory, Routine, WpFn, Tables, fm_of, Sq, prop, !, ‵, ◌⊛◌, ◌$◌, agg, whole, sub, look_in, look, init, stop, hop, fld, from, load, addr, and_then, no_more, assigns, land, returns, params1, pass1, pass0, free0, Fun, fact_i, tables, tables_of, u32, u64, yes, Is, uint_vals, uint_Tells, plain, Meets, triple_of, Triple, entered, cited, Loan, Known, lent, slice_of, enters, used, in-local, arg, arg-fits, in-seq}
+use Rattle.std.specs.Prelude.{◌<◌, ◌^◌, ◌∷◌}
+use Rattle.walks.proofs.Walking.{refl, ℕ, List, [], length, w64, Val, vint, Ura, SProp, emp, Lft, GName, Share, ftrue, Memory, Routine, WpFn, Tables, fm_of, Sq, prop, !, ‵, ◌⊛◌, ◌$◌, agg, whole, sub, look_in, look, init, stop, hop, fld, from, load, addr, and_then, no_more, assigns, land, returns, params1, pass1, pass0, free0, Fun, fact_i, tables, tables_of, u32, u64, yes, Is, uint_vals, uint_Tells, plain, Meets, triple_of, Triple, entered, cited, Loan, Known, lent, slice_of, enters, used, in-local, arg, arg-fits, in-seq}
 use Rattle.layer.specs.contracts.State as T-State
 use Rattle.layer.proofs.State.TheLaws as L-State
 use denote.Struct.Laws as LL

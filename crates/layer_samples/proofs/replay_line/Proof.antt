@@ -1,6 +1,7 @@
 -- `layer_samples::replay_line` meets its contract: a walk of its MIR. By the kind of line.
 -- Written by tools/walks. Assumes nothing.
-use Rattle.walks.proofs.Walking.{◌≡◌, refl, Bool, ℕ, List, [], ◌∷◌, length, Val, is_true, is_false, Ura, SProp, emp, Lft, GName, Share, ftrue, Memory, Routine, WpFn, Tables, fm_of, Sq, prop, !, ‵, ◌⊛◌, ◌$◌, agg, whole, sub, look_in, look, init, stop, hop, fld, from, load, addr, and_then, no_more, assigns, land, returns, returns_within, params1, pass1, pass0, free0, Fun, fact_i, tables, tables_of, u32, yes, Is, plain, Meets, triple_of, Triple, entered, cited, Loan, Known, lent, slice_of, enters, used, room, in-local, if-else, arg, in-seq}
+use Rattle.std.specs.Prelude.{◌≡◌, ◌∷◌}
+use Rattle.walks.proofs.Walking.{refl, Bool, ℕ, List, [], length, Val, is_true, is_false, Ura, SProp, emp, Lft, GName, Share, ftrue, Memory, Routine, WpFn, Tables, fm_of, Sq, prop, !, ‵, ◌⊛◌, ◌$◌, agg, whole, sub, look_in, look, init, stop, hop, fld, from, load, addr, and_then, no_more, assigns, land, returns, returns_within, params1, pass1, pass0, free0, Fun, fact_i, tables, tables_of, u32, yes, Is, plain, Meets, triple_of, Triple, entered, cited, Loan, Known, lent, slice_of, enters, used, room, in-local, if-else, arg, in-seq}
 use Rattle.layer_samples.specs.contracts.Session as T-Session
 use Rattle.layer_samples.proofs.Session.TheLaws as L-Session
 use denote.Struct.Laws as LL

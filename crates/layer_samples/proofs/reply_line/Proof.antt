@@ -1,6 +1,7 @@
 -- `layer_samples::reply_line` meets its contract: a walk of its MIR. What the session carries, and the call.
 -- Written by tools/walks. Assumes nothing.
-use Rattle.walks.proofs.Walking.{refl, ℕ, List, [], ◌∷◌, length, Val, Ura, SProp, emp, Lft, GName, Share, ftrue, Memory, Routine, WpFn, Tables, fm_of, Sq, prop, !, ‵, ◌⊛◌, ◌$◌, agg, whole, sub, look_in, look, init, stop, hop, fld, from, load, addr, and_then, no_more, assigns, land, returns, params1, pass1, pass0, free0, Fun, fact_i, tables, tables_of, u32, yes, Is, plain, Meets, triple_of, Triple, entered, cited, Loan, Known, lent, slice_of, enters, used, in-local, arg, arg-fits, in-seq}
+use Rattle.std.specs.Prelude.{◌∷◌}
+use Rattle.walks.proofs.Walking.{refl, ℕ, List, [], length, Val, Ura, SProp, emp, Lft, GName, Share, ftrue, Memory, Routine, WpFn, Tables, fm_of, Sq, prop, !, ‵, ◌⊛◌, ◌$◌, agg, whole, sub, look_in, look, init, stop, hop, fld, from, load, addr, and_then, no_more, assigns, land, returns, params1, pass1, pass0, free0, Fun, fact_i, tables, tables_of, u32, yes, Is, plain, Meets, triple_of, Triple, entered, cited, Loan, Known, lent, slice_of, enters, used, in-local, arg, arg-fits, in-seq}
 use Rattle.layer_samples.specs.contracts.Session as T-Session
 use Rattle.layer_samples.proofs.Session.TheLaws as L-Session
 use denote.Struct.Laws as LL

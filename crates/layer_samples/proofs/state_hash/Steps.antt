@@ -1,5 +1,6 @@
 -- The functions that the hash of the state calls, each in one step of a walk (`walks`' Calls.antt). Assumes `Logic`, the callee's theorem, and that the table of calls is monotone under a frame.
-use Rattle.state.proofs.Prelude.{◌≡◌, refl, sym, ap, subst, ℕ, ◌<◌, ◌^◌, List, [], ◌∷◌, Arena, State}
+use Rattle.std.specs.Prelude.{◌≡◌, ◌<◌, ◌^◌, ◌∷◌}
+use Rattle.state.proofs.Prelude.{refl, sym, ap, subst, ℕ, List, [], Arena, State}
 use seplogic.Ra.Ura.{Ura}
 use mir.Syntax.{Opd as Operand, w32, w64}
 use mir.Val.{Val, vint}

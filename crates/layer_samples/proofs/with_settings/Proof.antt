@@ -1,5 +1,6 @@
 -- `layer_samples::with_settings` meets its contract. Assumes nothing.
-use Rattle.state.proofs.Prelude.{needs, ◌/◌}
+use Rattle.std.specs.Prelude.{◌/◌}
+use Rattle.state.proofs.Prelude.{needs}
 use mir.Syntax.{w64}
 use mir.Val.{SFits}
 use mir.Facts.{to_z-of_z}

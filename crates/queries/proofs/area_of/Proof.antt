@@ -1,6 +1,7 @@
 -- `queries::area_of` meets its contract: a walk of its MIR. The head of a registered arena, read where it lies.
 -- Written by tools/walks. Assumes nothing.
-use Rattle.walks.proofs.Walking.{◌≡◌, refl, subst, Bool, ℕ, ◌*◌, List, [], ◌∷◌, ℤ, length, get_or, w32, Val, vint, Fits, to_z, of_z, to_z-of_z, of_z_fits, T_not-not, is_true, is_false, Ura, SProp, emp, id⊢, Lft, GName, Share, ftrue, Memory, Routine, WpFn, Tables, fm_of, Sq, prop, !, ‵, ◌⊛◌, ◌$◌, look, init, stop, from, un, and_then, no_more, assigns, land, returns, returns_within, params1, pass1, pass0, free0, Fun, fact_i, tables, tables_of, i32, yes, Is, plain, sint_vals, sint_Tells, Meets, triple_of, Triple, entered, cited, Loan, Known, shared, slice_of, enters, used, room, if-else, arg, arg-fits, in-seq}
+use Rattle.std.specs.Prelude.{◌≡◌, ◌*◌, ◌∷◌}
+use Rattle.walks.proofs.Walking.{refl, subst, Bool, ℕ, List, [], ℤ, length, get_or, w32, Val, vint, Fits, to_z, of_z, to_z-of_z, of_z_fits, T_not-not, is_true, is_false, Ura, SProp, emp, id⊢, Lft, GName, Share, ftrue, Memory, Routine, WpFn, Tables, fm_of, Sq, prop, !, ‵, ◌⊛◌, ◌$◌, look, init, stop, from, un, and_then, no_more, assigns, land, returns, returns_within, params1, pass1, pass0, free0, Fun, fact_i, tables, tables_of, i32, yes, Is, plain, sint_vals, sint_Tells, Meets, triple_of, Triple, entered, cited, Loan, Known, shared, slice_of, enters, used, room, if-else, arg, arg-fits, in-seq}
 use Rattle.layer.specs.contracts.State as T-State
 use Rattle.layer.proofs.State.TheLaws as L-State
 use denote.Struct.Laws as LL

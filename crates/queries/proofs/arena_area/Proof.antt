@@ -1,6 +1,7 @@
 -- `queries::arena_area` meets its contract: a walk of its MIR. Row 1, then the core.
 -- Written by tools/walks. Assumes nothing.
-use Rattle.walks.proofs.Walking.{◌≡◌, refl, subst, Bool, ℕ, ◌<◌, ◌^◌, List, [], ◌∷◌, ℤ, length, w32, w64, Val, vint, Fits, to_z, of_z, to_z-of_z, of_z_fits, T_not-not, is_true, is_false, Ura, SProp, emp, Lft, GName, Share, ftrue, Memory, Routine, WpFn, Tables, fm_of, Sq, prop, !, ‵, ◌⊛◌, ◌$◌, agg, whole, sub, look_in, look, init, stop, fld, from, load, lit, of_opd, un, and_then, no_more, assigns, land, returns, returns_within, params1, pass1, pass0, free0, Fun, fact_i, tables, tables_of, u32, u64, i32, yes, Is, uint_vals, uint_Tells, plain, sint_vals, sint_Tells, Meets, triple_of, Triple, entered, cited, Loan, Known, shared, slice_of, enters, used, room, if-else, arg, arg-fits, entry-fits, in-seq}
+use Rattle.std.specs.Prelude.{◌≡◌, ◌<◌, ◌^◌, ◌∷◌}
+use Rattle.walks.proofs.Walking.{refl, subst, Bool, ℕ, List, [], ℤ, length, w32, w64, Val, vint, Fits, to_z, of_z, to_z-of_z, of_z_fits, T_not-not, is_true, is_false, Ura, SProp, emp, Lft, GName, Share, ftrue, Memory, Routine, WpFn, Tables, fm_of, Sq, prop, !, ‵, ◌⊛◌, ◌$◌, agg, whole, sub, look_in, look, init, stop, fld, from, load, lit, of_opd, un, and_then, no_more, assigns, land, returns, returns_within, params1, pass1, pass0, free0, Fun, fact_i, tables, tables_of, u32, u64, i32, yes, Is, uint_vals, uint_Tells, plain, sint_vals, sint_Tells, Meets, triple_of, Triple, entered, cited, Loan, Known, shared, slice_of, enters, used, room, if-else, arg, arg-fits, entry-fits, in-seq}
 use Rattle.layer.specs.contracts.State as T-State
 use Rattle.layer.proofs.State.TheLaws as L-State
 use denote.Struct.Laws as LL

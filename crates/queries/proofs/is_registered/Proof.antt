@@ -1,5 +1,6 @@
 -- `queries::is_registered` meets its contract. The machine holds the id's bits, and reads back the id that came in. Assumes nothing.
-use Rattle.state.proofs.Prelude.{◌≡◌, refl, sym, ap, ◌∙◌, subst, true, false, true≢false, ℕ, arith, ltb-true, T, ltb, ℤ, pos, negsuc, nat_abs, lt_z, non_neg}
+use Rattle.std.specs.Prelude.{◌≡◌}
+use Rattle.state.proofs.Prelude.{refl, sym, ap, ◌∙◌, subst, true, false, true≢false, ℕ, arith, ltb-true, T, ltb, ℤ, pos, negsuc, nat_abs, lt_z, non_neg}
 use mir.Syntax.{w64}
 use mir.Val.{Fits}
 use mir.Facts.{to_z-of_z}

@@ -1,6 +1,7 @@
 -- `queries::lies_in_arena` meets its contract: a walk of its MIR. The search for the arena that the address lies in.
 -- Written by tools/walks. Assumes nothing.
-use Rattle.walks.proofs.Walking.{◌≡◌, refl, Bool, ℕ, ◌<◌, ◌^◌, List, [], ◌∷◌, length, w64, Val, vint, vbool, Ura, SProp, emp, id⊢, Lft, GName, Share, ftrue, Memory, Routine, WpFn, Tables, fm_of, Sq, prop, !, ‵, ◌⊛◌, ◌$◌, whole, sub, look_in, look, init, stop, fld, from, load, and_then, no_more, land, returns, params1, pass1, pass0, free0, Fun, fact_i, tables, tables_of, bool, u64, yes, Is, uint_vals, uint_Tells, bool_Makes, plain, Meets, triple_of, Triple, entered, cited, Loan, Known, shared, slice_of, enters, used, arg, arg-fits, entry-fits, in-seq}
+use Rattle.std.specs.Prelude.{◌≡◌, ◌<◌, ◌^◌, ◌∷◌}
+use Rattle.walks.proofs.Walking.{refl, Bool, ℕ, List, [], length, w64, Val, vint, vbool, Ura, SProp, emp, id⊢, Lft, GName, Share, ftrue, Memory, Routine, WpFn, Tables, fm_of, Sq, prop, !, ‵, ◌⊛◌, ◌$◌, whole, sub, look_in, look, init, stop, fld, from, load, and_then, no_more, land, returns, params1, pass1, pass0, free0, Fun, fact_i, tables, tables_of, bool, u64, yes, Is, uint_vals, uint_Tells, bool_Makes, plain, Meets, triple_of, Triple, entered, cited, Loan, Known, shared, slice_of, enters, used, arg, arg-fits, entry-fits, in-seq}
 use Rattle.layer.specs.contracts.State as T-State
 use Rattle.layer.proofs.State.TheLaws as L-State
 use denote.Struct.Laws as LL

@@ -1,5 +1,6 @@
 -- `queries::place_of` meets its contract. The machine holds the id's bits, and reads back the id that came in. Assumes nothing.
-use Rattle.state.proofs.Prelude.{◌≡◌, sym, ap, subst, true, true≢false, ℕ, arith, T, ℤ, pos, negsuc, nat_abs, non_neg}
+use Rattle.std.specs.Prelude.{◌≡◌}
+use Rattle.state.proofs.Prelude.{sym, ap, subst, true, true≢false, ℕ, arith, T, ℤ, pos, negsuc, nat_abs, non_neg}
 use mir.Syntax.{w32, w64}
 use mir.Val.{Fits, SFits}
 use mir.Facts.{to_z-of_z}

@@ -1,6 +1,7 @@
 -- Functions of `registering` that a walk calls, each in one step: adopt-new-step, grow-at-step, grown-step, is-whole-step. Written by tools/walks.
 -- Assumes `Logic`, the callee's theorem, and that the table of calls is monotone under a frame.
-use Rattle.walks.proofs.Walking.{◌≡◌, refl, sym, ◌∙◌, ap, subst, ℕ, ◌<◌, ◌≤◌, ◌+◌, ◌^◌, List, [], ◌∷◌, eqb, length, set, w64, Operand, Val, vint, vbool, Ura, SProp, emp, id⊢, Memory, Routine, Env, Calls, Item, Goal, Seq, ‵, ◌⊛◌, Opds, Fun, fact_i, bool, u32, u64, usize, yes, Is, Ises, owns_make, uint_Makes, bool_Tells, plain, only, triple_of, Contract, Triple, Loan, lent, slice_of, Site, plain-call, mut_call, mut2-call}
+use Rattle.std.specs.Prelude.{◌≡◌, ◌<◌, ◌≤◌, ◌+◌, ◌^◌, ◌∷◌}
+use Rattle.walks.proofs.Walking.{refl, sym, ◌∙◌, ap, subst, ℕ, List, [], eqb, length, set, w64, Operand, Val, vint, vbool, Ura, SProp, emp, id⊢, Memory, Routine, Env, Calls, Item, Goal, Seq, ‵, ◌⊛◌, Opds, Fun, fact_i, bool, u32, u64, usize, yes, Is, Ises, owns_make, uint_Makes, bool_Tells, plain, only, triple_of, Contract, Triple, Loan, lent, slice_of, Site, plain-call, mut_call, mut2-call}
 use Rattle.layer.specs.contracts.State as T-State
 use Rattle.layer.proofs.State.TheLaws as L-State
 use denote.Struct.Laws as LL

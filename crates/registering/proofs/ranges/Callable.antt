@@ -1,6 +1,7 @@
 -- Functions of `registering` that a walk calls, each in one step: has-bad-ends-step. Written by tools/walks.
 -- Assumes `Logic`, the callee's theorem, and that the table of calls is monotone under a frame.
-use Rattle.walks.proofs.Walking.{◌≡◌, refl, sym, ◌∙◌, ap, subst, ℕ, ◌<◌, ◌+◌, ◌^◌, List, [], ◌∷◌, eqb, leb, w64, Operand, Val, vint, vbool, Ura, SProp, id⊢, Memory, Routine, Env, Calls, Item, Goal, Seq, Opds, Fun, bool, u64, yes, Ises, owns_make, uint_Makes, bool_Tells, plain, only, triple_of, Contract, Triple, Site, plain-call}
+use Rattle.std.specs.Prelude.{◌≡◌, ◌<◌, ◌+◌, ◌^◌, ◌∷◌}
+use Rattle.walks.proofs.Walking.{refl, sym, ◌∙◌, ap, subst, ℕ, List, [], eqb, leb, w64, Operand, Val, vint, vbool, Ura, SProp, id⊢, Memory, Routine, Env, Calls, Item, Goal, Seq, Opds, Fun, bool, u64, yes, Ises, owns_make, uint_Makes, bool_Tells, plain, only, triple_of, Contract, Triple, Site, plain-call}
 use mathlib.Core.Bool.{◌||◌}
 use Rattle.registering.specs.contracts.ranges.has_bad_ends as has-bad-ends'
 use Rattle.registering.proofs.ranges.has_bad_ends.Symbol.{name as #registering·ranges·has-bad-ends}

@@ -1,5 +1,6 @@
 -- `release_lists::fits` meets its contract. Assumes nothing.
-use Rattle.state.proofs.Prelude.{sym, ap, ap₂, Bool, ◌&&◌, eqb, leb, eq-eqb, ne_eqb}
+use Rattle.std.specs.Prelude.{◌&&◌}
+use Rattle.state.proofs.Prelude.{sym, ap, ap₂, Bool, eqb, leb, eq-eqb, ne_eqb}
 use Rattle.release_lists.proofs.fits.Statement.{statement}
 use Rattle.release_lists.proofs.fits.Tie as tie
 

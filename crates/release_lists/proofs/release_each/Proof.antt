@@ -1,6 +1,7 @@
 -- `release_lists::release_each` meets its contract: a walk of its MIR. Item after item.
 -- Written by tools/walks. Assumes nothing.
-use Rattle.walks.proofs.Walking.{◌≡◌, refl, ◌∙◌, subst, Bool, ℕ, ◌<◌, ◌≤◌, ◌+◌, ◌^◌, List, [], ◌∷◌, lit<, length, get_or, set, w64, Val, vint, vbool, Ura, full_share, SProp, emp, id⊢, Lft, GName, Share, ftrue, Memory, Routine, Env, WpFn, Tables, fm_of, Item, Sq, prop, !, ‵, ◌⊛◌, ◌$◌, agg, whole, sub, look_in, look, init, store, stop, hop, fld, from, load, addr, lit, of_opd, bin, and_then, no_more, assigns, land, returns, params1, pass1, pass0, free0, Fun, fact_i, tables, tables_of, bool, u32, u64, usize, yes, Is, Nothing, Nothing-Lawful, Nothing-Makes, uint_vals, uint_Tells, bool_vals, bool_Tells, plain, Meets, triple_of, Triple, entered, cited, Loan, Known, lent, shared, slice_of, enters, used, room, in-local, arg, arg-fits, in-seq}
+use Rattle.std.specs.Prelude.{◌≡◌, ◌<◌, ◌≤◌, ◌+◌, ◌^◌, ◌∷◌}
+use Rattle.walks.proofs.Walking.{refl, ◌∙◌, subst, Bool, ℕ, List, [], lit<, length, get_or, set, w64, Val, vint, vbool, Ura, full_share, SProp, emp, id⊢, Lft, GName, Share, ftrue, Memory, Routine, Env, WpFn, Tables, fm_of, Item, Sq, prop, !, ‵, ◌⊛◌, ◌$◌, agg, whole, sub, look_in, look, init, store, stop, hop, fld, from, load, addr, lit, of_opd, bin, and_then, no_more, assigns, land, returns, params1, pass1, pass0, free0, Fun, fact_i, tables, tables_of, bool, u32, u64, usize, yes, Is, Nothing, Nothing-Lawful, Nothing-Makes, uint_vals, uint_Tells, bool_vals, bool_Tells, plain, Meets, triple_of, Triple, entered, cited, Loan, Known, lent, shared, slice_of, enters, used, room, in-local, arg, arg-fits, in-seq}
 use types.Logic.{Logic}
 use types.Run.{unit_lit}
 use mir.Val.{vunit}

@@ -1,5 +1,6 @@
 -- `releasing::fits` meets its contract: a sum against a bound, as a difference. Assumes nothing.
-use Rattle.state.proofs.Prelude.{◌≡◌, refl, Bool, true, false, ℕ, ◌+◌, ◌-◌, ◌≤◌, ◌<◌, arith, le-leb, lt-leb, leb-true, leb-false, needs, leb}
+use Rattle.std.specs.Prelude.{◌≡◌, ◌+◌, ◌-◌, ◌≤◌, ◌<◌}
+use Rattle.state.proofs.Prelude.{refl, Bool, true, false, ℕ, arith, le-leb, lt-leb, leb-true, leb-false, needs, leb}
 use Rattle.releasing.proofs.fits.Statement.{statement}
 use Rattle.releasing.proofs.fits.Tie as tie
 

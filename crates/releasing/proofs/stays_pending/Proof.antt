@@ -1,5 +1,6 @@
 -- `releasing::stays_pending` meets its contract. The machine holds the delay's bits, and reads back the delay that came in. Assumes nothing.
-use Rattle.state.proofs.Prelude.{sym, ap, ◌∙◌, Bool, not, ◌&&◌, needs, never_purges}
+use Rattle.std.specs.Prelude.{◌&&◌}
+use Rattle.state.proofs.Prelude.{sym, ap, ◌∙◌, Bool, not, needs, never_purges}
 use mir.Facts.{to_z-of_z}
 use Rattle.releasing.proofs.stays_pending.Statement.{statement}
 use Rattle.releasing.proofs.stays_pending.Tie as tie

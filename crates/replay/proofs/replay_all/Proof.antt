@@ -1,5 +1,6 @@
 -- `replay::replay_all` is safe and ends. The measure is the number of blocks that are left. Assumes nothing.
-use Rattle.walks.proofs.Prelude.{needs, ◌≡◌, length}
+use Rattle.std.specs.Prelude.{◌≡◌}
+use Rattle.walks.proofs.Prelude.{needs, length}
 use Rattle.replay.proofs.replay_all.Statement.{statement}
 use Rattle.replay.proofs.replay_all.Tie as tie
 

@@ -1,5 +1,6 @@
 -- `replay::replay_lines` is safe and ends. The measure is what is left of the text. Assumes nothing.
-use Rattle.walks.proofs.Prelude.{needs, ◌≡◌, ◌≤◌, ◌-◌, length}
+use Rattle.std.specs.Prelude.{◌≡◌, ◌≤◌, ◌-◌}
+use Rattle.walks.proofs.Prelude.{needs, length}
 use Rattle.replay.proofs.replay_lines.Statement.{statement}
 use Rattle.replay.proofs.replay_lines.Tie as tie
 

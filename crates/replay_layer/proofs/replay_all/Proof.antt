@@ -1,5 +1,6 @@
 -- `replay_layer::replay_all` is safe and ends: a walk of its MIR, by hand. It owns the table in two local arrays, which are lent from before the loop to the return. Assumes nothing.
-use Rattle.state.proofs.Prelude.{◌≡◌, refl, ◌∙◌, ℕ, ◌<◌, ◌^◌, List, [], ◌∷◌, length, replicate, length-replicate, Arena, arith, ltb→lt, lit<, blank}
+use Rattle.std.specs.Prelude.{◌≡◌, ◌<◌, ◌^◌, ◌∷◌}
+use Rattle.state.proofs.Prelude.{refl, ◌∙◌, ℕ, List, [], length, replicate, length-replicate, Arena, arith, ltb→lt, lit<, blank}
 use seplogic.Ra.Ura.{Ura}
 use base.Logic.{SProp, id⊢}
 use prog.Memory.{Memory}

@@ -1,5 +1,6 @@
 -- What the definitions of a hexadecimal text say in the cases that its functions meet. Assumes nothing.
-use Rattle.walks.proofs.Prelude.{◌≡◌, refl, sym, subst, Bool, true, false, cond, List, ℕ, zero, suc, ◌+◌, ◌-◌, ◌*◌, ◌^◌, ◌≤◌, ◌<◌, pow-suc, zero-lt-suc, add-one, arith, ltb-true, lt-ltb, le-ltb, ltb, get_or}
+use Rattle.std.specs.Prelude.{◌≡◌, ◌+◌, ◌-◌, ◌*◌, ◌^◌, ◌≤◌, ◌<◌}
+use Rattle.walks.proofs.Prelude.{refl, sym, subst, Bool, true, false, cond, List, ℕ, zero, suc, pow-suc, zero-lt-suc, add-one, arith, ltb-true, lt-ltb, le-ltb, ltb, get_or}
 use native.Mathlib.Nat.{pow-le-pow_right}
 use Rattle.samples.specs.declared.hex.Number.{Number}
 use Rattle.samples.specs.declared.hex.Number.TheVariants.{Is, NotHex}

@@ -1,5 +1,6 @@
 -- The fields of a line, put in one by one. Assumes nothing.
-use Rattle.walks.proofs.Prelude.{◌≡◌, ap₂, ◌∙◌, true, List, ℕ, ◌+◌, eqb, get_or}
+use Rattle.std.specs.Prelude.{◌≡◌, ◌+◌}
+use Rattle.walks.proofs.Prelude.{ap₂, ◌∙◌, true, List, ℕ, eqb, get_or}
 use Rattle.samples.specs.declared.hex.Number.{Number}
 use Rattle.samples.specs.Lines.{parted, line_of}
 

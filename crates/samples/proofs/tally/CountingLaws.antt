@@ -1,5 +1,6 @@
 -- A line counted, by whether its answer is the recorded one. Assumes nothing.
-use Rattle.walks.proofs.Prelude.{◌≡◌, refl, Bool, true, false, cond, ℕ, eqb}
+use Rattle.std.specs.Prelude.{◌≡◌}
+use Rattle.walks.proofs.Prelude.{refl, Bool, true, false, cond, ℕ, eqb}
 use Rattle.samples.specs.declared.tally.Tally.{Tally}
 use Rattle.samples.specs.Counting.{one_more, after_answer, after_malformed}
 

@@ -1,5 +1,6 @@
 -- `sweeping::comes_due` meets its contract. Assumes nothing.
-use Rattle.state.proofs.Prelude.{sym, ap, ◌∙◌, Bool, false, not, ◌&&◌, ◌||◌, needs, eq-eqb, ne_eqb}
+use Rattle.std.specs.Prelude.{◌&&◌, ◌||◌}
+use Rattle.state.proofs.Prelude.{sym, ap, ◌∙◌, Bool, false, not, needs, eq-eqb, ne_eqb}
 use Rattle.clock.specs.Clock.{is_due}
 use Rattle.sweeping.specs.Visit.{comes_due}
 use Rattle.sweeping.proofs.comes_due.Statement.{statement}

@@ -1,6 +1,7 @@
 -- `sweeping::is_due_at` meets its contract: a walk of its MIR. The deadline is looked at where it lies.
 -- Written by tools/walks. Assumes nothing.
-use Rattle.walks.proofs.Walking.{◌≡◌, refl, Bool, ℕ, ◌<◌, ◌*◌, ◌^◌, List, [], ◌∷◌, length, get_or, w64, Val, vint, vbool, Fits, Ura, SProp, emp, id⊢, Lft, GName, Share, ftrue, Memory, Routine, WpFn, Tables, fm_of, Sq, prop, !, ‵, ◌⊛◌, ◌$◌, whole, sub, look_in, look, init, stop, hop, fld, from, load, addr, lit, bin, and_then, no_more, assigns, land, returns, params1, pass1, pass0, free0, Fun, fact_i, tables, tables_of, bool, u32, usize, yes, Is, uint_vals, uint_Tells, bool_Makes, plain, Meets, triple_of, Triple, entered, cited, Loan, Known, shared, slice_of, enters, used, arg, in-seq}
+use Rattle.std.specs.Prelude.{◌≡◌, ◌<◌, ◌*◌, ◌^◌, ◌∷◌}
+use Rattle.walks.proofs.Walking.{refl, Bool, ℕ, List, [], length, get_or, w64, Val, vint, vbool, Fits, Ura, SProp, emp, id⊢, Lft, GName, Share, ftrue, Memory, Routine, WpFn, Tables, fm_of, Sq, prop, !, ‵, ◌⊛◌, ◌$◌, whole, sub, look_in, look, init, stop, hop, fld, from, load, addr, lit, bin, and_then, no_more, assigns, land, returns, params1, pass1, pass0, free0, Fun, fact_i, tables, tables_of, bool, u32, usize, yes, Is, uint_vals, uint_Tells, bool_Makes, plain, Meets, triple_of, Triple, entered, cited, Loan, Known, shared, slice_of, enters, used, arg, in-seq}
 use Rattle.layer.specs.contracts.Sweep as T-Sweep
 use Rattle.layer.proofs.Sweep.TheLaws as L-Sweep
 use denote.Struct.Laws as LL

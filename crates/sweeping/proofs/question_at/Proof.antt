@@ -1,6 +1,7 @@
 -- `sweeping::question_at` meets its contract: a walk of its MIR. The head of the record is read, and the rest is said by value.
 -- Written by tools/walks. Assumes nothing.
-use Rattle.walks.proofs.Walking.{◌≡◌, refl, ℕ, ◌<◌, ◌+◌, ◌*◌, ◌^◌, List, [], ◌∷◌, length, get_or, w64, Val, vint, Ura, SProp, emp, id⊢, Lft, GName, Share, ftrue, Memory, Routine, WpFn, Tables, fm_of, Sq, prop, !, ‵, ◌⊛◌, ◌$◌, look, init, stop, from, and_then, no_more, land, returns, params1, pass1, pass0, free0, Fun, fact_i, tables, tables_of, usize, yes, Is, uint_vals, uint_Tells, plain, Meets, triple_of, Triple, entered, cited, Loan, Known, shared, slice_of, enters, used, arg, arg-fits, in-seq}
+use Rattle.std.specs.Prelude.{◌≡◌, ◌<◌, ◌+◌, ◌*◌, ◌^◌, ◌∷◌}
+use Rattle.walks.proofs.Walking.{refl, ℕ, List, [], length, get_or, w64, Val, vint, Ura, SProp, emp, id⊢, Lft, GName, Share, ftrue, Memory, Routine, WpFn, Tables, fm_of, Sq, prop, !, ‵, ◌⊛◌, ◌$◌, look, init, stop, from, and_then, no_more, land, returns, params1, pass1, pass0, free0, Fun, fact_i, tables, tables_of, usize, yes, Is, uint_vals, uint_Tells, plain, Meets, triple_of, Triple, entered, cited, Loan, Known, shared, slice_of, enters, used, arg, arg-fits, in-seq}
 use Rattle.layer.specs.contracts.State as T-State
 use Rattle.layer.proofs.State.TheLaws as L-State
 use denote.Struct.Laws as LL

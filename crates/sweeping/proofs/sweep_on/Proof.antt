@@ -1,6 +1,7 @@
 -- `sweeping::sweep_on` meets its contract: a walk of its MIR. Each arena, until a chunk of one is asked about.
 -- Written by tools/walks. Assumes nothing.
-use Rattle.walks.proofs.Walking.{◌≡◌, refl, ◌∙◌, Bool, ℕ, ◌<◌, ◌≤◌, ◌+◌, ◌^◌, List, [], ◌∷◌, length, set, w64, Val, vint, is_true, is_false, Ura, full_share, SProp, emp, id⊢, Lft, GName, Share, ftrue, Memory, Routine, Env, WpFn, Tables, fm_of, Item, Sq, prop, !, ‵, ◌⊛◌, ◌$◌, agg, whole, sub, look_in, look, init, store, stop, hop, fld, from, load, addr, lit, of_opd, bin, and_then, no_more, assigns, land, returns, returns_within, params1, pass1, pass0, free0, Fun, fact_i, tables, tables_of, u32, usize, yes, Is, uint_vals, uint_Tells, plain, Meets, triple_of, Triple, entered, cited, Loan, Known, lent, slice_of, enters, used, room, in-local, if-else, arg, arg-fits, entry-fits, in-seq}
+use Rattle.std.specs.Prelude.{◌≡◌, ◌<◌, ◌≤◌, ◌+◌, ◌^◌, ◌∷◌}
+use Rattle.walks.proofs.Walking.{refl, ◌∙◌, Bool, ℕ, List, [], length, set, w64, Val, vint, is_true, is_false, Ura, full_share, SProp, emp, id⊢, Lft, GName, Share, ftrue, Memory, Routine, Env, WpFn, Tables, fm_of, Item, Sq, prop, !, ‵, ◌⊛◌, ◌$◌, agg, whole, sub, look_in, look, init, store, stop, hop, fld, from, load, addr, lit, of_opd, bin, and_then, no_more, assigns, land, returns, returns_within, params1, pass1, pass0, free0, Fun, fact_i, tables, tables_of, u32, usize, yes, Is, uint_vals, uint_Tells, plain, Meets, triple_of, Triple, entered, cited, Loan, Known, lent, slice_of, enters, used, room, in-local, if-else, arg, arg-fits, entry-fits, in-seq}
 use Rattle.layer.specs.contracts.State as T-State
 use Rattle.layer.proofs.State.TheLaws as L-State
 use denote.Struct.Laws as LL

@@ -1,5 +1,6 @@
 -- `sweeping::sweeps_none` meets its contract. The machine holds the delay's bits, and reads back the delay that came in. Assumes nothing.
-use Rattle.state.proofs.Prelude.{sym, ap, ◌∙◌, Bool, ◌&&◌, needs, never_purges}
+use Rattle.std.specs.Prelude.{◌&&◌}
+use Rattle.state.proofs.Prelude.{sym, ap, ◌∙◌, Bool, needs, never_purges}
 use mir.Facts.{to_z-of_z}
 use Rattle.sweeping.proofs.sweeps_none.Statement.{statement}
 use Rattle.sweeping.proofs.sweeps_none.Tie as tie

@@ -1,6 +1,7 @@
 -- `sweeping::visit` meets its contract: a walk of its MIR. By whether the arena is due, and by what is found in it.
 -- Written by tools/walks. Assumes nothing.
-use Rattle.walks.proofs.Walking.{◌≡◌, refl, Bool, ℕ, ◌<◌, ◌≤◌, ◌^◌, List, [], ◌∷◌, length, get_or, set, w64, Val, vint, T_not-not, is_true, is_false, Ura, SProp, emp, id⊢, Lft, GName, Share, ftrue, Memory, Routine, WpFn, Tables, fm_of, Sq, prop, !, ‵, ◌⊛◌, ◌$◌, agg, whole, sub, look_in, look, init, stop, hop, fld, from, load, addr, un, and_then, no_more, assigns, land, returns, returns_within, params1, pass1, pass0, free0, Fun, fact_i, tables, tables_of, u32, usize, yes, Is, Nothing-Lawful, uint_vals, uint_Tells, plain, Meets, triple_of, Triple, entered, cited, Loan, Known, lent, slice_of, enters, used, room, in-local, if-else, arg, arg-fits, in-seq, swaps}
+use Rattle.std.specs.Prelude.{◌≡◌, ◌<◌, ◌≤◌, ◌^◌, ◌∷◌}
+use Rattle.walks.proofs.Walking.{refl, Bool, ℕ, List, [], length, get_or, set, w64, Val, vint, T_not-not, is_true, is_false, Ura, SProp, emp, id⊢, Lft, GName, Share, ftrue, Memory, Routine, WpFn, Tables, fm_of, Sq, prop, !, ‵, ◌⊛◌, ◌$◌, agg, whole, sub, look_in, look, init, stop, hop, fld, from, load, addr, un, and_then, no_more, assigns, land, returns, returns_within, params1, pass1, pass0, free0, Fun, fact_i, tables, tables_of, u32, usize, yes, Is, Nothing-Lawful, uint_vals, uint_Tells, plain, Meets, triple_of, Triple, entered, cited, Loan, Known, lent, slice_of, enters, used, room, in-local, if-else, arg, arg-fits, in-seq, swaps}
 use Rattle.layer.specs.contracts.Sweep as T-Sweep
 use Rattle.layer.proofs.Sweep.TheLaws as L-Sweep
 use denote.Struct.Laws as LL

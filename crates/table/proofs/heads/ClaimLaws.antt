@@ -1,5 +1,6 @@
 -- Which arenas a claim may use, by the sign of its id. Assumes nothing.
-use Rattle.state.proofs.Prelude.{◌≡◌, refl, true, false, not, true≢false, ℕ, arith, ltb-true, T, eqb, ℤ, pos, negsuc, nat_abs, lt_z, non_neg, Arena, is_on, eligible}
+use Rattle.std.specs.Prelude.{◌≡◌}
+use Rattle.state.proofs.Prelude.{refl, true, false, not, true≢false, ℕ, arith, ltb-true, T, eqb, ℤ, pos, negsuc, nat_abs, lt_z, non_neg, Arena, is_on, eligible}
 use mir.Syntax.{w32, w64}
 use mir.Val.{Fits, SFits}
 

@@ -1,5 +1,6 @@
 -- The test of an open question, in the parts that the code asks one after the other. Assumes nothing.
-use Rattle.state.proofs.Prelude.{◌≡◌, refl, sym, ap, ap₂, Bool, true, false, ◌&&◌, true≢false, ℕ, ◌+◌, ◌*◌, add-one, leb, ltb, bit_at, all, Arena, Question, Idle, Committing, Purging, Reserving, GivingBack, asked_id, sound_question}
+use Rattle.std.specs.Prelude.{◌≡◌, ◌&&◌, ◌+◌, ◌*◌}
+use Rattle.state.proofs.Prelude.{refl, sym, ap, ap₂, Bool, true, false, true≢false, ℕ, add-one, leb, ltb, bit_at, all, Arena, Question, Idle, Committing, Purging, Reserving, GivingBack, asked_id, sound_question}
 use Rattle.bitmap.proofs.runs.SearchLaws.{all_one}
 use Rattle.table.specs.Questions.{about_none, first_asked, length_asked, sound_count}
 

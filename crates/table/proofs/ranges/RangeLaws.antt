@@ -1,5 +1,6 @@
 -- What it is for an arena to meet a range and to be continued by a block, by facts and not by tests. S is the size of a chunk. Assumes nothing.
-use Rattle.state.proofs.Prelude.{◌≡◌, sym, ap, ap₂, true, false, not, ◌&&◌, ℕ, ◌+◌, ◌*◌, ◌≤◌, ◌<◌, lt-ltb, ltb-true, le-leb, leb-true, eqb-true, eq-eqb, not-true, eqb, ltb, and_both, Arena, is_on, bytes_of, end_of, never, meets, grows}
+use Rattle.std.specs.Prelude.{◌≡◌, ◌&&◌, ◌+◌, ◌*◌, ◌≤◌, ◌<◌}
+use Rattle.state.proofs.Prelude.{sym, ap, ap₂, true, false, not, ℕ, lt-ltb, ltb-true, le-leb, leb-true, eqb-true, eq-eqb, not-true, eqb, ltb, and_both, Arena, is_on, bytes_of, end_of, never, meets, grows}
 use mathlib.Core.Logic.{◌↔◌}
 
 -- ---- a range that an arena meets

@@ -1,5 +1,6 @@
 -- Four tests in a row: the first that fails decides. Assumes nothing.
-use Rattle.state.proofs.Prelude.{◌≡◌, sym, ap, ap₂, ◌∙◌, Bool, true, false, ◌&&◌}
+use Rattle.std.specs.Prelude.{◌≡◌, ◌&&◌}
+use Rattle.state.proofs.Prelude.{sym, ap, ap₂, ◌∙◌, Bool, true, false}
 
 pub and-1 : (a b c d : Bool) → a ≡ false → false ≡ a && (b && (c && d))
 and-1 a b c d p = sym (ap (λ (t : Bool). t && (b && (c && d))) p)

@@ -1,5 +1,6 @@
 -- `worked::answered` is safe and ends: a walk of its MIR, by hand. It owns the table in two local arrays, which are lent from before the loop to the return. Assumes nothing.
-use Rattle.state.proofs.Prelude.{refl, ℕ, ◌<◌, ◌^◌, List, [], ◌∷◌, replicate, length-replicate, Arena, arith, ltb→lt, lit<}
+use Rattle.std.specs.Prelude.{◌<◌, ◌^◌, ◌∷◌}
+use Rattle.state.proofs.Prelude.{refl, ℕ, List, [], replicate, length-replicate, Arena, arith, ltb→lt, lit<}
 use seplogic.Ra.Ura.{Ura}
 use base.Logic.{SProp, id⊢}
 use prog.Memory.{Memory}

@@ -1,5 +1,6 @@
 -- `worked::answered_short` is safe and ends: a walk of its MIR, by hand. It owns the table in two local arrays, which are lent for one call. Assumes nothing.
-use Rattle.state.proofs.Prelude.{refl, ℕ, [], ◌∷◌, replicate, length-replicate, lit<}
+use Rattle.std.specs.Prelude.{◌∷◌}
+use Rattle.state.proofs.Prelude.{refl, ℕ, [], replicate, length-replicate, lit<}
 use seplogic.Ra.Ura.{Ura}
 use base.Logic.{SProp, id⊢}
 use prog.Memory.{Memory}

@@ -1,5 +1,6 @@
 -- `worked::freed` is safe and ends: a walk of its MIR, by hand. It owns the table in two local arrays, which are lent for one call. Assumes nothing.
-use Rattle.walks.proofs.Walking.{refl, Bool, ℕ, ◌<◌, ◌^◌, [], ◌∷◌, lit<, w32, w64, Val, vint, vbool, Ura, SProp, id⊢, ftrue, Memory, Routine, WpFn, Tables, fm_of, Sq, prop, !, ‵, ◌$◌, agg, look, init, stop, from, load, addr, lit, and_then, no_more, assigns, land, returns, params1, pass1, pass0, free0, Fun, fact_i, tables, tables_of, bool, u32, u64, usize, yes, Is, uint_vals, uint_Tells, uint_Makes, bool_vals, bool_Tells, plain, Meets, triple_of, Triple, entered, cited, big-lit, enters, used, room, in-seq}
+use Rattle.std.specs.Prelude.{◌<◌, ◌^◌, ◌∷◌}
+use Rattle.walks.proofs.Walking.{refl, Bool, ℕ, [], lit<, w32, w64, Val, vint, vbool, Ura, SProp, id⊢, ftrue, Memory, Routine, WpFn, Tables, fm_of, Sq, prop, !, ‵, ◌$◌, agg, look, init, stop, from, load, addr, lit, and_then, no_more, assigns, land, returns, params1, pass1, pass0, free0, Fun, fact_i, tables, tables_of, bool, u32, u64, usize, yes, Is, uint_vals, uint_Tells, uint_Makes, bool_vals, bool_Tells, plain, Meets, triple_of, Triple, entered, cited, big-lit, enters, used, room, in-seq}
 use lib.ListN.{replicate, length-replicate}
 use types.Logic.{Logic}
 use types.Part.{rep}

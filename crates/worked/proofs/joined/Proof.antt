@@ -1,5 +1,6 @@
 -- `worked::joined` is safe and ends: a walk of its MIR, by hand. It owns the two tables in four local arrays, which are lent for one call. Assumes nothing.
-use Rattle.walks.proofs.Walking.{refl, ℕ, ◌<◌, ◌^◌, [], ◌∷◌, lit<, w32, w64, Val, vint, Fits, of_z, of_z_fits, Ura, SProp, id⊢, ftrue, Memory, Routine, WpFn, Tables, fm_of, Sq, prop, !, ‵, ◌$◌, agg, look, init, stop, from, load, addr, lit, and_then, no_more, assigns, land, returns, params1, pass1, pass0, free0, Fun, fact_i, tables, tables_of, u32, u64, i32, yes, Is, uint_vals, uint_Tells, uint_Makes, plain, sint_vals, sint_Tells, Meets, triple_of, Triple, entered, cited, big-lit, enters, used, room, in-seq}
+use Rattle.std.specs.Prelude.{◌<◌, ◌^◌, ◌∷◌}
+use Rattle.walks.proofs.Walking.{refl, ℕ, [], lit<, w32, w64, Val, vint, Fits, of_z, of_z_fits, Ura, SProp, id⊢, ftrue, Memory, Routine, WpFn, Tables, fm_of, Sq, prop, !, ‵, ◌$◌, agg, look, init, stop, from, load, addr, lit, and_then, no_more, assigns, land, returns, params1, pass1, pass0, free0, Fun, fact_i, tables, tables_of, u32, u64, i32, yes, Is, uint_vals, uint_Tells, uint_Makes, plain, sint_vals, sint_Tells, Meets, triple_of, Triple, entered, cited, big-lit, enters, used, room, in-seq}
 use lib.ListN.{replicate, length-replicate}
 use types.Logic.{Logic}
 use types.Part.{rep}

@@ -1,6 +1,7 @@
 -- `worked::listed` is safe and ends: a walk of its MIR, by hand. It owns the table and the lists in local arrays, which are lent for one call: the table's whole, of the lists the first places. Assumes nothing.
-use Rattle.walks.proofs.Walking.{◌≡◌, refl, ◌∙◌, Bool, ℕ, ◌<◌, ◌≤◌, ◌^◌, List, [], ◌∷◌, length, lit<, w32, w64, Val, vint, vbool, Ura, SProp, id⊢, ftrue, Memory, Routine, WpFn, Tables, fm_of, Sq, prop, !, ‵, ◌$◌, agg, look, init, stop, from, load, addr, lit, of_opd, and_then, no_more, assigns, land, returns, params1, pass1, pass0, free0, Fun, tables, tables_of, bool, u32, u64, usize, yes, Is, only, uint_vals, uint_Tells, uint_Makes, bool_vals, bool_Tells, plain, Meets, triple_of, Triple, entered, cited, big-lit, enters, used, room, in-seq}
-use Rattle.state.proofs.Prelude.{◌*◌, arith}
+use Rattle.std.specs.Prelude.{◌≡◌, ◌<◌, ◌≤◌, ◌^◌, ◌∷◌, ◌*◌}
+use Rattle.walks.proofs.Walking.{refl, ◌∙◌, Bool, ℕ, List, [], length, lit<, w32, w64, Val, vint, vbool, Ura, SProp, id⊢, ftrue, Memory, Routine, WpFn, Tables, fm_of, Sq, prop, !, ‵, ◌$◌, agg, look, init, stop, from, load, addr, lit, of_opd, and_then, no_more, assigns, land, returns, params1, pass1, pass0, free0, Fun, tables, tables_of, bool, u32, u64, usize, yes, Is, only, uint_vals, uint_Tells, uint_Makes, bool_vals, bool_Tells, plain, Meets, triple_of, Triple, entered, cited, big-lit, enters, used, room, in-seq}
+use Rattle.state.proofs.Prelude.{arith}
 use lib.ListN.{replicate, length-replicate, take, drop, length-take}
 use lib.Seq.{length_front}
 use types.Logic.{Logic}

@@ -1,6 +1,7 @@
 -- Functions of `worked_parts` that a walk calls, each in one step: adopt-blocks-step, block-at-step, blocks-of-step, found-with-step, join-sides-step, look-step, no-options-step, seen-with-step, state-of-step, state-of-first-step, state-of-second-step. Written by tools/walks.
 -- Assumes `Logic`, the callee's theorem, and that the table of calls is monotone under a frame.
-use Rattle.walks.proofs.Walking.{◌≡◌, refl, sym, ◌∙◌, ap, subst, ℕ, ◌<◌, ◌≤◌, ◌^◌, List, [], ◌∷◌, length, w32, w64, Operand, Val, vint, Fits, to_z, Ura, SProp, emp, id⊢, Memory, Routine, Env, Calls, Item, Goal, Seq, ‵, ◌⊛◌, Opds, Fun, fact_i, u32, u64, usize, i32, yes, Is, Ises, owns_make, uint_Makes, plain, sint_Makes, only, triple_of, Contract, Triple, Loan, lent, slice_of, signed, Site, plain-call, mut2-call}
+use Rattle.std.specs.Prelude.{◌≡◌, ◌<◌, ◌≤◌, ◌^◌, ◌∷◌}
+use Rattle.walks.proofs.Walking.{refl, sym, ◌∙◌, ap, subst, ℕ, List, [], length, w32, w64, Operand, Val, vint, Fits, to_z, Ura, SProp, emp, id⊢, Memory, Routine, Env, Calls, Item, Goal, Seq, ‵, ◌⊛◌, Opds, Fun, fact_i, u32, u64, usize, i32, yes, Is, Ises, owns_make, uint_Makes, plain, sint_Makes, only, triple_of, Contract, Triple, Loan, lent, slice_of, signed, Site, plain-call, mut2-call}
 use Rattle.worked_parts.specs.contracts.joins.Side as T-Side
 use Rattle.worked_parts.proofs.joins.Side.TheLaws as L-Side
 use denote.Struct.Laws as LL

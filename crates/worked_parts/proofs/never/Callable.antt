@@ -1,6 +1,7 @@
 -- Functions of `worked_parts` that a walk calls, each in one step: left-with-step. Written by tools/walks.
 -- Assumes `Logic`, the callee's theorem, and that the table of calls is monotone under a frame.
-use Rattle.walks.proofs.Walking.{◌≡◌, refl, subst, ℕ, ◌<◌, ◌^◌, List, [], ◌∷◌, w32, Operand, Val, vint, Ura, SProp, id⊢, Memory, Routine, Env, Calls, Item, Goal, Seq, Opds, Fun, u32, yes, Is, Ises, owns_make, uint_Makes, plain, triple_of, Contract, Triple, Site, plain-call}
+use Rattle.std.specs.Prelude.{◌≡◌, ◌<◌, ◌^◌, ◌∷◌}
+use Rattle.walks.proofs.Walking.{refl, subst, ℕ, List, [], w32, Operand, Val, vint, Ura, SProp, id⊢, Memory, Routine, Env, Calls, Item, Goal, Seq, Opds, Fun, u32, yes, Is, Ises, owns_make, uint_Makes, plain, triple_of, Contract, Triple, Site, plain-call}
 use Rattle.layer.specs.contracts.Reply as T-Reply
 use Rattle.layer.proofs.Reply.TheLaws as L-Reply
 use denote.Struct.Laws as LL

@@ -1,5 +1,6 @@
 -- `claiming::grants::asks_commit` meets its contract. Assumes nothing.
-use Rattle.state.proofs.Prelude.{sym, ap, Bool, not, ◌&&◌}
+use Rattle.std.specs.Prelude.{◌&&◌}
+use Rattle.state.proofs.Prelude.{sym, ap, Bool, not}
 use Rattle.claiming.proofs.grants.asks_commit.Statement.{statement}
 use Rattle.claiming.proofs.grants.asks_commit.Tie as tie
 

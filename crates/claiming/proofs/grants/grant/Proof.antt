@@ -1,6 +1,7 @@
 -- `claiming::grants::grant` meets its contract: a walk of its MIR. What the definition reads of the record is read before it is stored.
 -- Written by tools/walks. Assumes nothing.
-use Rattle.walks.proofs.Walking.{◌≡◌, refl, Bool, not, ℕ, ◌<◌, ◌+◌, ◌*◌, ◌^◌, List, [], ◌∷◌, length, get_or, set, w64, Val, vint, vbool, is_true, is_false, Ura, SProp, emp, id⊢, Lft, GName, Share, ftrue, Memory, Routine, WpFn, Tables, fm_of, Sq, prop, !, ‵, ◌⊛◌, ◌$◌, agg, whole, sub, look_in, look, init, stop, hop, fld, from, load, addr, and_then, no_more, assigns, land, returns, returns_within, params1, pass1, pass0, free0, Fun, fact_i, tables, tables_of, bool, usize, yes, Is, Nothing-Lawful, uint_vals, uint_Tells, bool_vals, bool_Tells, plain, Meets, triple_of, Triple, entered, cited, Loan, Known, lent, slice_of, enters, used, room, in-local, if-else, arg, arg-fits, in-seq}
+use Rattle.std.specs.Prelude.{◌≡◌, ◌<◌, ◌+◌, ◌*◌, ◌^◌, ◌∷◌}
+use Rattle.walks.proofs.Walking.{refl, Bool, not, ℕ, List, [], length, get_or, set, w64, Val, vint, vbool, is_true, is_false, Ura, SProp, emp, id⊢, Lft, GName, Share, ftrue, Memory, Routine, WpFn, Tables, fm_of, Sq, prop, !, ‵, ◌⊛◌, ◌$◌, agg, whole, sub, look_in, look, init, stop, hop, fld, from, load, addr, and_then, no_more, assigns, land, returns, returns_within, params1, pass1, pass0, free0, Fun, fact_i, tables, tables_of, bool, usize, yes, Is, Nothing-Lawful, uint_vals, uint_Tells, bool_vals, bool_Tells, plain, Meets, triple_of, Triple, entered, cited, Loan, Known, lent, slice_of, enters, used, room, in-local, if-else, arg, arg-fits, in-seq}
 use Rattle.layer.specs.contracts.State as T-State
 use Rattle.layer.proofs.State.TheLaws as L-State
 use denote.Struct.Laws as LL

@@ -1,5 +1,6 @@
 -- `claiming::misses::may_reserve` meets its contract. The machine holds the id's bits, and reads back the id that came in. Assumes nothing.
-use Rattle.state.proofs.Prelude.{◌≡◌, sym, ap, ◌∙◌, true, pos, le_z, is_negative}
+use Rattle.std.specs.Prelude.{◌≡◌}
+use Rattle.state.proofs.Prelude.{sym, ap, ◌∙◌, true, pos, le_z, is_negative}
 use mir.Facts.{to_z-of_z}
 use Rattle.claiming.proofs.MissLaws.{named, unnamed, reserve-not-named, reserve-small, reserve-mark}
 use Rattle.claiming.proofs.misses.may_reserve.Statement.{statement}

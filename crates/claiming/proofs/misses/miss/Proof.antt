@@ -1,5 +1,6 @@
 -- `claiming::misses::miss` meets its contract. Assumes nothing.
-use Rattle.state.proofs.Prelude.{◌≡◌, sym, ap, ◌∙◌, true, not, ◌&&◌, needs, not-true, not-false, leb, ℤ, is_negative}
+use Rattle.std.specs.Prelude.{◌≡◌, ◌&&◌}
+use Rattle.state.proofs.Prelude.{sym, ap, ◌∙◌, true, not, needs, not-true, not-false, leb, ℤ, is_negative}
 use mir.Facts.{to_z-of_z}
 use Rattle.claiming.proofs.MissLaws.{miss-plain, miss-gives-up, miss-asks}
 use Rattle.claiming.proofs.misses.miss.Statement.{statement}

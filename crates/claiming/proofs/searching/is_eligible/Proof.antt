@@ -1,5 +1,6 @@
 -- `claiming::searching::is_eligible` meets its contract. The machine holds the id's bits, and reads back the id that came in. Assumes nothing.
-use Rattle.state.proofs.Prelude.{◌≡◌, sym, ap, ◌∙◌, subst, false, not, T, eqb, ℤ, pos, nat_abs, lt_z, non_neg}
+use Rattle.std.specs.Prelude.{◌≡◌}
+use Rattle.state.proofs.Prelude.{sym, ap, ◌∙◌, subst, false, not, T, eqb, ℤ, pos, nat_abs, lt_z, non_neg}
 use mir.Syntax.{w64}
 use mir.Val.{Fits}
 use mir.Facts.{to_z-of_z}

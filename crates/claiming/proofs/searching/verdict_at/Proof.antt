@@ -1,6 +1,7 @@
 -- `claiming::searching::verdict_at` meets its contract: a walk of its MIR. By what the head says, and else by the map of used chunks.
 -- Written by tools/walks. Assumes nothing.
-use Rattle.walks.proofs.Walking.{◌≡◌, refl, subst, Bool, ℕ, ◌<◌, ◌≤◌, ◌^◌, List, [], ◌∷◌, ltb, ℤ, length, get_or, w32, w64, Val, vint, Fits, to_z, of_z, to_z-of_z, of_z_fits, T_not-not, is_true, is_false, Ura, SProp, emp, id⊢, Lft, GName, Share, ftrue, Memory, Routine, WpFn, Tables, fm_of, Sq, prop, !, ‵, ◌⊛◌, ◌$◌, agg, look, init, stop, from, lit, un, and_then, no_more, assigns, land, returns, returns_within, params1, pass1, pass0, free0, Fun, fact_i, tables, tables_of, usize, i32, yes, uint_vals, uint_Tells, plain, sint_vals, sint_Tells, Meets, triple_of, Triple, entered, cited, Loan, Known, shared, slice_of, enters, used, room, if-else, arg, arg-fits, in-seq}
+use Rattle.std.specs.Prelude.{◌≡◌, ◌<◌, ◌≤◌, ◌^◌, ◌∷◌}
+use Rattle.walks.proofs.Walking.{refl, subst, Bool, ℕ, List, [], ltb, ℤ, length, get_or, w32, w64, Val, vint, Fits, to_z, of_z, to_z-of_z, of_z_fits, T_not-not, is_true, is_false, Ura, SProp, emp, id⊢, Lft, GName, Share, ftrue, Memory, Routine, WpFn, Tables, fm_of, Sq, prop, !, ‵, ◌⊛◌, ◌$◌, agg, look, init, stop, from, lit, un, and_then, no_more, assigns, land, returns, returns_within, params1, pass1, pass0, free0, Fun, fact_i, tables, tables_of, usize, i32, yes, uint_vals, uint_Tells, plain, sint_vals, sint_Tells, Meets, triple_of, Triple, entered, cited, Loan, Known, shared, slice_of, enters, used, room, if-else, arg, arg-fits, in-seq}
 use Rattle.arena.specs.contracts.Arena as T-Arena
 use denote.Struct.Laws as LL
 use Rattle.claiming.specs.contracts.verdicts.Verdict as T-Verdict

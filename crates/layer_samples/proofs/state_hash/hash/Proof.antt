@@ -1,5 +1,6 @@
 -- `layer_samples::state_hash::hash` meets its contract: a walk of its MIR, by hand. Before each turn h is the hash with the arenas passed. Assumes nothing.
-use Rattle.state.proofs.Prelude.{◌≡◌, refl, sym, ap, ◌∙◌, ℕ, ◌+◌, ◌-◌, ◌<◌, ◌≤◌, ◌^◌, add-one, arith, not, List, [], ◌∷◌, T as Holds, ltb, ltb→lt, nltb→le, lit<, length, get_or, Arena, State, blank}
+use Rattle.std.specs.Prelude.{◌≡◌, ◌+◌, ◌-◌, ◌<◌, ◌≤◌, ◌^◌, ◌∷◌}
+use Rattle.state.proofs.Prelude.{refl, sym, ap, ◌∙◌, ℕ, add-one, arith, not, List, [], T as Holds, ltb, ltb→lt, nltb→le, lit<, length, get_or, Arena, State, blank}
 use seplogic.Ra.Ura.{Ura}
 use seplogic.Ra.TreeShare.{full_share}
 use mir.Syntax.{Ty, w32, w64, ty_int, ty_ref, named, imm}

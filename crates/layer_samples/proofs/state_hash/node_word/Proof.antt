@@ -1,5 +1,6 @@
 -- `layer_samples::state_hash::node_word` meets its contract. The machine holds the node's bits, and reads back the node that came in. Assumes nothing.
-use Rattle.state.proofs.Prelude.{◌≡◌, refl, sym, ap, ◌∙◌, subst, true, false, true≢false, suc, ◌-◌, ◌≤◌, ◌^◌, arith, ltb-true, T, ℤ, pos, negsuc, nat_abs, lt_z, non_neg}
+use Rattle.std.specs.Prelude.{◌≡◌, ◌-◌, ◌≤◌, ◌^◌}
+use Rattle.state.proofs.Prelude.{refl, sym, ap, ◌∙◌, subst, true, false, true≢false, suc, arith, ltb-true, T, ℤ, pos, negsuc, nat_abs, lt_z, non_neg}
 use mir.Syntax.{w32}
 use mir.Val.{Fits, SFits, to_z, of_z}
 use mir.Facts.{to_z-of_z}

@@ -1,5 +1,6 @@
 -- `layer_samples::state_hash::of_state` meets its contract. Assumes nothing.
-use Rattle.state.proofs.Prelude.{ap, ◌∙◌, ℕ, ◌%◌}
+use Rattle.std.specs.Prelude.{◌%◌}
+use Rattle.state.proofs.Prelude.{ap, ◌∙◌, ℕ}
 use Rattle.surface.specs.declared.StateNumbers.{StateNumbers}
 use Rattle.samples.specs.Hash.{with_word}
 use Rattle.layer_samples.specs.StateHash.{of_state}

@@ -1,5 +1,6 @@
 -- `registering::adopting::is_whole` meets its contract. Assumes nothing.
-use Rattle.state.proofs.Prelude.{sym, ◌%◌, eq-eqb, ne_eqb, needs}
+use Rattle.std.specs.Prelude.{◌%◌}
+use Rattle.state.proofs.Prelude.{sym, eq-eqb, ne_eqb, needs}
 use Rattle.registering.proofs.TestLaws.{and_first, and_second}
 use Rattle.registering.proofs.adopting.is_whole.Statement.{statement}
 use Rattle.registering.proofs.adopting.is_whole.Tie as tie

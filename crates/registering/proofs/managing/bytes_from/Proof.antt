@@ -1,5 +1,6 @@
 -- `registering::managing::bytes_from` meets its contract. Assumes nothing.
-use Rattle.state.proofs.Prelude.{◌+◌, ◌*◌, ◌/◌, ◌<◌, arith, needs, first_whole, past_whole}
+use Rattle.std.specs.Prelude.{◌+◌, ◌*◌, ◌/◌, ◌<◌}
+use Rattle.state.proofs.Prelude.{arith, needs, first_whole, past_whole}
 use Rattle.registering.proofs.WholeLaws.{whole-facts, past_fits}
 use Rattle.registering.proofs.managing.bytes_from.Statement.{statement}
 use Rattle.registering.proofs.managing.bytes_from.Tie as tie

@@ -1,5 +1,6 @@
 -- `registering::managing::first_whole` meets its contract. Assumes nothing.
-use Rattle.state.proofs.Prelude.{ap, ℕ, ◌*◌, ◌<◌, arith, needs, first_whole}
+use Rattle.std.specs.Prelude.{◌*◌, ◌<◌}
+use Rattle.state.proofs.Prelude.{ap, ℕ, arith, needs, first_whole}
 use Rattle.registering.proofs.WholeLaws.{base-fits}
 use Rattle.registering.proofs.managing.first_whole.Statement.{statement}
 use Rattle.registering.proofs.managing.first_whole.Tie as tie

@@ -1,6 +1,7 @@
 -- `registering::managing::manage_new` meets its contract: a walk of its MIR. 12 and 13, then the record and its stamps.
 -- Written by tools/walks. Assumes nothing.
-use Rattle.walks.proofs.Walking.{refl, subst, Bool, ℕ, ◌<◌, ◌^◌, List, [], ◌∷◌, leb, ℤ, length, w32, w64, Val, vint, vbool, Fits, to_z, of_z, to_z-of_z, of_z_fits, is_true, is_false, Ura, SProp, emp, id⊢, Lft, GName, Share, ftrue, Memory, Routine, WpFn, Tables, fm_of, Sq, prop, !, ‵, ◌⊛◌, ◌$◌, agg, whole, sub, look_in, look, init, stop, hop, fld, from, load, addr, lit, of_opd, and_then, no_more, assigns, land, returns, returns_within, params1, pass1, pass0, free0, Fun, fact_i, tables, tables_of, bool, u32, u64, i32, yes, Is, Nothing-Lawful, uint_vals, uint_Tells, bool_vals, bool_Tells, plain, sint_vals, sint_Tells, Meets, triple_of, Triple, entered, cited, Loan, Known, lent, slice_of, enters, used, room, in-local, if-else, arg, arg-fits, entry-fits, in-seq}
+use Rattle.std.specs.Prelude.{◌<◌, ◌^◌, ◌∷◌}
+use Rattle.walks.proofs.Walking.{refl, subst, Bool, ℕ, List, [], leb, ℤ, length, w32, w64, Val, vint, vbool, Fits, to_z, of_z, to_z-of_z, of_z_fits, is_true, is_false, Ura, SProp, emp, id⊢, Lft, GName, Share, ftrue, Memory, Routine, WpFn, Tables, fm_of, Sq, prop, !, ‵, ◌⊛◌, ◌$◌, agg, whole, sub, look_in, look, init, stop, hop, fld, from, load, addr, lit, of_opd, and_then, no_more, assigns, land, returns, returns_within, params1, pass1, pass0, free0, Fun, fact_i, tables, tables_of, bool, u32, u64, i32, yes, Is, Nothing-Lawful, uint_vals, uint_Tells, bool_vals, bool_Tells, plain, sint_vals, sint_Tells, Meets, triple_of, Triple, entered, cited, Loan, Known, lent, slice_of, enters, used, room, in-local, if-else, arg, arg-fits, entry-fits, in-seq}
 use Rattle.layer.specs.contracts.State as T-State
 use Rattle.layer.proofs.State.TheLaws as L-State
 use denote.Struct.Laws as LL

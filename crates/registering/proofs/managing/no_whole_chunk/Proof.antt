@@ -1,5 +1,6 @@
 -- `registering::managing::no_whole_chunk` meets its contract. Assumes nothing.
-use Rattle.state.proofs.Prelude.{sym, ap, ◌∙◌, arith, ℕ, ◌+◌, ◌/◌, leb, needs}
+use Rattle.std.specs.Prelude.{◌+◌, ◌/◌}
+use Rattle.state.proofs.Prelude.{sym, ap, ◌∙◌, arith, ℕ, leb, needs}
 use Rattle.registering.proofs.WholeLaws.{none_at_zero, none-so-long, none-so-late, none_inside}
 use Rattle.registering.proofs.managing.no_whole_chunk.Statement.{statement}
 use Rattle.registering.proofs.managing.no_whole_chunk.Tie as tie

@@ -1,6 +1,7 @@
 -- `registering::ranges::range_bad` meets its contract: a walk of its MIR. The ends first, then the arenas.
 -- Written by tools/walks. Assumes nothing.
-use Rattle.walks.proofs.Walking.{◌≡◌, refl, Bool, true, ℕ, ◌<◌, ◌+◌, ◌^◌, List, [], ◌∷◌, eqb, leb, length, w64, Val, vint, vbool, is_true, is_false, Ura, SProp, emp, id⊢, Lft, GName, Share, ftrue, Memory, Routine, WpFn, Tables, fm_of, Sq, prop, !, ‵, ◌⊛◌, ◌$◌, look, init, stop, from, true_lit, of_opd, and_then, no_more, assigns, land, returns, returns_within, params1, pass1, pass0, free0, Fun, fact_i, tables, tables_of, bool, u64, usize, yes, uint_vals, uint_Tells, bool_Makes, plain, Meets, triple_of, Triple, entered, cited, Loan, Known, shared, slice_of, enters, used, if-else, arg, arg-fits, in-seq}
+use Rattle.std.specs.Prelude.{◌≡◌, ◌<◌, ◌+◌, ◌^◌, ◌∷◌}
+use Rattle.walks.proofs.Walking.{refl, Bool, true, ℕ, List, [], eqb, leb, length, w64, Val, vint, vbool, is_true, is_false, Ura, SProp, emp, id⊢, Lft, GName, Share, ftrue, Memory, Routine, WpFn, Tables, fm_of, Sq, prop, !, ‵, ◌⊛◌, ◌$◌, look, init, stop, from, true_lit, of_opd, and_then, no_more, assigns, land, returns, returns_within, params1, pass1, pass0, free0, Fun, fact_i, tables, tables_of, bool, u64, usize, yes, uint_vals, uint_Tells, bool_Makes, plain, Meets, triple_of, Triple, entered, cited, Loan, Known, shared, slice_of, enters, used, if-else, arg, arg-fits, in-seq}
 use Rattle.arena.specs.contracts.Arena as T-Arena
 use Rattle.arena.specs.declared.Arena.{Arena}
 use Rattle.layer.specs.Table.{bad_range, overlaps}

@@ -1,5 +1,6 @@
 -- `registering::reserving::bytes_asked` meets its contract. Assumes nothing.
-use Rattle.state.proofs.Prelude.{sym, ap, ◌∙◌, ℕ, ◌+◌, ◌*◌, ◌<◌, arith, eq-eqb, ne_eqb, chunks_for, when, unless}
+use Rattle.std.specs.Prelude.{◌+◌, ◌*◌, ◌<◌}
+use Rattle.state.proofs.Prelude.{sym, ap, ◌∙◌, ℕ, arith, eq-eqb, ne_eqb, chunks_for, when, unless}
 use Rattle.layer.specs.Registering.{bytes_asked}
 use Rattle.registering.proofs.ReserveLaws.{not-too-large}
 use Rattle.registering.proofs.reserving.bytes_asked.Statement.{statement}

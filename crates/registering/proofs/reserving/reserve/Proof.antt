@@ -1,5 +1,6 @@
 -- `registering::reserving::reserve` meets its contract. Assumes nothing.
-use Rattle.state.proofs.Prelude.{◌≡◌, sym, ap, ◌∙◌, ℕ, arith, needs, ChunkCount, when, unless, Question, Reserve, size_of, turn_down, state_with, too_large, ask_memory, reserve_reply}
+use Rattle.std.specs.Prelude.{◌≡◌}
+use Rattle.state.proofs.Prelude.{sym, ap, ◌∙◌, ℕ, arith, needs, ChunkCount, when, unless, Question, Reserve, size_of, turn_down, state_with, too_large, ask_memory, reserve_reply}
 use Rattle.registering.proofs.reserving.reserve.Statement.{statement}
 use Rattle.registering.proofs.reserving.reserve.Tie as tie
 

@@ -1,5 +1,6 @@
 -- `registering::reserving::too_large` meets its contract. Assumes nothing.
-use Rattle.state.proofs.Prelude.{ap, ◌∙◌, ℕ, ◌/◌, leb, needs}
+use Rattle.std.specs.Prelude.{◌/◌}
+use Rattle.state.proofs.Prelude.{ap, ◌∙◌, ℕ, leb, needs}
 use Rattle.registering.proofs.ReserveLaws.{too-large-test}
 use Rattle.registering.proofs.reserving.too_large.Statement.{statement}
 use Rattle.registering.proofs.reserving.too_large.Tie as tie

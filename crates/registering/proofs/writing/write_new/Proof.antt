@@ -1,6 +1,7 @@
 -- `registering::writing::write_new` meets its contract: a walk of its MIR. The record, then its stamps.
 -- Written by tools/walks. Assumes nothing.
-use Rattle.walks.proofs.Walking.{◌≡◌, refl, ℕ, ◌<◌, ◌+◌, ◌*◌, ◌^◌, List, [], ◌∷◌, lit<, length, set, w64, Val, vint, Ura, SProp, emp, id⊢, Lft, GName, Share, ftrue, Memory, Routine, WpFn, Tables, fm_of, Sq, prop, !, ‵, ◌⊛◌, ◌$◌, agg, whole, sub, look_in, look, init, store, stop, hop, fld, from, load, addr, of_opd, and_then, no_more, assigns, land, returns, params1, pass1, pass0, free0, Fun, fact_i, tables, tables_of, u32, usize, yes, Is, Nothing, Nothing-Lawful, Nothing-Makes, uint_vals, uint_Tells, plain, Meets, triple_of, Triple, entered, cited, big-lit, Loan, Known, lent, slice_of, enters, used, in-local, arg, arg-fits, in-seq, swaps}
+use Rattle.std.specs.Prelude.{◌≡◌, ◌<◌, ◌+◌, ◌*◌, ◌^◌, ◌∷◌}
+use Rattle.walks.proofs.Walking.{refl, ℕ, List, [], lit<, length, set, w64, Val, vint, Ura, SProp, emp, id⊢, Lft, GName, Share, ftrue, Memory, Routine, WpFn, Tables, fm_of, Sq, prop, !, ‵, ◌⊛◌, ◌$◌, agg, whole, sub, look_in, look, init, store, stop, hop, fld, from, load, addr, of_opd, and_then, no_more, assigns, land, returns, params1, pass1, pass0, free0, Fun, fact_i, tables, tables_of, u32, usize, yes, Is, Nothing, Nothing-Lawful, Nothing-Makes, uint_vals, uint_Tells, plain, Meets, triple_of, Triple, entered, cited, big-lit, Loan, Known, lent, slice_of, enters, used, in-local, arg, arg-fits, in-seq, swaps}
 use types.Logic.{Logic}
 use types.Run.{unit_lit}
 use mir.Val.{vunit}

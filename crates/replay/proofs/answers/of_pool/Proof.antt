@@ -1,5 +1,6 @@
 -- `replay::answers::of_pool` meets its contract. Assumes nothing.
-use Rattle.walks.proofs.Prelude.{needs, ne_eqb, arith, ◌≡◌, sym, ap, ◌∙◌, cond, ℕ, eqb}
+use Rattle.std.specs.Prelude.{◌≡◌}
+use Rattle.walks.proofs.Prelude.{needs, ne_eqb, arith, sym, ap, ◌∙◌, cond, ℕ, eqb}
 use Rattle.replay.specs.Answers.{address_of, done_of, of_pool, left_pool}
 use Rattle.replay.proofs.answers.of_pool.Statement.{statement}
 use Rattle.replay.proofs.answers.of_pool.Tie as tie

@@ -1,5 +1,6 @@
 -- `replay::pool::clear` meets its contract: each word passed is 0. Assumes nothing.
-use Rattle.walks.proofs.Prelude.{needs, ◌≡◌, refl, ℕ, ◌≤◌, ◌<◌, ◌-◌, arith, length, get_or, length-set}
+use Rattle.std.specs.Prelude.{◌≡◌, ◌≤◌, ◌<◌, ◌-◌}
+use Rattle.walks.proofs.Prelude.{needs, refl, ℕ, arith, length, get_or, length-set}
 use Rattle.replay.proofs.ClearLaws.{clear-one, all-clear}
 use Rattle.replay.proofs.pool.clear.Statement.{statement}
 use Rattle.replay.proofs.pool.clear.Tie as tie

@@ -1,5 +1,6 @@
 -- `samples::hash::with_words` meets its contract: before each turn g is the hash with the words passed. Assumes nothing.
-use Rattle.walks.proofs.Prelude.{needs, ◌≡◌, refl, sym, ap, ◌∙◌, ℕ, ◌+◌, ◌≤◌, ◌-◌, add-one, get_or, arith}
+use Rattle.std.specs.Prelude.{◌≡◌, ◌+◌, ◌≤◌, ◌-◌}
+use Rattle.walks.proofs.Prelude.{needs, refl, sym, ap, ◌∙◌, ℕ, add-one, get_or, arith}
 use Rattle.samples.specs.Hash.{with_word, with_words}
 use Rattle.samples.proofs.hash.with_words.Statement.{statement}
 use Rattle.samples.proofs.hash.with_words.Tie as tie

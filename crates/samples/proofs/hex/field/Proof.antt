@@ -1,5 +1,6 @@
 -- `samples::hex::field` meets its contract: before each turn the number stands for the digits that were read. Assumes nothing.
-use Rattle.walks.proofs.Prelude.{needs, ◌≡◌, sym, ap, ◌∙◌, subst, ◌≤◌, ◌-◌, arith}
+use Rattle.std.specs.Prelude.{◌≡◌, ◌≤◌, ◌-◌}
+use Rattle.walks.proofs.Prelude.{needs, sym, ap, ◌∙◌, subst, arith}
 use Rattle.samples.specs.declared.hex.Number.{Number}
 use Rattle.samples.specs.Hex.{Below, digits_at}
 use Rattle.samples.proofs.hex.HexLaws.{digit-below, digits-room, next-digit}

@@ -1,5 +1,6 @@
 -- `samples::signed::narrow` meets its contract. Assumes nothing.
-use Rattle.walks.proofs.Prelude.{◌≡◌, ap, ◌∙◌, suc, ◌-◌, ◌%◌, arith, lt-ltb, le-ltb, negsuc, needs}
+use Rattle.std.specs.Prelude.{◌≡◌, ◌-◌, ◌%◌}
+use Rattle.walks.proofs.Prelude.{ap, ◌∙◌, suc, arith, lt-ltb, le-ltb, negsuc, needs}
 use mir.Syntax.{w32}
 use mir.Val.{to_z}
 use Rattle.samples.specs.Signed.{narrow_of}

@@ -1,5 +1,6 @@
 -- `samples::signed::wide` meets its contract. Assumes nothing.
-use Rattle.walks.proofs.Prelude.{◌≡◌, ap, ◌∙◌, suc, ◌-◌, arith, lt-ltb, le-ltb, negsuc, needs}
+use Rattle.std.specs.Prelude.{◌≡◌, ◌-◌}
+use Rattle.walks.proofs.Prelude.{ap, ◌∙◌, suc, arith, lt-ltb, le-ltb, negsuc, needs}
 use mir.Syntax.{w64}
 use mir.Val.{to_z}
 use Rattle.samples.specs.Signed.{signed_of}

@@ -1,6 +1,7 @@
 -- `worked_parts::joins::adopt_blocks` meets its contract: a walk of its MIR. Block after block.
 -- Written by tools/walks. Assumes nothing.
-use Rattle.walks.proofs.Walking.{◌≡◌, refl, ◌∙◌, subst, ℕ, ◌<◌, ◌≤◌, ◌+◌, ◌^◌, List, [], ◌∷◌, lit<, length, w64, Val, vint, Ura, full_share, SProp, emp, Lft, GName, Share, ftrue, Memory, Routine, Env, WpFn, Tables, fm_of, Item, Sq, prop, !, ‵, ◌⊛◌, ◌$◌, agg, whole, sub, look_in, look, init, store, stop, hop, fld, from, load, addr, lit, of_opd, bin, and_then, no_more, assigns, land, returns, params1, pass1, pass0, free0, Fun, fact_i, tables, tables_of, u32, yes, Is, plain, Meets, triple_of, Triple, entered, cited, big-lit, Loan, Known, lent, slice_of, enters, used, room, in-local, arg, arg-fits, in-seq}
+use Rattle.std.specs.Prelude.{◌≡◌, ◌<◌, ◌≤◌, ◌+◌, ◌^◌, ◌∷◌}
+use Rattle.walks.proofs.Walking.{refl, ◌∙◌, subst, ℕ, List, [], lit<, length, w64, Val, vint, Ura, full_share, SProp, emp, Lft, GName, Share, ftrue, Memory, Routine, Env, WpFn, Tables, fm_of, Item, Sq, prop, !, ‵, ◌⊛◌, ◌$◌, agg, whole, sub, look_in, look, init, store, stop, hop, fld, from, load, addr, lit, of_opd, bin, and_then, no_more, assigns, land, returns, params1, pass1, pass0, free0, Fun, fact_i, tables, tables_of, u32, yes, Is, plain, Meets, triple_of, Triple, entered, cited, big-lit, Loan, Known, lent, slice_of, enters, used, room, in-local, arg, arg-fits, in-seq}
 use Rattle.worked_parts.specs.contracts.joins.Side as T-Side
 use Rattle.worked_parts.proofs.joins.Side.TheLaws as L-Side
 use denote.Struct.Laws as LL

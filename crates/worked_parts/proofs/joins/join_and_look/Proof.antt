@@ -1,6 +1,7 @@
 -- `worked_parts::joins::join_and_look` meets its contract: a walk of its MIR. The join, then each of the two tables.
 -- Written by tools/walks. Assumes nothing.
-use Rattle.walks.proofs.Walking.{◌≡◌, refl, ◌∙◌, subst, ℕ, ◌<◌, ◌^◌, List, [], ◌∷◌, ℤ, length, w32, w64, Val, vint, Fits, to_z, of_z, to_z-of_z, of_z_fits, Ura, SProp, emp, Lft, GName, Share, ftrue, Memory, Routine, WpFn, Tables, fm_of, Sq, prop, !, ‵, ◌⊛◌, ◌$◌, agg, whole, sub, look_in, look, init, stop, hop, fld, from, load, addr, and_then, no_more, assigns, land, returns, params1, pass1, pass0, free0, Fun, fact_i, tables, tables_of, u32, u64, i32, yes, Is, uint_vals, uint_Tells, plain, sint_vals, sint_Tells, Meets, triple_of, Triple, entered, cited, Loan, Known, lent, slice_of, enters, used, in-local, arg, arg-fits, in-seq}
+use Rattle.std.specs.Prelude.{◌≡◌, ◌<◌, ◌^◌, ◌∷◌}
+use Rattle.walks.proofs.Walking.{refl, ◌∙◌, subst, ℕ, List, [], ℤ, length, w32, w64, Val, vint, Fits, to_z, of_z, to_z-of_z, of_z_fits, Ura, SProp, emp, Lft, GName, Share, ftrue, Memory, Routine, WpFn, Tables, fm_of, Sq, prop, !, ‵, ◌⊛◌, ◌$◌, agg, whole, sub, look_in, look, init, stop, hop, fld, from, load, addr, and_then, no_more, assigns, land, returns, params1, pass1, pass0, free0, Fun, fact_i, tables, tables_of, u32, u64, i32, yes, Is, uint_vals, uint_Tells, plain, sint_vals, sint_Tells, Meets, triple_of, Triple, entered, cited, Loan, Known, lent, slice_of, enters, used, in-local, arg, arg-fits, in-seq}
 use Rattle.worked_parts.specs.contracts.joins.Side as T-Side
 use Rattle.worked_parts.proofs.joins.Side.TheLaws as L-Side
 use denote.Struct.Laws as LL

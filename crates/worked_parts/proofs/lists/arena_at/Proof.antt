@@ -1,6 +1,7 @@
 -- `worked_parts::lists::arena_at` meets its contract: a walk of its MIR. The record at an id.
 -- Written by tools/walks. Assumes nothing.
-use Rattle.walks.proofs.Walking.{◌≡◌, refl, ℕ, ◌<◌, ◌^◌, List, [], ◌∷◌, length, get_or, w64, Val, vint, Ura, SProp, emp, Lft, GName, Share, ftrue, Memory, Routine, WpFn, Tables, fm_of, Sq, prop, !, ‵, ◌⊛◌, ◌$◌, look, init, stop, from, and_then, no_more, land, returns, params1, pass1, pass0, free0, Fun, fact_i, tables, tables_of, usize, yes, uint_vals, uint_Tells, plain, Meets, triple_of, Triple, entered, cited, Loan, Known, shared, slice_of, enters, used, arg, arg-fits, in-seq}
+use Rattle.std.specs.Prelude.{◌≡◌, ◌<◌, ◌^◌, ◌∷◌}
+use Rattle.walks.proofs.Walking.{refl, ℕ, List, [], length, get_or, w64, Val, vint, Ura, SProp, emp, Lft, GName, Share, ftrue, Memory, Routine, WpFn, Tables, fm_of, Sq, prop, !, ‵, ◌⊛◌, ◌$◌, look, init, stop, from, and_then, no_more, land, returns, params1, pass1, pass0, free0, Fun, fact_i, tables, tables_of, usize, yes, uint_vals, uint_Tells, plain, Meets, triple_of, Triple, entered, cited, Loan, Known, shared, slice_of, enters, used, arg, arg-fits, in-seq}
 use Rattle.arena.specs.contracts.Arena as T-Arena
 use Rattle.arena.proofs.Arena.TheLaws as L-Arena
 use denote.Struct.Laws as LL

@@ -1,6 +1,7 @@
 -- `worked_parts::never::release_and_sweep` meets its contract: a walk of its MIR. A release, a sweep and an answer, and what is seen between them.
 -- Written by tools/walks. Assumes nothing.
-use Rattle.walks.proofs.Walking.{◌≡◌, refl, ◌∙◌, Bool, ℕ, ◌<◌, ◌^◌, List, [], ◌∷◌, length, get_or, w64, Val, vint, vbool, Ura, SProp, emp, Lft, GName, Share, ftrue, Memory, Routine, WpFn, Tables, fm_of, Sq, prop, !, ‵, ◌⊛◌, ◌$◌, agg, whole, sub, look_in, look, init, stop, hop, fld, from, load, addr, lit, and_then, no_more, assigns, land, returns, params1, pass1, pass0, free0, Fun, fact_i, tables, tables_of, bool, u32, u64, usize, yes, Is, uint_vals, uint_Tells, bool_vals, bool_Tells, plain, Meets, triple_of, Triple, entered, cited, Loan, Known, lent, slice_of, enters, used, in-local, arg, arg-fits, in-seq, swaps}
+use Rattle.std.specs.Prelude.{◌≡◌, ◌<◌, ◌^◌, ◌∷◌}
+use Rattle.walks.proofs.Walking.{refl, ◌∙◌, Bool, ℕ, List, [], length, get_or, w64, Val, vint, vbool, Ura, SProp, emp, Lft, GName, Share, ftrue, Memory, Routine, WpFn, Tables, fm_of, Sq, prop, !, ‵, ◌⊛◌, ◌$◌, agg, whole, sub, look_in, look, init, stop, hop, fld, from, load, addr, lit, and_then, no_more, assigns, land, returns, params1, pass1, pass0, free0, Fun, fact_i, tables, tables_of, bool, u32, u64, usize, yes, Is, uint_vals, uint_Tells, bool_vals, bool_Tells, plain, Meets, triple_of, Triple, entered, cited, Loan, Known, lent, slice_of, enters, used, in-local, arg, arg-fits, in-seq, swaps}
 use Rattle.layer.specs.contracts.State as T-State
 use Rattle.layer.proofs.State.TheLaws as L-State
 use denote.Struct.Laws as LL

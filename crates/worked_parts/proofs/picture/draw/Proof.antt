@@ -1,5 +1,6 @@
 -- `worked_parts::picture::draw` meets its contract: each character passed is a mark. The measure is what is left of them. Assumes nothing.
-use Rattle.walks.proofs.Prelude.{needs, below_more, ◌≡◌, ◌∙◌, sym, ◌≤◌, ◌-◌, arith, length, length-set, get_or-set_same, get_or-set_other}
+use Rattle.std.specs.Prelude.{◌≡◌, ◌≤◌, ◌-◌}
+use Rattle.walks.proofs.Prelude.{needs, below_more, ◌∙◌, sym, arith, length, length-set, get_or-set_same, get_or-set_other}
 use Rattle.worked_parts.specs.Picture.{Shows}
 use Rattle.worked_parts.proofs.picture.draw.Statement.{statement}
 use Rattle.worked_parts.proofs.picture.draw.Tie as tie

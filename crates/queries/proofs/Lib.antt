@@ -1,2 +1,1 @@
 pub mod QueryLaws
-pub mod Callable

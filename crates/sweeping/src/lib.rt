@@ -25,6 +25,7 @@ use table::heads::Head;
 // ---- replies
 
 // The question about chunk j of arena i.
+#[tactic(auto, unfolding(layer::specs::Sweeping::purge_reply))]
 fn purge_question(h: Head, state: State, i: usize, j: usize, w: Sweep, chunk_size: u64) -> Reply
     requires { h.base + j * chunk_size < 2 ^ 64 }
     ensures { result ≡ purge_reply chunk_size state.count state.mark w i (headed h) j }
@@ -44,6 +45,7 @@ fn purge_question(h: Head, state: State, i: usize, j: usize, w: Sweep, chunk_siz
 }
 
 // The same, its address from the record where it lies.
+#[tactic(auto, unfolding(layer::specs::Sweeping::purge_reply))]
 fn question_at(records: &[Arena], state: State, i: usize, j: usize, w: Sweep) -> Reply
     requires { (i < length records.now) × ((at records.now i).base + j * size_of state < 2 ^ 64) }
     ensures { result ≡ purge_reply (size_of state) state.count state.mark w i (at records.now i) j }
@@ -54,6 +56,7 @@ fn question_at(records: &[Arena], state: State, i: usize, j: usize, w: Sweep) ->
 }
 
 // The end of a sweep: "The count is the number of yes answers."
+#[tactic(auto, unfolding(layer::specs::Sweeping::swept_reply))]
 fn swept(state: State, w: Sweep) -> Reply
     ensures { result ≡ swept_reply state.count state.mark w }
 {
@@ -63,6 +66,7 @@ fn swept(state: State, w: Sweep) -> Reply
 // ---- at one arena
 
 // Whether a sweep works on an arena of that deadline: one is set, and has come or is forced.
+#[tactic(auto, unfolding(crate::specs::Visit::comes_due))]
 fn comes_due(due: &u32, w: Sweep) -> bool
     ensures { result ≡ comes_due due.now w }
 {
@@ -77,6 +81,7 @@ fn comes_due(due: &u32, w: Sweep) -> bool
 }
 
 // The same of the arena at an id, whose deadline is read where it lies.
+#[tactic(auto, unfolding(crate::specs::Visit::comes_due, arena::specs::Sweeping::sweep_due))]
 fn is_due_at(records: &[Arena], i: usize, w: Sweep) -> bool
     requires { i < length records.now }
     ensures { result ≡ sweep_due (at records.now i) w.force w.now }

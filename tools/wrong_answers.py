@@ -21,6 +21,7 @@ Usage: wrong_answers.py [NAME...]. With no name, all crates that have such edits
 has not proved is proved first. target/wrong/NAME/K/log has what the prover said in a check. wrong_answers_test.py tests the
 judging on recorded answers of the prover's.
 """
+import difflib
 import os
 import re
 import shutil
@@ -45,10 +46,8 @@ FACT = re.compile(
     r"|does not hold \(this comparison|the two (?:types|values) (?:first differ|differ|are)|expected type `[^`]*`,? *\n? *but this has type"
 )
 
-# A goal, or a fact of one, that is called otherwise in the edited code, and how.
-RENAMED = re.compile(
-    r"has no (?:field )?`([^`]+)`[^\n]*?(?:did you mean `([^`]+)`\?|begin alike: `([^`]+)`|can be named here are ([^\n]*))"
-)
+# A goal, or a fact of one, that is called otherwise in the edited code.
+RENAMED = re.compile(r"has no (?:field )?`([^`]+)`")
 
 
 class Edit:
@@ -80,11 +79,6 @@ class Edit:
 
     def clear_of(self, other):
         return not (self.wrong & other.wrong or self.wrong & other.callers or other.wrong & self.callers)
-
-
-def answers(crate, function):
-    """The folder of what is written for a function's proof."""
-    return crate / "proofs" / function.replace("::", "/")
 
 
 def make(crate, group):
@@ -213,7 +207,7 @@ def shown(reason):
     return "fact" if FACT.search(reason) else "nothing"
 
 
-def shown_of(name, crate, function, said):
+def shown_of(name, function, said):
     """What the reasons show for which the function itself is refused; of a law that it cites, what is said of the law."""
     line = verdicts(name, said).get(function, "")
     found = {"fact"} if "`search` did not prove " in line else set()
@@ -236,7 +230,7 @@ def is_law(file):
     return file.startswith("./proofs/") and Path(file).name not in ("Answers.antt", "Invariants.antt", "Proof.antt")
 
 
-def faults(name, crate, group, status, said):
+def faults(name, group, status, said):
     """What is wrong with a check of these edits."""
     if status != 1 or not re.search("^logic=not-proved", said, re.M):
         return [f"the crate is not refused by the prover (status {status})"]
@@ -249,7 +243,7 @@ def faults(name, crate, group, status, said):
     found += [f"{function} is not proved, and no edit names it" for function in sorted(set(lines) - named)]
     for edit in group:
         for function in sorted(edit.wrong & set(lines)):
-            if calls_refused(lines[function]) or "fact" not in shown_of(name, crate, function, said):
+            if calls_refused(lines[function]) or "fact" not in shown_of(name, function, said):
                 found.append(f"{function} is not refused for its own fact")
     return found
 
@@ -257,24 +251,32 @@ def faults(name, crate, group, status, said):
 def tried_by_name(crate, said):
     """Gives each answer whose goal is called otherwise in the edited code its goal's name now. Says whether there was one."""
     turned = False
-    for file, _, reason in ERROR.findall(said):
-        again = RENAMED.search(reason)
+    names = {name.lstrip(".") for name in re.findall(r"`([^`\s]+)`|(?<=[ ,])(\.[\w-]+)", said) for name in name if name}
+    for file in {at for at, _, _ in ERROR.findall(said)}:
         path = crate / file
-        if not again or Path(file).name not in ("Answers.antt", "Invariants.antt") or not path.is_file():
+        if path.name not in ("Answers.antt", "Invariants.antt") or not path.is_file():
             continue
-        old = again[1]
-        new = again[2] or again[3] or alike(old, re.findall("`([^`]+)`", again[4] or ""))
         text = path.read_text()
-        changed = re.sub(rf"(?<![\w'-]){re.escape(old)}(?![\w'-])", new, text) if new else text
-        if changed != text:
-            path.write_text(changed)
-            turned = True
+        gone = {m[1] for at, _, reason in ERROR.findall(said) if at == file for m in RENAMED.finditer(reason)}
+        for old in sorted(gone, key=len, reverse=True):
+            new = most_alike(old, [name for name in names - gone if not re.search(whole(name), text)])
+            if new:
+                text = re.sub(whole(old), new, text)
+                turned = True
+        path.write_text(text)
     return turned
 
 
-def alike(name, others):
-    """The name that begins most alike."""
-    return max(others, key=lambda other: len(os.path.commonprefix([name, other])), default=None)
+def whole(name):
+    """The name and no longer one."""
+    return rf"(?<![\w'-]){re.escape(name)}(?![\w'-])"
+
+
+def most_alike(name, others):
+    """The one that begins as the name does and is most like it."""
+    kin = [other for other in others if other.split("-")[0] == name.split("-")[0]]
+    found = difflib.get_close_matches(name, kin, n=1, cutoff=0.5)
+    return found[0] if found else None
 
 
 def try_group(prover, name, number, group):
@@ -297,7 +299,7 @@ def try_group(prover, name, number, group):
         status, said = prover.check(name, crate)
     shutil.rmtree(crate / "out")
     (crate / "log").write_text(said)
-    return faults(name, crate, group, status, said)
+    return faults(name, group, status, said)
 
 
 def prove(names):

@@ -1,9 +1,8 @@
 #!/usr/bin/env python3
 """Tests how wrong_answers.py judges what the prover says, on answers that it gave, which tools/recorded has.
 
-A file there begins with what the edit claimed (`fails:`), the functions that have a proof file (`proofs:`), the prover's
-exit status (`status:`) and how the answer is to be judged (`judged: taken`, or words of the fault). Then comes what the prover
-said, long lines cut, with CRATE for the crate's folder.
+A file there begins with what the edit claimed (`fails:`), the prover's exit status (`status:`) and how the answer is to be judged
+(`judged: taken`, or words of the fault). Then comes what the prover said, long lines cut.
 """
 import sys
 import tempfile
@@ -22,17 +21,12 @@ def read(path):
     return dict(line.split(": ", 1) for line in head.split("\n")), said
 
 
-def judged(claims, said, crate):
+def judged(claims, said):
     """The first fault that the tool finds in the answer, or `taken`."""
-    for function in claims.get("proofs", "").split():
-        file = wrong_answers.proof(crate, function)
-        file.parent.mkdir(parents=True)
-        file.touch()
     wrong, _, callers = claims["fails"].partition(";")
     wrong, callers = set(wrong.split()), set(callers.split())
     edit = SimpleNamespace(wrong=wrong, fails=lambda: wrong | callers)
-    said = said.replace("CRATE", str(crate))
-    found = wrong_answers.faults(claims["crate"], crate, [edit], int(claims["status"]), said)
+    found = wrong_answers.faults(claims["crate"], [edit], int(claims["status"]), said)
     return found[0] if found else "taken"
 
 
@@ -56,13 +50,28 @@ EDITS = [
 ]
 
 
+# An answer, what the prover said of it in an edited code that calls its goal otherwise, and the answer under the goal's name now.
+ANSWER = "pub returns-then-deadline-eq0 : goal.returns-then-deadline-eq0\nreturns-then-deadline-eq0 c = first c.if-deadline-eq0.true\n"
+RENAMED = ANSWER.replace("eq0", "eq7")
+
+
+def by_its_name():
+    """What the tool makes of that answer."""
+    _, said = read(RECORDED / "goal_of_another_name.log")
+    with tempfile.TemporaryDirectory() as folder:
+        path = Path(folder) / "proofs" / "arm" / "Answers.antt"
+        path.parent.mkdir(parents=True)
+        path.write_text(ANSWER)
+        wrong_answers.tried_by_name(Path(folder), said)
+        return path.read_text()
+
+
 def main():
-    bad = []
+    bad = [] if by_its_name() == RENAMED else ["an answer does not get its goal's name"]
     paths = sorted(RECORDED.glob("*.log"))
     for path in paths:
         claims, said = read(path)
-        with tempfile.TemporaryDirectory() as folder:
-            found = judged(claims, said, Path(folder))
+        found = judged(claims, said)
         if claims["judged"] not in found:
             bad.append(f"{path.name}: judged '{found}', and not '{claims['judged']}'")
     bad += [f"an edit is judged wrongly:\n{text}" for text, right in EDITS if taken_as_edit(text) != right]

@@ -3,7 +3,7 @@
 
 An edit is written as a must-fail edit of `rt` is, with one line more, as `fails: look; lowest_run`: the functions that it
 makes wrong, and after the semicolon those that are not proved then because they call one of these. `rt` gives each must-fail
-edit a check of its crate from nothing, and is content if anything of the crate is refused. Here edits that keep clear of
+edit a check of its own, and is content if anything of the crate is refused. Here edits that keep clear of
 each other share a check, and the prover must refuse the functions that they name and no other, those that they make wrong for
 facts of their own, and say nothing else: `shown` tells what is said of a fact from what shows nothing. A must-fail edit that
 has no such line is left to `rt`, and counts for no function.

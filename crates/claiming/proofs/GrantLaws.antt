@@ -1,21 +1,8 @@
--- A grant's replies and records are the definition's, and its sums fit. Assumes nothing.
-use Rattle.std.specs.Prelude.{◌≡◌, ◌&&◌, ◌+◌, ◌*◌, ◌^◌, ◌<◌, ◌≤◌}
-use Rattle.state.proofs.Prelude.{sym, ap, Bool, true, false, not, List, ℕ, mul-le-mul, arith, set, when, unless, Arena, run_committed, run_fresh, State, AskCommit, Asks, Claimed, Committing, state_with, reply, calm, grant_arena, grant_reply}
+-- A grant's replies and records are the definition's. Assumes nothing.
+use Rattle.std.specs.Prelude.{◌≡◌, ◌&&◌, ◌+◌, ◌*◌}
+use Rattle.state.proofs.Prelude.{sym, ap, Bool, true, false, not, List, ℕ, set, when, unless, Arena, run_committed, run_fresh, State, AskCommit, Asks, Claimed, Committing, state_with, reply, calm, grant_arena, grant_reply}
 use Rattle.arena.specs.Claiming.{take_run, dirty_run}
 use Rattle.layer.specs.Claiming.{asks_commit}
-
-pub run_fits : (a : Arena) (s n : ℕ) → s + n ≤ a.chunks → a.chunks ≤ 1024 → s + n ≤ 1024
-run_fits a s n inside few = omega (arith, inside, few)
-
-module _ (S : ℕ) (a : Arena) (s n : ℕ) (inside : s + n ≤ a.chunks) (fits : a.base + a.chunks * S < 2 ^ 64) where
-  below : S ≤ S
-  below = omega arith
-
-  pub start_fits : a.base + s * S < 2 ^ 64
-  start_fits = let h : s * S ≤ a.chunks * S = mul-le-mul (let g : s ≤ a.chunks = omega (arith, inside) in g) below in omega (arith, h, fits)
-
-  pub length-fits : n * S < 2 ^ 64
-  length-fits = let h : n * S ≤ a.chunks * S = mul-le-mul (let g : n ≤ a.chunks = omega (arith, inside) in g) below in omega (arith, h, fits)
 
 module _ (S : ℕ) (state : State) (i : ℕ) (a : Arena) (s n : ℕ) (commits : Bool) (l : List Arena) where
   -- the commit is asked for

@@ -1,6 +1,6 @@
 -- Bytes in whole chunks, and a number of chunks that may be registered. S is the size of a chunk. Assumes nothing.
 use Rattle.std.specs.Prelude.{◌≡◌, ◌+◌, ◌*◌, ◌/◌, ◌%◌, ◌≤◌, ◌<◌}
-use Rattle.state.proofs.Prelude.{true, false, ℕ, mul-le-mul, arith, ltb-false, eq-eqb, ne_eqb, eqb, ltb, chunks_for, bad_count}
+use Rattle.state.proofs.Prelude.{true, false, ℕ, arith, ltb-false, eq-eqb, ne_eqb, eqb, ltb, chunks_for, bad_count}
 use native.Mathlib.Nat.{mod-lt, div-add-mod', div-eq_of_lt-le}
 use Rattle.registering.proofs.TestLaws.{or-first, or-second, neither}
 
@@ -17,13 +17,6 @@ module _ (S size : ℕ) (some : 0 < S) where
       let h : size / S * S + size % S ≡ size = div-add-mod' size S in
       let l : size % S < S = mod-lt size some in
       div-eq_of_lt-le S (omega arith) (omega arith)
-
-  -- the count rounded up fits where the size does
-  pub part-fits : (size % S ≡ 0 → ⊥) → size / S + 1 ≤ size
-  part-fits n =
-      let h : size / S * S + size % S ≡ size = div-add-mod' size S in
-      let m : size / S * 1 ≤ size / S * S = mul-le-mul (let r : size / S ≤ size / S = omega arith in r) some in
-      omega arith
 
 module _ (chunks : ℕ) where
   pub count-zero : chunks ≡ 0 → bad_count chunks ≡ true

@@ -1,3 +1,4 @@
+-- The laws that the answers cite.
 pub mod TestLaws
 pub mod CountLaws
 pub mod RangeLaws
@@ -6,4 +7,3 @@ pub mod WholeLaws
 pub mod RegisterLaws
 pub mod ManageLaws
 pub mod AdoptLaws
-pub mod Callable

@@ -1,24 +1,14 @@
--- A new arena, case by case: 12, 13, or its record and stamps; and what writing it requires. Assumes nothing.
-use Rattle.std.specs.Prelude.{◌≡◌, ◌+◌, ◌*◌, ◌<◌}
-use Rattle.state.proofs.Prelude.{sym, ap, ◌∙◌, true, false, List, ℕ, suc, arith, leb-false, leb, length, Refusal, ChunkCount, TableFull, when, unless, Arena, stamp_run, State, Registered, Outcome, reply, after, Leaves, turn_down, calm, bad_count, with_record, with_stamps}
-use Rattle.state.specs.Ready.{Ready, Stamped}
+-- A new arena, case by case: 12, 13, or its record and stamps. Assumes nothing.
+use Rattle.std.specs.Prelude.{◌≡◌}
+use Rattle.state.proofs.Prelude.{sym, ap, ◌∙◌, true, false, List, ℕ, suc, leb, Refusal, ChunkCount, TableFull, when, unless, Arena, State, Registered, Outcome, reply, after, Leaves, turn_down, calm, bad_count, with_record, with_stamps}
+use Rattle.state.specs.Ready.{Ready}
 use Rattle.state.proofs.Entry.{calm-is, comes}
 use Rattle.registering.specs.New.{register_new}
-
-pub from_first : (stamps : List ℕ) (k : ℕ) → stamp_run stamps (1024 * k + 0) 1024 0 ≡ with_stamps stamps k
-from_first stamps k = ap (λ (s : ℕ). stamp_run stamps s 1024 0) (let e : 1024 * k + 0 ≡ 1024 * k = omega arith in e)
 
 module _ (l : List Arena) (state : State) (ready : Ready l state) where
   -- a refusal leaves the state
   pub down : (stamps : List ℕ) (why : Refusal) → after (turn_down why (calm state.count state.mark)) l stamps ≡ after (turn_down why state) l stamps
   down stamps why = ap (λ (s : State). after (turn_down why s) l stamps) (sym (calm-is l state ready))
-
-  -- what writing a new arena requires
-  pub writable : leb 32 state.count ≡ false → (stamps : List ℕ) → Stamped stamps → (state.count < length l) × (state.count < 32) × Stamped stamps
-  writable e stamps h =
-      let m : length l ≡ 32 = ready.0.lent in
-      let k : state.count < 32 = leb-false 32 state.count e in
-      (omega (arith, m, k), k, h)
 
   module _ (stamps : List ℕ) (chunks : ℕ) (a : Arena) where
     abbrev out : Outcome

@@ -1,5 +1,5 @@
 -- Two tests, one after the other. Assumes nothing.
-use Rattle.std.specs.Prelude.{◌≡◌, ◌&&◌, ◌||◌}
+use Rattle.std.specs.Prelude.{◌≡◌, ◌||◌}
 use Rattle.state.proofs.Prelude.{refl, ap, Bool, true, false, true≢false}
 
 pub or-first : (a b : Bool) → a ≡ true → a || b ≡ true
@@ -7,12 +7,6 @@ or-first a b e = ap (λ (t : Bool). t || b) e
 
 pub or-second : (a b : Bool) → a ≡ false → a || b ≡ b
 or-second a b e = ap (λ (t : Bool). t || b) e
-
-pub and_first : (a b : Bool) → a ≡ false → a && b ≡ false
-and_first a b e = ap (λ (t : Bool). t && b) e
-
-pub and_second : (a b : Bool) → a ≡ true → a && b ≡ b
-and_second a b e = ap (λ (t : Bool). t && b) e
 
 pub neither : (a b : Bool) → a || b ≡ false → (a ≡ false) × (b ≡ false)
 neither true b e = absurd (true≢false e)

@@ -222,6 +222,7 @@ fn skipped(s: Session) -> Session
 
 // ---- what a call said
 
+#[tactic(auto, unfolding(crate::specs::Session::word_of))]
 fn word_of(
     kind: u32,
     fresh: bool,
@@ -241,6 +242,7 @@ fn word_of(
     kind as u64 | granted | asked | numbers
 }
 
+#[tactic(auto, unfolding(crate::specs::Session::said_of))]
 fn said_of(x: ReplyNumbers) -> Said
     ensures { result ≡ said_of x }
 {
@@ -263,6 +265,7 @@ fn said_of(x: ReplyNumbers) -> Said
 }
 
 // After a call, whose number is held against the recorded one.
+#[tactic(auto, unfolding(crate::specs::Session::called_of))]
 pub fn called(s: Session, l: Line, r: Reply) -> Session
     ensures { result ≡ called_of s l r }
 {
@@ -280,6 +283,7 @@ pub fn called(s: Session, l: Line, r: Reply) -> Session
 }
 
 // After the hash of the state, which is held against the recorded one.
+#[tactic(auto, unfolding(crate::specs::Session::hashed_of))]
 pub fn hashed(s: Session, l: Line, h: u32) -> Session
     ensures { result ≡ hashed_of s l h }
 {
@@ -337,6 +341,7 @@ fn with_more(c: Carried, x: u64, y: u64) -> Carried
     d
 }
 
+#[tactic(auto, unfolding(crate::specs::Session::carried_of))]
 fn carried_after(c: Carried, l: Line) -> Carried
     ensures { result ≡ carried_of c l }
 {
@@ -353,6 +358,7 @@ fn carried_after(c: Carried, l: Line) -> Carried
     c
 }
 
+#[tactic(auto, unfolding(crate::specs::Session::state_after))]
 fn state_after(z: State, l: Line) -> State
     ensures { result ≡ state_after z l }
 {
@@ -386,6 +392,7 @@ fn says_so(said: Said, l: Line) -> bool
 }
 
 // After a line that is no call and no hash.
+#[tactic(auto, unfolding(crate::specs::Session::noted_of))]
 pub fn noted(s: Session, l: Line) -> Session
     ensures { result ≡ noted_of s l }
 {
@@ -448,6 +455,7 @@ fn hash_line(records: &[Arena], stamps: &[u32], s: Session, l: Line) -> Session
     hashed(s, l, h)
 }
 
+#[tactic(auto, unfolding(crate::specs::Replaying::replayed_of))]
 pub fn replay_line(records: &mut [Arena], stamps: &mut [u32], s: Session, l: Line) -> Session
     ensures { (result ≡ (replayed_of records.old stamps.old s l).session) × (records.new ≡ (replayed_of records.old stamps.old s l).records) × (stamps.new ≡ (replayed_of records.old stamps.old s l).stamps) }
 {

@@ -8,6 +8,7 @@ use calls::kinds::{ActCall, Call, ClaimCall, FreeCall, MemoryCall, QueryCall};
 use samples::lines::Line;
 
 // A flag, of the number that flags are added up to.
+#[tactic(auto, unfolding(bitmap::specs::Bits::bit))]
 pub fn bit(x: u64, i: u32) -> bool
     requires { i < 64 }
     ensures { result ≡ bit x i }
@@ -128,6 +129,7 @@ fn query_of(l: Line) -> QueryCall
     QueryCall::ArenaArea { id }
 }
 
+#[tactic(auto, unfolding(crate::specs::Recorded::recorded_of))]
 pub fn recorded(l: Line, x: u64, y: u64) -> Call
     ensures { result ≡ recorded_of l x y }
 {

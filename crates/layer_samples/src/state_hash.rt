@@ -39,6 +39,7 @@ fn node_word(node: i32) -> u32
     node as u32
 }
 
+#[tactic(auto, unfolding(crate::specs::StateHash::with_numbers))]
 fn with_numbers(h: u32, base: u64, chunks: u64, own: u32, node: u32, deadline: u32) -> u32
     ensures { result ≡ with_numbers h base chunks own node deadline }
 {
@@ -47,6 +48,7 @@ fn with_numbers(h: u32, base: u64, chunks: u64, own: u32, node: u32, deadline: u
     samples::hash::with_word(samples::hash::with_word(size, node), deadline)
 }
 
+#[tactic(auto, unfolding(crate::specs::StateHash::with_head))]
 fn with_head(h: u32, a: Arena) -> u32
     ensures { result ≡ with_head h a }
 {
@@ -57,6 +59,7 @@ fn with_head(h: u32, a: Arena) -> u32
     with_numbers(h, a.base, a.chunks as u64, own, node, a.deadline)
 }
 
+#[tactic(auto, unfolding(crate::specs::StateHash::with_maps))]
 fn with_maps(h: u32, a: Arena) -> u32
     ensures { result ≡ with_maps h a }
 {
@@ -74,6 +77,7 @@ fn with_arena(h: u32, a: Arena) -> u32
 }
 
 // The hash with the stamps of one arena more, if they are lent.
+#[tactic(auto, unfolding(crate::specs::StateHash::with_stamps))]
 fn with_stamps(stamps: &[u32], h: u32, id: usize) -> u32
     ensures { result ≡ with_stamps h stamps.now id }
 {
@@ -83,6 +87,7 @@ fn with_stamps(stamps: &[u32], h: u32, id: usize) -> u32
     h
 }
 
+#[tactic(auto, unfolding(crate::specs::StateHash::of_state))]
 fn of_state(s: State) -> u32
     ensures { result ≡ of_state s }
 {
@@ -97,6 +102,7 @@ fn count_of(s: State) -> usize
     s.count
 }
 
+#[tactic(auto, unfolding(crate::specs::StateHash::with_arenas))]
 pub fn hash(records: &[Arena], stamps: &[u32], s: State) -> u32
     ensures { result ≡ hash_of records.now stamps.now s }
 {

@@ -29,6 +29,7 @@ fn delay_of(x: u64) -> u64
 }
 
 // Kinds 1 to 6, on numbers alone.
+#[tactic(auto, unfolding(crate::specs::Answers::of_numbers))]
 fn of_numbers(kind: u64, a: u64, b: u64) -> u64
     ensures { result ≡ of_numbers kind a b }
 {
@@ -63,6 +64,7 @@ fn done_of(got: Freed) -> u64
 }
 
 // Kinds 7 to 10, on the slice pool.
+#[tactic(auto, unfolding(crate::specs::Answers::of_pool, crate::specs::Answers::left_pool))]
 fn of_pool(kind: u64, a: u64, b: u64, words: &mut [u32]) -> u64
     ensures { (result ≡ of_pool kind a b words.old) × (words.new ≡ left_pool kind a b words.old) }
 {
@@ -80,6 +82,7 @@ fn of_pool(kind: u64, a: u64, b: u64, words: &mut [u32]) -> u64
 }
 
 // Whether our answer is the recorded one.
+#[tactic(auto, unfolding(crate::specs::Answers::agrees_on, crate::specs::Answers::leaves))]
 pub fn agrees(l: Line, words: &mut [u32]) -> bool
     ensures { (result ≡ agrees_on l words.old) × (words.new ≡ leaves l words.old) }
 {

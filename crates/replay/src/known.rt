@@ -3,6 +3,7 @@ ghost use Rattle.std.specs.Prelude.{◌≡◌};
 ghost use Rattle.replay.specs.Known.{narrow, known};
 
 // Whether both arguments have 32 bits.
+#[tactic(auto, unfolding(crate::specs::Known::narrow))]
 fn is_narrow(a: u64, b: u64) -> bool
     ensures { result ≡ narrow a b }
 {
@@ -13,6 +14,7 @@ fn is_narrow(a: u64, b: u64) -> bool
 }
 
 // Whether the arguments are some that the kind's function can take: those of 3 and 4 have 32 bits.
+#[tactic(auto, unfolding(crate::specs::Known::known))]
 pub fn is_known(kind: u64, a: u64, b: u64) -> bool
     ensures { result ≡ known kind a b }
 {

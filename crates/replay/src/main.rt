@@ -10,9 +10,10 @@ mod pool;
 
 ghost use Rattle.std.specs.Prelude.{◌+◌, ◌≤◌, length};
 
-use libc::STDIN_FILENO;
 use samples::lines::{Line, Parsed};
 use samples::tally::Tally;
+use std::io;
+use std::io::Read;
 
 // 1,024 lines.
 const BLOCK: usize = 54272;
@@ -54,27 +55,27 @@ fn replay_lines(text: &[u8], words: &mut [u32], start: Tally) -> Tally {
 }
 
 // Reads a block and replays it. A block that is not full is the last.
-fn replay_block(words: &mut [u32], t: Tally) -> Tally {
+fn replay_block<R: Read>(input: &mut R, words: &mut [u32], t: Tally) -> io::Result<Tally> {
     let mut buffer = [0u8; BLOCK];
-    let n = io::read_full(STDIN_FILENO, &mut buffer);
+    let n = samples::input::read_full(input, &mut buffer)?;
     if n < BLOCK {
-        return samples::tally::ended(replay_lines(&buffer[..n], words, t));
+        return Ok(samples::tally::ended(replay_lines(&buffer[..n], words, t)));
     }
-    replay_lines(&buffer[..n], words, t)
+    Ok(replay_lines(&buffer[..n], words, t))
 }
 
 // Nothing says that the input ends, so the blocks are counted down from a number that no run uses up.
-fn replay_all(words: &mut [u32]) -> Tally {
+fn replay_all<R: Read>(input: &mut R, words: &mut [u32]) -> io::Result<Tally> {
     let mut t = samples::tally::none_yet();
     let mut blocks = u64::MAX;
     while blocks > 0 && samples::tally::goes_on(t) {
-        t = replay_block(words, t);
+        t = replay_block(input, words, t)?;
         blocks -= 1;
     }
-    t
+    Ok(t)
 }
 
-fn main() {
+fn main(rt: HostRuntime) -> io::Result<()> {
     let mut words = [0u32; 2048];
-    samples::report::print(replay_all(&mut words));
+    samples::report::print(&rt, replay_all(&mut rt.reader(), &mut words)?)
 }

@@ -6,36 +6,38 @@
 #![tactic(auto)]
 
 use layer_samples::Session;
-use libc::STDIN_FILENO;
 use samples::lines::Line;
+use std::io;
+use std::io::Read;
 
 // The next line. What is left at the end, shorter than a line, counts as a malformed one.
-fn read_line() -> Line {
+fn read_line<R: Read>(input: &mut R) -> io::Result<Line> {
     let mut text = [0u8; 53];
-    let n = io::read_full(STDIN_FILENO, &mut text);
+    let n = samples::input::read_full(input, &mut text)?;
     if n == 0 {
-        return layer_samples::end();
+        return Ok(layer_samples::end());
     }
     if n < 53 {
-        return layer_samples::bad();
+        return Ok(layer_samples::bad());
     }
-    layer_samples::line_of(samples::lines::parse(&text, 0))
+    Ok(layer_samples::line_of(samples::lines::parse(&text, 0)))
 }
 
 // Nothing says that the input ends, so the lines are counted down from a number that no run uses up.
-fn replay_all(most: u64) -> Session {
+fn replay_all<R: Read>(input: &mut R, most: u64) -> io::Result<Session> {
     let mut records = [table::records::blank_arena(); 32];
     let mut stamps = [0u32; 32768];
     let mut s = layer_samples::start();
     let mut left = most;
     while left > 0 {
-        let l = read_line();
+        let l = read_line(input)?;
         s = layer_samples::replay_line(&mut records, &mut stamps, s, l);
         left = layer_samples::fewer(left, l);
     }
-    s
+    Ok(s)
 }
 
-fn main() {
-    samples::report::print(layer_samples::tally_of(replay_all(u64::MAX)));
+fn main(rt: HostRuntime) -> io::Result<()> {
+    let s = replay_all(&mut rt.reader(), u64::MAX)?;
+    samples::report::print(&rt, layer_samples::tally_of(s))
 }

@@ -13,6 +13,7 @@ fn times_prime(x: u32) -> u32
 }
 
 // The hash with one word more.
+#[tactic(auto, unfolding(crate::specs::Hash::with_word))]
 pub fn with_word(h: u32, word: u32) -> u32
     ensures { result ≡ with_word h word }
 {
@@ -20,6 +21,7 @@ pub fn with_word(h: u32, word: u32) -> u32
 }
 
 // The hash with n words more, those from `at` on.
+#[tactic(auto, unfolding(crate::specs::Hash::with_words))]
 pub fn with_words(h: u32, words: &[u32], at: usize, n: usize) -> u32
     requires { at + n ≤ length words.now }
     ensures { result ≡ with_words h words.now at n }

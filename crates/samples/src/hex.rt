@@ -9,6 +9,7 @@ pub enum Number {
 }
 
 // The value of one digit.
+#[tactic(auto, unfolding(crate::specs::Hex::digit_of))]
 pub fn digit(b: u8) -> Number
     ensures { result ≡ digit_of b }
 {

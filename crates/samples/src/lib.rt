@@ -4,6 +4,7 @@
 
 pub mod hash;
 pub mod hex;
+pub mod input;
 pub mod lines;
 pub mod report;
 pub mod signed;

@@ -20,6 +20,7 @@ pub enum Parsed {
 }
 
 // Whether the four bytes that are no digits stand where they should.
+#[tactic(auto, unfolding(crate::specs::Lines::parted))]
 fn is_parted(text: &[u8], at: usize) -> bool
     requires { at + 53 ≤ length text.now }
     ensures { result ≡ parted text.now at }
@@ -61,6 +62,7 @@ fn line_of(kind: Number, a: Number, b: Number, r: Number) -> Parsed
 }
 
 // The fields of the line that starts at `at`.
+#[tactic(auto, unfolding(crate::specs::Lines::fields_at))]
 fn fields(text: &[u8], at: usize) -> Parsed
     requires { at + 53 ≤ length text.now }
     ensures { result ≡ fields_at text.now at }
@@ -73,6 +75,7 @@ fn fields(text: &[u8], at: usize) -> Parsed
 }
 
 // The line that starts at `at`.
+#[tactic(auto, unfolding(crate::specs::Lines::line_at))]
 pub fn parse(text: &[u8], at: usize) -> Parsed
     requires { at + 53 ≤ length text.now }
     ensures { result ≡ line_at text.now at }

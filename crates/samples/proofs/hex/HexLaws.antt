@@ -1,32 +1,10 @@
 -- What the definitions of a hexadecimal text say in the cases that its functions meet. Assumes nothing.
 use Rattle.std.specs.Prelude.{◌≡◌, ◌+◌, ◌-◌, ◌*◌, ◌^◌, ◌≤◌, ◌<◌}
-use Rattle.walks.proofs.Prelude.{refl, sym, subst, Bool, true, false, cond, List, ℕ, zero, suc, pow-suc, zero-lt-suc, add-one, arith, ltb-true, lt-ltb, le-ltb, ltb, get_or}
+use Rattle.walks.proofs.Prelude.{refl, sym, subst, Bool, true, false, cond, List, ℕ, zero, suc, pow-suc, zero-lt-suc, add-one, arith, ltb-true, ltb, get_or}
 use native.Mathlib.Nat.{pow-le-pow_right}
 use Rattle.samples.specs.declared.hex.Number.{Number}
 use Rattle.samples.specs.declared.hex.Number.TheVariants.{Is, NotHex}
 use Rattle.samples.specs.Hex.{Below, digit_of, then_digit, digits_at}
-
--- ---- a byte as a digit
-
-pub digit-09 : (b : ℕ) → 48 ≤ b → b < 58 → Is (b - 48) ≡ digit_of b
-unfolding digit_of
-digit-09 b lo hi = simp (le-ltb b 48 lo, lt-ltb b 58 hi)
-
-pub digit-af : (b : ℕ) → 97 ≤ b → b < 103 → Is (b - 97 + 10) ≡ digit_of b
-unfolding digit_of
-digit-af b lo hi = simp (le-ltb b 48 (omega arith), le-ltb b 58 (omega arith), le-ltb b 97 lo, lt-ltb b 103 hi)
-
-pub none-low : (b : ℕ) → b < 48 → NotHex ≡ digit_of b
-unfolding digit_of
-none-low b h = simp (lt-ltb b 48 h)
-
-pub none_between : (b : ℕ) → 58 ≤ b → b < 97 → NotHex ≡ digit_of b
-unfolding digit_of
-none_between b lo hi = simp (le-ltb b 48 (omega arith), le-ltb b 58 lo, lt-ltb b 97 hi)
-
-pub none-high : (b : ℕ) → 103 ≤ b → NotHex ≡ digit_of b
-unfolding digit_of
-none-high b h = simp (le-ltb b 48 (omega arith), le-ltb b 58 (omega arith), le-ltb b 97 (omega arith), le-ltb b 103 h)
 
 -- ---- bounds
 

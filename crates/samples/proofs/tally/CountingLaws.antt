@@ -2,7 +2,7 @@
 use Rattle.std.specs.Prelude.{◌≡◌}
 use Rattle.walks.proofs.Prelude.{refl, Bool, true, false, cond, ℕ, eqb}
 use Rattle.samples.specs.declared.tally.Tally.{Tally}
-use Rattle.samples.specs.Counting.{one_more, after_answer, after_malformed}
+use Rattle.samples.specs.Counting.{one_more, after_answer}
 
 counts : Tally → ℕ → ℕ → ℕ → ℕ → ℕ → Tally
 counts t n a d f m = record { lines = n; answers = a; differences = d; first = f; malformed = m; over = t.over }
@@ -20,8 +20,3 @@ module _ (t : Tally) (same : Bool) (n a : ℕ) (lines : n ≡ one_more t.lines) 
       → ◌≡◌ {A = Tally} (record { lines = n; answers = a; differences = d; first = f; malformed = t.malformed; over = t.over }) (after_answer t same)
   unfolding after_answer counts
   differing e d f p q = rw e (same-counts t lines answers p q refl)
-
-pub not-replayed : (t : Tally) (n m : ℕ) → n ≡ one_more t.lines → m ≡ one_more t.malformed
-    → ◌≡◌ {A = Tally} (record { lines = n; answers = t.answers; differences = t.differences; first = t.first; malformed = m; over = t.over }) (after_malformed t)
-unfolding counts
-not-replayed t n m p q = same-counts t p refl refl refl q

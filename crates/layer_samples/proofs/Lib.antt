@@ -1,2 +1,0 @@
-mod ReplayLaws
-pub mod Callable

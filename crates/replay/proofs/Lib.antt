@@ -1,3 +1,0 @@
-pub mod AnswerLaws
-pub mod ClearLaws
-pub mod KnownLaws

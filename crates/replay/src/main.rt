@@ -1,7 +1,7 @@
 // Replays recorded answers of the original Rust on our functions: standard input has a line of 53 bytes
 // for each (`samples::lines`), and what comes out is how many were replayed and how many differ.
-// No contract can say what is read or printed, so all that does either stands here, and nothing here is
-// public. What a line says, our answer to it and the count are fixed by the modules' contracts.
+// No contract can say what is read or printed: that is done here, by `samples::input` and `samples::report`, and
+// nothing here is public. What a line says, our answer to it and the count are fixed by the modules' contracts.
 #![tactic(auto)]
 
 mod answers;

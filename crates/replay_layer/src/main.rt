@@ -1,7 +1,8 @@
 // Replays recorded calls of the original Rust's arena layer on ours: standard input has a line of 53 bytes for
 // each call, and for what it carries, says and leaves (rust/compare/src/bin/record_layer.rs); what comes out is
 // how many lines were replayed and how many differ.
-// No contract can say what is read or printed, so all that does either stands here, and nothing here is public.
+// No contract can say what is read or printed: that is done here, by `samples::input` and `samples::report`, and
+// nothing here is public.
 // What a line makes of a session and of the table is fixed by the contracts of `layer_samples`.
 #![tactic(auto)]
 

@@ -15,7 +15,6 @@ use arena::{Arena, Commitment};
 use calls::kinds::{ActCall, Call, ClaimCall, FreeCall, MemoryCall, QueryCall};
 use layer::{Answer, Kind, Question, Reply, Settings, State, Sweep, Waiting};
 use std::io;
-use std::io::Write;
 use worked_parts::joins::{Seen, Side};
 use worked_parts::lists::{Listed, Numbers};
 use worked_parts::never::Left;
@@ -28,7 +27,7 @@ const NAME_WIDTH: usize = 58;
 const NUMBER_WIDTH: usize = 22;
 
 fn say(rt: &impl Print, text: &[u8]) -> io::Result<()> {
-    io::writer(rt).write_all(text)
+    rt.write_all(text)
 }
 
 // So many blanks, at most 64.

@@ -1,5 +1,1 @@
 pub mod JoinsLaws
-pub mod ListsLaws
-pub mod NeverLaws
-pub mod TallyLaws
-pub mod Callable

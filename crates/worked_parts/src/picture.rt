@@ -3,6 +3,7 @@ ghost use Rattle.std.specs.Prelude.{◌≡◌, ◌≤◌, length};
 ghost use Rattle.worked_parts.specs.Picture.{mark_of, Shows};
 
 // The character of slice j.
+#[tactic(auto, unfolding(bitmap::specs::Bits::bit, bitmap::specs::Bits::bit_at))]
 fn mark(pool: &[u32], j: usize) -> u8
     requires { (j ≤ 127) × (4 ≤ length pool.now) }
     ensures { result ≡ mark_of pool.now j }

@@ -26,6 +26,7 @@ fn one_more(n: u64) -> u64
 }
 
 // One case more, in which the two answers are the same or not.
+#[tactic(auto, unfolding(crate::specs::Tally::counted))]
 pub fn count(t: Tally, same: bool) -> Tally
     ensures { result ≡ counted t same }
 {

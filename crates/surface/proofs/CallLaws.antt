@@ -1,8 +1,6 @@
--- An exported call is the layer's step in numbers, the exported list the layer's list, and the exported join the layer's join. Each law takes what the code of an
--- export gives: whether the numbers are a state's, the state and the settings that are read, the entry point's reply, and its numbers. Assumes nothing.
+-- An exported call is the layer's step in numbers, the exported list the layer's list, and the exported join the layer's join. Assumes nothing.
 use Rattle.std.specs.Prelude.{◌≡◌, ◌&&◌}
-use Rattle.std.proofs.Math.Path.{subst₂}
-use Rattle.state.proofs.Prelude.{refl, sym, ap, ap₂, ◌∙◌, subst, Bool, true, false, List, ℕ, when, unless, Arena, State, Reply, Settings, World, Outcome, size_of, world_of, Leaves, sound, Query, Call, query, rules, step}
+use Rattle.state.proofs.Prelude.{refl, sym, ap, ap₂, ◌∙◌, Bool, true, false, List, ℕ, when, unless, Arena, Reply, Settings, World, Outcome, size_of, world_of, Leaves, sound, Query, Call, query, rules, step}
 use Rattle.layer.specs.declared.JoinReply.{JoinReply}
 use Rattle.layer.specs.World.{reply_in}
 use Rattle.layer.specs.Listing.{Items, ListOutcome, release_list, LeavesList}
@@ -12,8 +10,6 @@ use Rattle.surface.specs.declared.StateNumbers.{StateNumbers}
 use Rattle.surface.specs.declared.told.SettingsNumbers.{SettingsNumbers}
 use Rattle.surface.specs.Numbers.{state_of, numbers_of, is_state}
 use Rattle.surface.specs.Told.{settings_of}
-use Rattle.surface.specs.declared.reply.ReplyNumbers.{ReplyNumbers}
-use Rattle.surface.specs.declared.joins.JoinNumbers.{JoinNumbers}
 use Rattle.surface.specs.Replies.{answer_numbers, broken_numbers, reply_of, Left, in_numbers, step_numbers, LeavesNumbers}
 use Rattle.surface.specs.Lists.{LeftList, list_in_numbers, list_numbers, LeavesListNumbers}
 use Rattle.surface.specs.Joins.{join_answer_numbers, broken_join, join_reply_of, LeftBoth, both_in_numbers, join_numbers, LeavesBothNumbers}
@@ -33,23 +29,20 @@ module _ (l : List Arena) (stamps : List ℕ) (f : StateNumbers) (ns : ℕ) (s :
   none e = unless (is_state f) _ _ e
 
   -- what an entry point leaves, in numbers
-  pub exports : {yes : Bool} {state : State} {settings : Settings} {r : Reply} {zs : List Arena} {ts : List ℕ} {g : ReplyNumbers}
-      → yes ≡ is_state f → yes ≡ true → state ≡ state_of f → settings ≡ settings_of s
-      → Leaves (step (world_of l stamps state) ns settings call) r zs ts → g ≡ reply_of r → LeavesNumbers (step_numbers l stamps f ns s call) g zs ts
+  pub exports : is_state f ≡ true → (r : Reply) (zs : List Arena) (ts : List ℕ) → Leaves stepped r zs ts → LeavesNumbers (step_numbers l stamps f ns s call) (reply_of r) zs ts
   unfolding reply_of
-  exports {r = r} {zs = zs} {ts = ts} d e a b h w =
-      let k : Leaves stepped r zs ts = subst₂ (λ (x : State) (y : Settings). Leaves (step (world_of l stamps x) ns y call) r zs ts) a b h in
-      let o : in_numbers stepped ≡ step_numbers l stamps f ns s call = sym (a-state (sym d ∙ e)) in (
-        w ∙ ap (λ (x : Reply). answer_numbers x.answer (numbers_of x.state)) k.0 ∙ ap (λ (x : Left). x.reply) o,
-        k.1 ∙ ap (λ (x : Left). x.records) o,
-        k.2 ∙ ap (λ (x : Left). x.stamps) o,
+  exports e r zs ts h =
+      let d : in_numbers stepped ≡ step_numbers l stamps f ns s call = sym (a-state e) in (
+        ap (λ (x : Reply). answer_numbers x.answer (numbers_of x.state)) h.0 ∙ ap (λ (o : Left). o.reply) d,
+        h.1 ∙ ap (λ (o : Left). o.records) d,
+        h.2 ∙ ap (λ (o : Left). o.stamps) d,
       )
 
   -- numbers that are no state's: 1, and all is left
-  pub refuses : {yes : Bool} {g : ReplyNumbers} → yes ≡ is_state f → yes ≡ false → g ≡ broken_numbers f → LeavesNumbers (step_numbers l stamps f ns s call) g l stamps
-  refuses d e w =
-      let o : record { reply = broken_numbers f; records = l; stamps = stamps } ≡ step_numbers l stamps f ns s call = sym (none (sym d ∙ e)) in
-      (w ∙ ap (λ (x : Left). x.reply) o, ap (λ (x : Left). x.records) o, ap (λ (x : Left). x.stamps) o)
+  pub refuses : is_state f ≡ false → LeavesNumbers (step_numbers l stamps f ns s call) (broken_numbers f) l stamps
+  refuses e =
+      let d : record { reply = broken_numbers f; records = l; stamps = stamps } ≡ step_numbers l stamps f ns s call = sym (none e) in
+      (ap (λ (o : Left). o.reply) d, ap (λ (o : Left). o.records) d, ap (λ (o : Left). o.stamps) d)
 
 -- a query leaves the state
 query-leaves : (w : World) (ns : ℕ) (settings : Settings) (c : Query) → (step w ns settings (query c)).world.state ≡ w.state
@@ -62,14 +55,11 @@ module _ (l : List Arena) (stamps : List ℕ) (f : StateNumbers) (ns : ℕ) (s :
   asked = stepped l stamps f ns s (query c)
 
   -- so a query's reply has the numbers that came
-  pub answers : {yes : Bool} {state : State} {settings : Settings} {r : Reply} {g : ReplyNumbers} → yes ≡ is_state f → yes ≡ true → state ≡ state_of f → settings ≡ settings_of s
-      → r ≡ reply_in (step (world_of l stamps state) ns settings (query c)) → g ≡ answer_numbers r.answer f → g ≡ (step_numbers l stamps f ns s (query c)).reply
-  answers {r = r} d e a b h w =
-      let y = sym d ∙ e in
-      let k : r ≡ reply_in asked = subst₂ (λ (x : State) (z : Settings). r ≡ reply_in (step (world_of l stamps x) ns z (query c))) a b h in
-      w ∙ ap (λ (x : Reply). answer_numbers x.answer f) k
-      ∙ ap (answer_numbers asked.answer) (sym (ap numbers_of (query-leaves (world_of l stamps (state_of f)) ns (settings_of s) c) ∙ state-written f y))
-      ∙ ap (λ (o : Left). o.reply) (sym (a-state l stamps f ns s (query c) y))
+  pub answers : is_state f ≡ true → (r : Reply) → r ≡ reply_in asked → answer_numbers r.answer f ≡ (step_numbers l stamps f ns s (query c)).reply
+  answers e r h =
+      ap (λ (x : Reply). answer_numbers x.answer f) h
+      ∙ ap (answer_numbers asked.answer) (sym (ap numbers_of (query-leaves (world_of l stamps (state_of f)) ns (settings_of s) c) ∙ state-written f e))
+      ∙ ap (λ (o : Left). o.reply) (sym (a-state l stamps f ns s (query c) e))
 
 -- ---- a list
 
@@ -79,27 +69,24 @@ module _ (l : List Arena) (stamps : List ℕ) (f : StateNumbers) (ns : ℕ) (s :
   listed = release_list (world_of l stamps (state_of f)) ns (settings_of s) t
 
   -- what the entry point leaves, in numbers
-  pub lists : {yes : Bool} {state : State} {settings : Settings} {r : Reply} {zs : List Arena} {ts given : List ℕ} {g : ReplyNumbers}
-      → yes ≡ is_state f → yes ≡ true → state ≡ state_of f → settings ≡ settings_of s
-      → LeavesList (release_list (world_of l stamps state) ns settings t) r zs ts given → g ≡ reply_of r → LeavesListNumbers (list_numbers l stamps f ns s t) g zs ts given
+  pub lists : is_state f ≡ true → (r : Reply) (zs : List Arena) (ts given : List ℕ) → LeavesList listed r zs ts given → LeavesListNumbers (list_numbers l stamps f ns s t) (reply_of r) zs ts given
   unfolding list_numbers reply_of
-  lists {r = r} {zs = zs} {ts = ts} {given = given} d e a b h w =
-      let k : LeavesList listed r zs ts given = subst₂ (λ (x : State) (y : Settings). LeavesList (release_list (world_of l stamps x) ns y t) r zs ts given) a b h in
-      let o : list_in_numbers listed ≡ list_numbers l stamps f ns s t = sym (when (is_state f) _ _ (sym d ∙ e)) in (
+  lists e r zs ts given h =
+      let d : list_in_numbers listed ≡ list_numbers l stamps f ns s t = sym (when (is_state f) _ _ e) in (
         (
-          w ∙ ap (λ (x : Reply). answer_numbers x.answer (numbers_of x.state)) k.0.0 ∙ ap (λ (x : LeftList). x.whole.reply) o,
-          k.0.1 ∙ ap (λ (x : LeftList). x.whole.records) o,
-          k.0.2 ∙ ap (λ (x : LeftList). x.whole.stamps) o,
+          ap (λ (x : Reply). answer_numbers x.answer (numbers_of x.state)) h.0.0 ∙ ap (λ (o : LeftList). o.whole.reply) d,
+          h.0.1 ∙ ap (λ (o : LeftList). o.whole.records) d,
+          h.0.2 ∙ ap (λ (o : LeftList). o.whole.stamps) d,
         ),
-        k.1 ∙ ap (λ (x : LeftList). x.numbers) o,
+        h.1 ∙ ap (λ (o : LeftList). o.numbers) d,
       )
 
   -- numbers that are no state's: 1, and all is left
-  pub list-refuses : {yes : Bool} {g : ReplyNumbers} → yes ≡ is_state f → yes ≡ false → g ≡ broken_numbers f → LeavesListNumbers (list_numbers l stamps f ns s t) g l stamps t.answers
+  pub list-refuses : is_state f ≡ false → LeavesListNumbers (list_numbers l stamps f ns s t) (broken_numbers f) l stamps t.answers
   unfolding list_numbers
-  list-refuses d e w =
-      let o : record { whole = record { reply = broken_numbers f; records = l; stamps = stamps }; numbers = t.answers } ≡ list_numbers l stamps f ns s t = sym (unless (is_state f) _ _ (sym d ∙ e)) in
-      ((w ∙ ap (λ (x : LeftList). x.whole.reply) o, ap (λ (x : LeftList). x.whole.records) o, ap (λ (x : LeftList). x.whole.stamps) o), ap (λ (x : LeftList). x.numbers) o)
+  list-refuses e =
+      let d : record { whole = record { reply = broken_numbers f; records = l; stamps = stamps }; numbers = t.answers } ≡ list_numbers l stamps f ns s t = sym (unless (is_state f) _ _ e) in
+      ((ap (λ (o : LeftList). o.whole.reply) d, ap (λ (o : LeftList). o.whole.records) d, ap (λ (o : LeftList). o.whole.stamps) d), ap (λ (o : LeftList). o.numbers) d)
 
 -- ---- a join
 
@@ -122,31 +109,25 @@ module _ (l : List Arena) (stamps : List ℕ) (m : List Arena) (second-stamps : 
   )
 
   -- what the entry point leaves, in numbers
-  pub joins : {yes also : Bool} {state second : State} {settings : Settings} {r : JoinReply} {zs : List Arena} {ts : List ℕ} {ys : List Arena} {us : List ℕ} {n : JoinNumbers}
-      → yes ≡ is_state f → yes ≡ true → also ≡ is_state g → also ≡ true → state ≡ state_of f → second ≡ state_of g → settings ≡ settings_of s
-      → LeavesBoth (join (world_of l stamps state) (world_of m second-stamps second) ns settings) r zs ts ys us → n ≡ join_reply_of r
-      → LeavesBothNumbers (join_numbers l stamps m second-stamps f g ns s) n zs ts ys us
+  pub joins : is_state f ≡ true → is_state g ≡ true → (r : JoinReply) (zs : List Arena) (ts : List ℕ) (ys : List Arena) (us : List ℕ) → LeavesBoth joined r zs ts ys us
+      → LeavesBothNumbers (join_numbers l stamps m second-stamps f g ns s) (join_reply_of r) zs ts ys us
   unfolding join_numbers join_reply_of
-  joins {settings = settings} {r = r} {zs = zs} {ts = ts} {ys = ys} {us = us} d y e z a b c h w =
-      let p = subst₂ (λ (u v : State). LeavesBoth (join (world_of l stamps u) (world_of m second-stamps v) ns settings) r zs ts ys us) a b h in
-      let k : LeavesBoth joined r zs ts ys us = subst (λ (u : Settings). LeavesBoth (join (world_of l stamps (state_of f)) (world_of m second-stamps (state_of g)) ns u) r zs ts ys us) c p in
-      let o = leaves (both_in_numbers joined) (sym (when (is_state f && is_state g) _ _ (ap₂ (λ (u v : Bool). u && v) (sym d ∙ y) (sym e ∙ z)))) in (
-        w ∙ ap (λ (x : JoinReply). join_answer_numbers x.answer (numbers_of x.first) (numbers_of x.second)) k.0 ∙ o.0,
-        k.1 ∙ o.1,
-        k.2 ∙ o.2,
-        k.3 ∙ o.3,
-        k.4 ∙ o.4,
+  joins d e r zs ts ys us h =
+      let a = leaves (both_in_numbers joined) (sym (when (is_state f && is_state g) _ _ (ap₂ (λ (x y : Bool). x && y) d e))) in (
+        ap (λ (x : JoinReply). join_answer_numbers x.answer (numbers_of x.first) (numbers_of x.second)) h.0 ∙ a.0,
+        h.1 ∙ a.1,
+        h.2 ∙ a.2,
+        h.3 ∙ a.3,
+        h.4 ∙ a.4,
       )
 
   -- numbers that are no state's, on either side: 1, and all is left
-  no-states : {n : JoinNumbers} → (is_state f && is_state g) ≡ false → n ≡ broken_join f g → LeavesBothNumbers (join_numbers l stamps m second-stamps f g ns s) n l stamps m second-stamps
+  no-states : (is_state f && is_state g) ≡ false → LeavesBothNumbers (join_numbers l stamps m second-stamps f g ns s) (broken_join f g) l stamps m second-stamps
   unfolding join_numbers
-  no-states e w = let o = leaves as-it-came (sym (unless (is_state f && is_state g) _ _ e)) in (w ∙ o.0, o.1, o.2, o.3, o.4)
+  no-states e = leaves as-it-came (sym (unless (is_state f && is_state g) _ _ e))
 
-  pub first-refuses : {yes : Bool} {n : JoinNumbers} → yes ≡ is_state f → yes ≡ false → n ≡ broken_join f g
-      → LeavesBothNumbers (join_numbers l stamps m second-stamps f g ns s) n l stamps m second-stamps
-  first-refuses d y w = no-states (ap (λ (x : Bool). x && is_state g) (sym d ∙ y)) w
+  pub first-refuses : is_state f ≡ false → LeavesBothNumbers (join_numbers l stamps m second-stamps f g ns s) (broken_join f g) l stamps m second-stamps
+  first-refuses e = no-states (ap (λ (x : Bool). x && is_state g) e)
 
-  pub second-refuses : {yes also : Bool} {n : JoinNumbers} → yes ≡ is_state f → yes ≡ true → also ≡ is_state g → also ≡ false → n ≡ broken_join f g
-      → LeavesBothNumbers (join_numbers l stamps m second-stamps f g ns s) n l stamps m second-stamps
-  second-refuses d y e z w = no-states (ap₂ (λ (u v : Bool). u && v) (sym d ∙ y) (sym e ∙ z)) w
+  pub second-refuses : is_state f ≡ true → is_state g ≡ false → LeavesBothNumbers (join_numbers l stamps m second-stamps f g ns s) (broken_join f g) l stamps m second-stamps
+  second-refuses d e = no-states (ap₂ (λ (x y : Bool). x && y) d e)

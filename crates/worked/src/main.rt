@@ -56,6 +56,7 @@ fn right(rt: &impl Print, text: &[u8]) -> io::Result<()> {
     say(rt, text)
 }
 
+// The width is NUMBER_WIDTH.
 fn right_number(rt: &impl Print, n: u64) -> io::Result<()> {
     print!(rt; "{n:>22}")
 }

@@ -12,7 +12,8 @@ Two edits keep clear of each other if no function is made wrong by both, and non
 makes wrong: the prover looks at no function that calls one which is not proved.
 
 A goal is named after what the code compares and computes there, so an edit of a condition may give it another name, and the answer
-written for it has none then. The prover says how the goal is called now; the answer is tried on it, under that name.
+written for it has none then. The prover says how the goal is called now; the answer is tried on it, under that name. A name that is
+still gone then shows nothing: the function must fail for a fact beside it.
 
 A check starts from the crate as it was proved, where its out/ has that, and takes the modules that the edits leave alone from
 there. Every public function of a crate with such edits must be made wrong by two or more.
@@ -44,6 +45,7 @@ CITED = re.compile(r"(?:1 declaration|\d+ declarations) that depends? on `([^`]+
 FACT = re.compile(
     r"(?:no proof of|the goal does not follow|the part `[^`]+` of the goal does not follow)|give a proof of that as the last"
     r"|does not hold \(this comparison|the two (?:types|values) (?:first differ|differ|are)|expected type `[^`]*`,? *\n? *but this has type"
+    r"|`rw`: no occurrence of |`cc` met a bound of its own before the equations had joined "
 )
 
 # A goal, or a fact of one, that is called otherwise in the edited code.
@@ -225,6 +227,11 @@ def shown_of(name, function, said):
     return found
 
 
+def is_renamed(file, reason):
+    """Whether an answer names what the edited code calls otherwise."""
+    return Path(file).name in ("Answers.antt", "Invariants.antt") and RENAMED.search(reason) is not None
+
+
 def is_law(file):
     """Whether a file has laws that proofs cite, and is no function's own answers."""
     return file.startswith("./proofs/") and Path(file).name not in ("Answers.antt", "Invariants.antt", "Proof.antt")
@@ -234,7 +241,7 @@ def faults(name, group, status, said):
     """What is wrong with a check of these edits."""
     if status != 1 or not re.search("^logic=not-proved", said, re.M):
         return [f"the crate is not refused by the prover (status {status})"]
-    unfit = [reason.split("\n")[0][:200] for _, _, reason in ERROR.findall(said) if shown(reason) == "nothing"]
+    unfit = [reason.split("\n")[0][:200] for at, _, reason in ERROR.findall(said) if shown(reason) == "nothing" and not is_renamed(at, reason)]
     if unfit:
         return [f"that shows nothing: {unfit[0]}"]
     lines = verdicts(name, said)

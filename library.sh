@@ -45,15 +45,16 @@ prove() {
 }
 
 # The code is many small functions in many crates, of which LLVM by default leaves too many as calls: it is told to inline
-# more (docs/DECISIONS.md), by a toolchain folder whose clang passes the word on. `rt lib` takes none, so
-# `rattle build` is called here with the words that it would pass.
+# more (docs/DECISIONS.md), by a toolchain folder whose clang passes the word on, a folder outside the checkout, since it is made of
+# links. `rt lib` takes no such word, so `rattle build` is called here with those that it would pass.
 build_archive() {
     local uses=(--extern "std=$kit/rlibs/std.rlib") name
-    mkdir -p "$work/toolchain"
-    cp -rs "$kit/toolchain/." "$work/toolchain"
-    rm "$work/toolchain/bin/clang"
-    printf '#!/bin/sh\nexec "%s" "$@" -mllvm -inline-threshold=5000\n' "$kit/toolchain/bin/clang" >"$work/toolchain/bin/clang"
-    chmod +x "$work/toolchain/bin/clang"
+    toolchain=$(mktemp -d)
+    trap 'rm -rf "$toolchain"' EXIT
+    cp -rs "$kit/toolchain/." "$toolchain"
+    rm "$toolchain/bin/clang"
+    printf '#!/bin/sh\nexec "%s" "$@" -mllvm -inline-threshold=5000\n' "$kit/toolchain/bin/clang" >"$toolchain/bin/clang"
+    chmod +x "$toolchain/bin/clang"
 
     for name in $(sed -n "s/^$crate staticlib: *//p" crates.txt); do
         uses+=(--extern "$name=../$name/out/rlib/$name.rlib")
@@ -62,7 +63,7 @@ build_archive() {
     for name in $(below); do uses+=(-L "dependency=../$name/out/rlib"); done
     (cd "crates/$crate" && "$kit/bin/rattle" build --crate-name "$crate" src/lib.rt "${uses[@]}" \
         --antt-project "$kit/rattle/logic/antt-project.json" --logic-built "$kit/logic_built" --links "$crate=" \
-        --crate-type staticlib --incremental out/incremental --backend llvm --toolchain "../../$work/toolchain" \
+        --crate-type staticlib --incremental out/incremental --backend llvm --toolchain "$toolchain" \
         -o "../../$work/libsirqobal.a") >"$work/said" 2>&1 || { without_notes <"$work/said" >&2 && return 1; }
 }
 
@@ -92,7 +93,8 @@ build_archive
 build_shared
 rm -f "$out"/*
 mv "$work/libsirqobal.a" "$work/$real" "$out"
-ln -s "$real" "$out/$soname"
-ln -s "$real" "$out/libsirqobal.so"
+# The other names are names of the same file: `rt ci` refuses a symbolic link anywhere in the checkout.
+ln "$out/$real" "$out/$soname"
+ln "$out/$real" "$out/libsirqobal.so"
 echo "$made_of" >build/made_of
 echo "$out/libsirqobal.a and libsirqobal.so have what include/sirqobal.h declares ($(elapsed))"

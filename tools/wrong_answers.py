@@ -28,6 +28,7 @@ import re
 import shutil
 import subprocess
 import sys
+import tempfile
 import time
 from concurrent.futures import ThreadPoolExecutor
 from pathlib import Path
@@ -288,24 +289,24 @@ def most_alike(name, others):
 
 def try_group(prover, name, number, group):
     """Makes the group's edits in a copy of the crate, and says what is wrong with the prover's answer."""
-    crate = WORK / name / str(number)
-    for part in ("src", "specs", "proofs"):
-        if (ROOT / "crates" / name / part).is_dir():
-            shutil.copytree(ROOT / "crates" / name / part, crate / part)
-    try:
-        make(crate, group)
-    except ValueError as fault:
-        return [str(fault)]
-    proved = ROOT / "crates" / name / "out" / "incremental"
-    if proved.is_dir():
-        shutil.copytree(proved, crate / "out" / "incremental")
-    status, said = prover.check(name, crate)
-    for _ in range(4):
-        if not tried_by_name(crate, said):
-            break
+    # Outside the checkout, in which `rt ci` takes no other code than the crates'.
+    with tempfile.TemporaryDirectory() as folder:
+        crate = Path(folder) / name
+        for part in ("src", "specs", "proofs", "out/incremental"):
+            if (ROOT / "crates" / name / part).is_dir():
+                shutil.copytree(ROOT / "crates" / name / part, crate / part)
+        try:
+            make(crate, group)
+        except ValueError as fault:
+            return [str(fault)]
         status, said = prover.check(name, crate)
-    shutil.rmtree(crate / "out")
-    (crate / "log").write_text(said)
+        for _ in range(4):
+            if not tried_by_name(crate, said):
+                break
+            status, said = prover.check(name, crate)
+    log = WORK / name / str(number) / "log"
+    log.parent.mkdir(parents=True)
+    log.write_text(said)
     return faults(name, group, status, said)
 
 

@@ -6,7 +6,9 @@ makes wrong, and after the semicolon those that are not proved then because they
 edit a check of its own, and is content if anything of the crate is refused. Here edits that keep clear of
 each other share a check, and the prover must refuse the functions that they name and no other, those that they make wrong for
 facts of their own, and say nothing else: `shown` tells what is said of a fact from what shows nothing. A must-fail edit that
-has no such line is left to `rt`, and counts for no function.
+has no such line is left to `rt`, and counts for no function. A fact fails where two types or values differ, where a goal does not follow, and
+where the search leaves a goal open that it closes in the crate as it stands. Least is shown by an answer that does not find an equation that
+it goes by; how many are refused for no more than that is said at the end.
 
 Two edits keep clear of each other if no function is made wrong by both, and none is made wrong by one and calls what the other
 makes wrong: the prover looks at no function that calls one which is not proved.
@@ -46,8 +48,14 @@ CITED = re.compile(r"(?:1 declaration|\d+ declarations) that depends? on `([^`]+
 FACT = re.compile(
     r"(?:no proof of|the goal does not follow|the part `[^`]+` of the goal does not follow)|give a proof of that as the last"
     r"|does not hold \(this comparison|the two (?:types|values) (?:first differ|differ|are)|expected type `[^`]*`,? *\n? *but this has type"
-    r"|`rw`: no occurrence of |`cc` met a bound of its own before the equations had joined "
 )
+
+# What is expected, where that is no fact but a place of the code: an answer is handed what is known at another place.
+PLACE = re.compile(r"expected type `(?:goal\.|\S+\.(?:Goals|Given|Lts|Tie|Reads)\.)")
+
+# An equation that the answer goes by is not found: no part of what a callee ensured, or of the goal, is the value that it speaks of, or
+# the known equations do not join the two sides within the prover's bounds.
+EQUATION = re.compile(r"`rw`: no occurrence of |`cc` met a bound of its own before the equations had joined ")
 
 # A goal, or a fact of one, that is called otherwise in the edited code.
 RENAMED = re.compile(r"has no (?:field )?`([^`]+)`")
@@ -204,10 +212,12 @@ def calls_refused(line):
 
 
 def shown(reason):
-    """What the prover's reason shows: a fact that fails, that something cited fails, or nothing."""
+    """What the prover's reason shows: a fact that fails, an equation that is not found, that something cited fails, or nothing."""
     if CITED.search(reason):
         return "cited"
-    return "fact" if FACT.search(reason) else "nothing"
+    if EQUATION.search(reason):
+        return "equation"
+    return "fact" if FACT.search(reason) and not PLACE.search(reason) else "nothing"
 
 
 def shown_of(name, function, said):
@@ -251,9 +261,14 @@ def faults(name, group, status, said):
     found += [f"{function} is not proved, and no edit names it" for function in sorted(set(lines) - named)]
     for edit in group:
         for function in sorted(edit.wrong & set(lines)):
-            if calls_refused(lines[function]) or "fact" not in shown_of(name, function, said):
+            if calls_refused(lines[function]) or not {"fact", "equation"} & shown_of(name, function, said):
                 found.append(f"{function} is not refused for its own fact")
     return found
+
+
+def by_equation(name, group, said):
+    """How many functions the edits make wrong of which no more is said than that an equation is not found."""
+    return sum("fact" not in shown_of(name, function, said) for edit in group for function in edit.wrong)
 
 
 def tried_by_name(crate, said):
@@ -298,7 +313,7 @@ def try_group(prover, name, number, group):
         try:
             make(crate, group)
         except ValueError as fault:
-            return [str(fault)]
+            return [str(fault)], 0
         status, said = prover.check(name, crate)
         for _ in range(4):
             if not tried_by_name(crate, said):
@@ -307,7 +322,7 @@ def try_group(prover, name, number, group):
     log = WORK / name / str(number) / "log"
     log.parent.mkdir(parents=True)
     log.write_text(said)
-    return faults(name, group, status, said)
+    return faults(name, group, status, said), by_equation(name, group, said)
 
 
 def prove(names):
@@ -330,15 +345,17 @@ def main():
     tasks = [(n, k, g) for n in reversed(names) for k, g in enumerate(groups[n])]
     with ThreadPoolExecutor(len(os.sched_getaffinity(0))) as pool:
         answers = list(pool.map(lambda task: try_group(prover, *task), tasks))
-    for (name, number, group), found in zip(tasks, answers):
+    for (name, number, group), (found, _) in zip(tasks, answers):
         for fault in found:
             print(f"wrong answers of {name}, check {number} ({' '.join(e.label for e in group)}): {fault}")
     print("\n".join(few), end="\n" if few else "")
-    if few or any(answers):
+    if few or any(found for found, _ in answers):
         sys.exit(1)
     count = sum(len(group) for _, _, group in tasks)
     took = f"in {len(tasks)} checks ({time.time() - began:.0f} s)"
+    least = sum(least for _, least in answers)
     print(f"{count} wrong answers of {len(names)} crates refused, each by the functions that it names, {took}")
+    print(f"of {least} functions that they make wrong no more is said than that an equation is not found")
 
 
 if __name__ == "__main__":

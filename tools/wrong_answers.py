@@ -124,13 +124,24 @@ def grouped(edits):
 
 
 def public(name):
-    """The public functions of a crate."""
+    """The public functions of a crate, as the prover calls them: a method by its type, and that by the module in which it stands."""
     src = ROOT / "crates" / name / "src"
+    texts = {}
     for path in sorted(src.rglob("*.rt")):
         module = path.relative_to(src).with_suffix("").parts
-        inside = "" if module == ("lib",) else "::".join(module) + "::"
-        for function in re.findall(r'^ *pub (?:extern "C" )?fn (\w+)', path.read_text(), re.M):
-            yield inside + function
+        texts["" if module == ("lib",) else "::".join(module) + "::"] = path.read_text()
+    home = {kind: inside for inside, text in texts.items() for kind in re.findall(r"^pub (?:struct|enum) (\w+)", text, re.M)}
+    for inside, text in texts.items():
+        of = None
+        for line in text.split("\n"):
+            block = re.match(r"impl(?:<[^>]*>)? (\w+)(?:<[^>]*>)? \{", line)
+            if block:
+                of = block.group(1)
+            elif line == "}":
+                of = None
+            function = re.match(r' *pub (?:extern "C" )?fn (\w+)', line)
+            if function:
+                yield f"{home.get(of, inside)}{of}::{function.group(1)}" if of else inside + function.group(1)
 
 
 def promises(name):
@@ -201,9 +212,9 @@ class Prover:
 
 
 def verdicts(name, said):
-    """What the prover says of each function of the crate that is not proved."""
+    """What the prover says of each function of the crate that is not proved. A closure is none: the function in which it stands is."""
     found = re.findall(rf"^fn {name}::(\S+?): (.*)$", said, re.M)
-    return {function: line for function, line in found if line != "proved"}
+    return {function: line for function, line in found if not function.startswith("fn::") and line not in ("proved", "proved where its callers give what it asks")}
 
 
 def calls_refused(line):

@@ -1,4 +1,3 @@
 pub mod EntryLaws
 pub mod OpenLaws
-pub mod CommitLaws
 pub mod MemoryLaws

@@ -10,24 +10,14 @@ pub mod waiting;
 ghost use Rattle.std.specs.Prelude.{◌≡◌, false};
 ghost use Rattle.layer.specs.World.{size_of, world_of, Leaves};
 ghost use Rattle.layer.specs.Step.{answer, step};
-ghost use Rattle.layer.specs.Answering.{is_for, answer_to, is_idle};
+ghost use Rattle.layer.specs.Answering.{answer_to, is_idle};
 ghost use Rattle.state.specs.Ready.{Asked};
 
+use crate::open_question::MemoryQuestion;
 use arena::Arena;
-use layer::{Kind, Reply, Settings, State};
+use claiming::searching::Place;
+use layer::{Kind, Question, Reply, Settings, State};
 use refusals::Refusal;
-
-// ---- row 3
-
-// Whether the answer is for the question that is open.
-fn is_answered(state: State, kind: Kind) -> bool
-    ensures { result ≡ is_for state.question kind }
-{
-    let q = state.question;
-    crate::open_question::is_for(q, kind)
-}
-
-// ---- the core
 
 // What the answer does to the question that is open, on a table that row 1 lets pass.
 pub fn answer_open(
@@ -40,22 +30,34 @@ pub fn answer_open(
     requires { Asked records.old stamps.old state × (is_idle state.question ≡ false) }
     ensures { Leaves (answer_to (size_of state) records.old stamps.old state.count state.mark state.question granted base) result records.new stamps.new }
 {
-    let q = state::question_of(state);
-    let id = table::open_question::asked_id(q);
-    let first = table::open_question::first_asked(q);
-    if crate::open_question::is_commit(q) {
-        let n = table::open_question::length_asked(q);
-        return crate::committing::answer_commit(records, state, id, first, n, granted);
+    match state.question {
+        Question::Idle => unreachable!(),
+        Question::Committing { id, start, n } => {
+            crate::committing::answer_commit(records, state, Place { id, start }, n, granted)
+        }
+        Question::Purging { id, chunk, sweep } => {
+            sweeping::answer_purge(records, stamps, state, id, chunk, sweep, granted)
+        }
+        Question::Reserving {
+            chunks,
+            bytes,
+            commit,
+            exclusive,
+            waiting,
+        } => {
+            let memory = MemoryQuestion {
+                chunks,
+                bytes,
+                commit,
+                exclusive,
+                waiting,
+            };
+            crate::memory::answer_memory(records, stamps, state, memory, granted, base)
+        }
+        Question::GivingBack { cause, waiting } => {
+            crate::waiting::answer_give_back(state, cause, waiting)
+        }
     }
-    if crate::open_question::is_purge(q) {
-        let w = crate::open_question::purge_sweep(q);
-        return sweeping::answer_purge(records, stamps, state, id, first, w, granted);
-    }
-    if crate::open_question::is_memory(q) {
-        let m = crate::open_question::memory_of(q);
-        return crate::memory::answer_memory(records, stamps, state, m, granted, base);
-    }
-    crate::waiting::answer_give_back(state)
 }
 
 // ---- the entry point
@@ -73,11 +75,11 @@ pub fn answer(
 ) -> Reply
     ensures { Leaves (step (world_of records.old stamps.old state) ns settings (answer kind granted base)) result records.new stamps.new }
 {
-    let size = state::chunk_size(state);
-    if !table::row_one(records, stamps.len(), state, settings.page, size) {
+    let chunk_size = state::chunk_size(state);
+    if !table::row_one(records, stamps.len(), state, settings.page, chunk_size) {
         return state::refuse(Refusal::Broken, state);
     }
-    if !is_answered(state, kind) {
+    if !crate::open_question::is_for(state.question, kind) {
         return state::refuse(Refusal::NoSuchQuestion, state);
     }
     answer_open(records, stamps, state, granted, base)

@@ -1,7 +1,7 @@
 -- What each change of a record leaves: that its maps stay rows, and each bit of each map that it writes. What is not said is not written: the other
 -- fields are equal by computing. Assumes nothing.
 use Rattle.std.specs.Prelude.{◌≡◌, ◌+◌, ◌≤◌, ◌<◌}
-use Rattle.arena.proofs.Prelude.{refl, sym, ap, ◌∙◌, subst, Bool, true, false, cond, not, List, ℕ, arith, ℤ, bit_at, within, set_run, clear_run, Found, At, Nothing, Arena, Commitment, Untold, Committed, Uncommitted, no_bits, each_bit, new_arena, grown_arena, take_run, give_back_run, commit_run, dirty_run, finish_grant, tell_run, pend_run, release_run, disarm, borrow_chunk, unpend_chunk, return_chunk, next_wait, rearm_at, rearm, IsRow, Rows}
+use Rattle.arena.proofs.Prelude.{refl, sym, ap, ◌∙◌, subst, Bool, true, false, cond, not, List, ℕ, arith, ℤ, bit_at, within, set_run, clear_run, Option, Some, None, Arena, Commitment, Untold, Committed, Uncommitted, no_bits, each_bit, new_arena, grown_arena, take_run, give_back_run, commit_run, dirty_run, finish_grant, tell_run, pend_run, release_run, disarm, borrow_chunk, unpend_chunk, return_chunk, next_wait, rearm_at, rearm, IsRow, Rows}
 use mathlib.Core.Bool.{true≢false}
 use Rattle.bitmap.specs.Lowest.{Lowest}
 use Rattle.bitmap.proofs.runs.LowestLaws.{lowest-says}
@@ -11,16 +11,16 @@ use Rattle.arena.proofs.RowLaws.{row_write, bit-write, write_same, write_again, 
 
 -- ---- a grant is inside the arena, and was free
 
-pub found_inside : (a : Arena) (n s : ℕ) → find_run a n ≡ At s → s + n ≤ a.chunks
+pub found_inside : (a : Arena) (n s : ℕ) → find_run a n ≡ Some s → s + n ≤ a.chunks
 unfolding find_run
 found_inside a n s e =
-    let k : Lowest (free a) a.chunks n (At s) = subst (Lowest (free a) a.chunks n) e (lowest-says (free a) a.chunks n) in
+    let k : Lowest (free a) a.chunks n (Some s) = subst (Lowest (free a) a.chunks n) e (lowest-says (free a) a.chunks n) in
     k.0.room
 
-pub found-free : (a : Arena) (n s : ℕ) → find_run a n ≡ At s → (j : ℕ) → s ≤ j → j < s + n → bit_at a.used j ≡ false
+pub found-free : (a : Arena) (n s : ℕ) → find_run a n ≡ Some s → (j : ℕ) → s ≤ j → j < s + n → bit_at a.used j ≡ false
 unfolding find_run
 found-free a n s e j l m =
-    let k : Lowest (free a) a.chunks n (At s) = subst (Lowest (free a) a.chunks n) e (lowest-says (free a) a.chunks n) in
+    let k : Lowest (free a) a.chunks n (Some s) = subst (Lowest (free a) a.chunks n) e (lowest-says (free a) a.chunks n) in
     go (bit_at a.used j) (k.0.all-free j l m)
   where
     go : (b : Bool) → not b ≡ true → b ≡ false
@@ -84,9 +84,9 @@ return-rows a j true true r = tell-rows (give_back_run (unpend_chunk a j) j 1) j
 return-rows a j true false r = give-back-rows (unpend_chunk a j) j 1 (unpend-rows a j r)
 return-rows a j false decommit r = give-back-rows (unpend_chunk a j) j 1 (unpend-rows a j r)
 
-pub rearm-at-rows : (a : Arena) (now : ℕ) (f : Found) → Rows a → Rows (rearm_at a now f)
-rearm-at-rows a now (At w) r = record { used = r.used; dirty = r.dirty; committed = r.committed; pending = r.pending }
-rearm-at-rows a now Nothing r = r
+pub rearm-at-rows : (a : Arena) (now : ℕ) (f : Option ℕ) → Rows a → Rows (rearm_at a now f)
+rearm-at-rows a now (Some w) r = record { used = r.used; dirty = r.dirty; committed = r.committed; pending = r.pending }
+rearm-at-rows a now None r = r
 
 pub rearm-rows : (a : Arena) (stamps : List ℕ) (force : Bool) (now delay : ℕ) → Rows a → Rows (rearm a stamps force now delay)
 unfolding rearm
@@ -177,7 +177,7 @@ take-give-back a s n r h e =
     ap (with_used a) (write_again false true a.used s n r.used h ∙ write_same false a.used s n r.used h e)
 
 -- a grant that is given back leaves the record as it was
-pub grant-give-back : (a : Arena) (n s : ℕ) → Rows a → a.chunks ≤ 1024 → find_run a n ≡ At s → give_back_run (take_run a s n) s n ≡ a
+pub grant-give-back : (a : Arena) (n s : ℕ) → Rows a → a.chunks ≤ 1024 → find_run a n ≡ Some s → give_back_run (take_run a s n) s n ≡ a
 grant-give-back a n s r c e = take-give-back a s n r (omega (arith, found_inside a n s e)) (found-free a n s e)
 
 -- ---- the sweep's borrowed bit comes back, whatever the answer

@@ -5,4 +5,5 @@ pub mod PlaceLaws
 pub mod SoundLaws
 pub mod RowLaws
 pub mod Changes
+pub mod ScanLaws
 pub mod StaysSound

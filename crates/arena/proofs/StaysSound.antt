@@ -1,6 +1,6 @@
 -- Sound in, sound out: each change of a sound record that stays inside its chunks leaves a sound record, whatever words its maps are of. Assumes nothing.
 use Rattle.std.specs.Prelude.{◌≡◌, ◌+◌, ◌≤◌, ◌<◌}
-use Rattle.arena.proofs.Prelude.{refl, ◌∙◌, Bool, true, false, List, ℕ, arith, ℤ, write_run, Found, At, Nothing, Arena, Commitment, Untold, Committed, Uncommitted, no_bits, each_bit, new_arena, grown_arena, take_run, give_back_run, commit_run, dirty_run, finish_grant, tell_run, pend_run, release_run, disarm, borrow_chunk, unpend_chunk, return_chunk, next_wait, rearm_at, rearm}
+use Rattle.arena.proofs.Prelude.{refl, ◌∙◌, Bool, true, false, List, ℕ, arith, ℤ, write_run, Option, Some, None, Arena, Commitment, Untold, Committed, Uncommitted, no_bits, each_bit, new_arena, grown_arena, take_run, give_back_run, commit_run, dirty_run, finish_grant, tell_run, pend_run, release_run, disarm, borrow_chunk, unpend_chunk, return_chunk, next_wait, rearm_at, rearm}
 use Rattle.arena.proofs.SoundLaws.{SoundRange, Past, SoundArena}
 use Rattle.bitmap.proofs.words.RowLaws.{within-after, write_run-elsewhere}
 use Rattle.arena.proofs.RowLaws.{bit_at-no_bits}
@@ -149,9 +149,9 @@ return-sound S a j granted decommit x h = go granted decommit
     go true false = g
     go false d = g
 
-pub rearm-at-sound : (S : ℕ) (a : Arena) (now : ℕ) (f : Found) → SoundArena S a → SoundArena S (rearm_at a now f)
-rearm-at-sound S a now (At w) x = record { range = x.range; used = x.used; dirty = x.dirty; committed = x.committed; pending = x.pending }
-rearm-at-sound S a now Nothing x = x
+pub rearm-at-sound : (S : ℕ) (a : Arena) (now : ℕ) (f : Option ℕ) → SoundArena S a → SoundArena S (rearm_at a now f)
+rearm-at-sound S a now (Some w) x = record { range = x.range; used = x.used; dirty = x.dirty; committed = x.committed; pending = x.pending }
+rearm-at-sound S a now None x = x
 
 pub rearm-sound : (S : ℕ) (a : Arena) (stamps : List ℕ) (force : Bool) (now delay : ℕ) → SoundArena S a → SoundArena S (rearm a stamps force now delay)
 unfolding rearm

@@ -1,2 +1,1 @@
-pub mod StampLaws
 pub mod MapLaws

@@ -1,1 +1,1 @@
-mod TailLaws
+pub mod TailLaws

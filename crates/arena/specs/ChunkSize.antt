@@ -1,5 +1,5 @@
--- The bounds on S, the bytes of a chunk, that the arithmetic of the code needs. Assumes nothing.
+-- The bounds on S, the bytes of a chunk, that the arithmetic of the code needs; `chunk_size::ChunkSize` is a number within them. Assumes nothing.
 use Rattle.std.specs.Prelude.{ℕ, ◌<◌, ◌≤◌}
 
-abbrev pub ChunkSize : ℕ → Type 0
-ChunkSize S = (0 < S) × (S ≤ 4294967296)
+abbrev pub IsChunkSize : ℕ → Type 0
+IsChunkSize S = (0 < S) × (S ≤ 4294967296)

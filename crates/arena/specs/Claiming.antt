@@ -1,8 +1,7 @@
 -- What a claim finds in one arena and makes of its record. Document 01, "Claiming". Assumes nothing.
-use Rattle.std.specs.Prelude.{Bool, cond, not, ℕ}
+use Rattle.std.specs.Prelude.{Bool, cond, not, ℕ, Option}
 use Rattle.bitmap.specs.Bits.{bit_at}
 use Rattle.bitmap.specs.Rows.{set_run, clear_run}
-use Rattle.bitmap.specs.declared.runs.Found.{Found}
 use Rattle.bitmap.specs.Lowest.{all, lowest_run}
 use Rattle.arena.specs.declared.Arena.{Arena}
 use Rattle.arena.specs.Record.{with_used, with_dirty, with_committed}
@@ -12,7 +11,7 @@ abbrev pub free : Arena → ℕ → Bool
 free a j = not (bit_at a.used j)
 
 -- "lowest run of n"
-unfoldable pub find_run : Arena → ℕ → Found
+unfoldable pub find_run : Arena → ℕ → Option ℕ
 find_run a n = lowest_run (free a) a.chunks n
 
 -- "unless all chunks are committed"

@@ -1,9 +1,7 @@
 -- The sweep's work on one arena. Document 01, "Sweeping". `stamps` are the arena's own 1,024; `now` and `delay` are milliseconds. Assumes nothing.
-use Rattle.std.specs.Prelude.{Bool, false, cond, not, ◌&&◌, ◌||◌, List, ℕ, zero, suc, ◌-◌, min, eqb, ltb, get_or}
+use Rattle.std.specs.Prelude.{Bool, false, cond, not, ◌&&◌, ◌||◌, List, ℕ, zero, suc, ◌-◌, min, eqb, ltb, get_or, Option, Some, None}
 use Rattle.bitmap.specs.Bits.{bit_at}
 use Rattle.bitmap.specs.Rows.{clear_run}
-use Rattle.bitmap.specs.declared.runs.Found.{Found}
-use Rattle.bitmap.specs.declared.runs.Found.TheVariants.{At, Nothing}
 use Rattle.bitmap.specs.Lowest.{least}
 use Rattle.clock.specs.Clock.{armed, is_due, age_of, due_at}
 use Rattle.arena.specs.declared.Arena.{Arena}
@@ -29,7 +27,7 @@ unfoldable pub to_ask : Arena → List ℕ → Bool → ℕ → ℕ → ℕ → 
 to_ask a stamps force now delay j = bit_at a.pending j && (not (young stamps force now delay j) && not (bit_at a.used j))
 
 -- the next chunk to ask about from a place on: "chunks ascending"
-unfoldable pub next_asked : Arena → List ℕ → Bool → ℕ → ℕ → ℕ → Found
+unfoldable pub next_asked : Arena → List ℕ → Bool → ℕ → ℕ → ℕ → Option ℕ
 next_asked a stamps force now delay from = least (to_ask a stamps force now delay) from (a.chunks - from)
 
 -- "used bit set meanwhile"
@@ -46,13 +44,13 @@ return_chunk a j granted decommit =
     cond (granted && decommit) (tell_run b j 1 Uncommitted) b
 
 -- the lesser of a number and one that was found
-abbrev pub nearer : ℕ → Found → Found
-nearer x Nothing = At x
-nearer x (At y) = At (min x y)
+abbrev pub nearer : ℕ → Option ℕ → Option ℕ
+nearer x None = Some x
+nearer x (Some y) = Some (min x y)
 
 -- the least f j over the j among s, s + 1, .., s + k - 1 at which p holds
-unfoldable pub nearest : (ℕ → Bool) → (ℕ → ℕ) → ℕ → ℕ → Found
-nearest p f s zero = Nothing
+unfoldable pub nearest : (ℕ → Bool) → (ℕ → ℕ) → ℕ → ℕ → Option ℕ
+nearest p f s zero = None
 nearest p f s (suc k) = let rest = nearest p f (suc s) k in cond (p s) (nearer (f s) rest) rest
 
 -- how long from now a young chunk's deadline is: its stamp + delay, counted from now
@@ -60,13 +58,13 @@ unfoldable pub wait : List ℕ → ℕ → ℕ → ℕ → ℕ
 wait stamps now delay j = delay - age_of now (get_or stamps j 0)
 
 -- the young among the pending chunks give "a next deadline of stamp + delay, wrapping, the earliest counted from now"
-unfoldable pub next_wait : Arena → List ℕ → ℕ → ℕ → Found
+unfoldable pub next_wait : Arena → List ℕ → ℕ → ℕ → Option ℕ
 next_wait a stamps now delay = nearest (λ j. bit_at a.pending j && young stamps false now delay j) (wait stamps now delay) 0 a.chunks
 
 -- "being rearmed after the arena"
-abbrev pub rearm_at : Arena → ℕ → Found → Arena
-rearm_at a now (At w) = with_deadline a (armed a.deadline (due_at now w))
-rearm_at a now Nothing = a
+abbrev pub rearm_at : Arena → ℕ → Option ℕ → Arena
+rearm_at a now (Some w) = with_deadline a (armed a.deadline (due_at now w))
+rearm_at a now None = a
 
 -- a forced sweep judges no age, so it rearms nothing
 unfoldable pub rearm : Arena → List ℕ → Bool → ℕ → ℕ → Arena

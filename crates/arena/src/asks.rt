@@ -1,24 +1,21 @@
 // Which of an arena's pending chunks a sweep asks the host about: those that are neither young nor in use.
-ghost use Rattle.std.specs.Prelude.{◌≡◌, false, not, ◌&&◌, ◌+◌, ◌<◌, ◌≤◌, length};
+ghost use Rattle.std.specs.Prelude.{◌≡◌, not, ◌&&◌, ◌+◌, ◌<◌, ◌≤◌, length};
 ghost use Rattle.bitmap.specs.Bits.{bit_at};
-ghost use Rattle.arena.specs.Sweeping.{young};
-ghost use Rattle.arena.specs.Maps.{next_in};
+ghost use Rattle.arena.specs.Sweeping.{young, next_asked};
 
-use bitmap::runs::Found;
+use crate::{Arena, Timing};
 
 // Whether chunk j is too young to be asked about; a forced sweep judges no age.
 #[tactic(auto, unfolding(crate::specs::Sweeping::young))]
-fn is_young(stamps: &[u32], force: bool, ms: u32, delay: u32, j: usize) -> bool
+fn is_young(stamps: &[u32], timing: Timing, j: usize) -> bool
     requires { j < length stamps.now }
-    ensures { result ≡ young stamps.now force ms delay j }
+    ensures { result ≡ young stamps.now timing.force timing.now timing.delay j }
 {
-    if force {
-        return false;
-    }
-    clock::age_ms(ms, stamps[j]) < delay
+    !timing.force && clock::age_ms(timing.now, stamps[j]) < timing.delay
 }
 
 // Place j of a row of bits.
+#[tactic(auto, using(crate::proofs::asks::AskLaws::bit_by_mask))]
 fn bit_of(row: &[u32; 32], j: usize) -> bool
     requires { j < 1024 }
     ensures { result ≡ bit_at row.now j }
@@ -27,44 +24,27 @@ fn bit_of(row: &[u32; 32], j: usize) -> bool
 }
 
 // Whether chunk j, which is pending, is asked about: it is neither young nor in use.
-fn is_asked(used: &[u32; 32], stamps: &[u32], force: bool, ms: u32, delay: u32, j: usize) -> bool
+fn is_asked(used: &[u32; 32], stamps: &[u32], timing: Timing, j: usize) -> bool
     requires { (j < 1024) × (j < length stamps.now) }
-    ensures { result ≡ not (young stamps.now force ms delay j) && not (bit_at used.now j) }
+    ensures { result ≡ (not (young stamps.now timing.force timing.now timing.delay j) && not (bit_at used.now j)) }
 {
-    if is_young(stamps, force, ms, delay, j) {
-        return false;
-    }
-    !bit_of(used, j)
+    !is_young(stamps, timing, j) && !bit_of(used, j)
 }
 
-// The next chunk to ask about, from `from` on. It goes from pending bit to pending bit.
-pub fn next_asked(
-    pending: &[u32; 32],
-    used: &[u32; 32],
-    chunks: usize,
-    stamps: &[u32],
-    force: bool,
-    ms: u32,
-    delay: u32,
-    from: usize,
-) -> Found
-    requires { (chunks ≤ 1024) × (length stamps.now ≡ 1024) }
-    ensures { result ≡ next_in pending.now used.now chunks stamps.now force ms delay from }
-{
-    let mut at = from;
-    while at < chunks {
-        let next = bitmap::row_scans::next_set_in_row(pending, at, chunks);
-        match next {
-            Found::At(j) => {
-                if is_asked(used, stamps, force, ms, delay, j) {
-                    return Found::At(j);
-                }
-                at = j + 1;
+impl Arena {
+    // The next chunk to ask about, from `from` on; `stamps` are the arena's own. It goes from pending bit to pending bit.
+    #[tactic(auto, using(crate::proofs::ScanLaws::found_bounds, crate::proofs::asks::AskLaws::asked_here, crate::proofs::asks::AskLaws::asked_past, crate::proofs::asks::AskLaws::asked_none))]
+    pub fn next_asked(&self, stamps: &[u32], timing: Timing, from: usize) -> Option<usize>
+        requires { (self.now.chunks ≤ 1024) × (length stamps.now ≡ 1024) }
+        ensures { result ≡ next_asked self.now stamps.now timing.force timing.now timing.delay from }
+    {
+        let mut at = from;
+        while let Some(j) = bitmap::row_scans::next_set(&self.pending, at, self.chunks) {
+            if is_asked(&self.used, stamps, timing, j) {
+                return Some(j);
             }
-            Found::Nothing => {
-                return Found::Nothing;
-            }
+            at = j + 1;
         }
+        None
     }
-    Found::Nothing
 }

@@ -1,10 +1,12 @@
 // The record of one arena, and registering and growth by value. The other changes that a call makes to a
-// record stand in `arena_runs` and `arena_sweeps`. It knows no table, no other arena and no question.
+// record stand in `arena_runs` and `arena_sweeps`; what is asked of it there and in `soundness`, `asks` and `waits`,
+// where it lies. It knows no table, no other arena and no question.
 #![tactic(auto)]
 
 pub mod arena_runs;
 pub mod arena_sweeps;
 pub mod asks;
+pub mod chunk_size;
 pub mod purge;
 pub mod soundness;
 pub mod waits;
@@ -41,12 +43,21 @@ pub struct Arena {
     pub pending: [u32; 32],
 }
 
-// What a release tells of its run: nothing, or whether the memory is now committed in full.
+// What a release tells of its run: nothing, or whether the memory is now committed in full. Three named cases say more than an
+// Option of a flag.
 #[derive(Clone, Copy)]
 pub enum Commitment {
     Untold,
     Committed,
     Uncommitted,
+}
+
+// By what a sweep judges a chunk: whether it is forced, the clock and the delay in milliseconds.
+#[derive(Clone, Copy)]
+pub struct Timing {
+    pub force: bool,
+    pub now: u32,
+    pub delay: u32,
 }
 
 // ---- flags
@@ -79,81 +90,73 @@ fn each_bit(chunks: usize, on: bool) -> [u32; 32]
     none
 }
 
-// A new arena: the whole record is written, with no chunk used or pending and no deadline.
-#[tactic(auto, unfolding(crate::specs::Registering::new_arena))]
-fn new_arena(
-    base: u64,
-    chunks: usize,
-    exclusive: bool,
-    owned: bool,
-    node: i32,
-    dirty: bool,
-    committed: bool,
-) -> Arena
-    requires { chunks ≤ 1024 }
-    ensures { result ≡ new_arena base chunks exclusive owned node dirty committed }
-{
-    let d = each_bit(chunks, dirty);
-    let c = each_bit(chunks, committed);
-    let x = as_flag(exclusive);
-    let o = as_flag(owned);
-    Arena {
-        base,
-        chunks,
-        exclusive: x,
-        owned: o,
-        node,
-        deadline: 0,
-        used: [0u32; 32],
-        dirty: d,
-        committed: c,
-        pending: [0u32; 32],
+impl Arena {
+    // A new arena: the whole record is written, with no chunk used or pending and no deadline.
+    #[tactic(auto, unfolding(crate::specs::Registering::new_arena))]
+    fn new(
+        base: u64,
+        chunks: usize,
+        exclusive: bool,
+        owned: bool,
+        node: i32,
+        dirty: bool,
+        committed: bool,
+    ) -> Arena
+        requires { chunks ≤ 1024 }
+        ensures { result ≡ new_arena base chunks exclusive owned node dirty committed }
+    {
+        Arena {
+            base,
+            chunks,
+            exclusive: as_flag(exclusive),
+            owned: as_flag(owned),
+            node,
+            deadline: 0,
+            used: [0u32; 32],
+            dirty: each_bit(chunks, dirty),
+            committed: each_bit(chunks, committed),
+            pending: [0u32; 32],
+        }
     }
-}
 
-// Memory that the layer reserved: untouched, and committed if that was asked.
-#[tactic(auto, unfolding(crate::specs::Registering::reserved_arena))]
-pub fn reserved_arena(base: u64, chunks: usize, commit: bool, exclusive: bool) -> Arena
-    requires { chunks ≤ 1024 }
-    ensures { result ≡ reserved_arena base chunks commit exclusive }
-{
-    new_arena(base, chunks, exclusive, true, -1, false, commit)
-}
+    // Memory that the layer reserved: untouched, and committed if that was asked.
+    #[tactic(auto, unfolding(crate::specs::Registering::reserved_arena))]
+    pub fn reserved(base: u64, chunks: usize, commit: bool, exclusive: bool) -> Arena
+        requires { chunks ≤ 1024 }
+        ensures { result ≡ reserved_arena base chunks commit exclusive }
+    {
+        Arena::new(base, chunks, exclusive, true, -1, false, commit)
+    }
 
-// Memory that the host manages: nothing is known of what it holds.
-#[tactic(auto, unfolding(crate::specs::Registering::managed_arena))]
-pub fn managed_arena(base: u64, chunks: usize, exclusive: bool, node: i32) -> Arena
-    requires { chunks ≤ 1024 }
-    ensures { result ≡ managed_arena base chunks exclusive node }
-{
-    new_arena(base, chunks, exclusive, false, node, true, true)
-}
+    // Memory that the host manages: nothing is known of what it holds.
+    #[tactic(auto, unfolding(crate::specs::Registering::managed_arena))]
+    pub fn managed(base: u64, chunks: usize, exclusive: bool, node: i32) -> Arena
+        requires { chunks ≤ 1024 }
+        ensures { result ≡ managed_arena base chunks exclusive node }
+    {
+        Arena::new(base, chunks, exclusive, false, node, true, true)
+    }
 
-// A block that was in use before.
-#[tactic(auto, unfolding(crate::specs::Registering::adopted_arena))]
-pub fn adopted_arena(base: u64, chunks: usize) -> Arena
-    requires { chunks ≤ 1024 }
-    ensures { result ≡ adopted_arena base chunks }
-{
-    new_arena(base, chunks, false, true, -1, true, true)
-}
+    // A block that was in use before.
+    #[tactic(auto, unfolding(crate::specs::Registering::adopted_arena))]
+    pub fn adopted(base: u64, chunks: usize) -> Arena
+        requires { chunks ≤ 1024 }
+        ensures { result ≡ adopted_arena base chunks }
+    {
+        Arena::new(base, chunks, false, true, -1, true, true)
+    }
 
-// n adopted chunks more, at the arena's end.
-#[tactic(auto, unfolding(crate::specs::Registering::grown_arena))]
-pub fn grow(a: Arena, n: usize) -> Arena
-    requires { a.chunks + n ≤ 1024 }
-    ensures { result ≡ grown_arena a n }
-{
-    let chunks = a.chunks;
-    let dirty = a.dirty;
-    let committed = a.committed;
-    let touched = bitmap::rows::row_set(dirty, chunks, n);
-    let whole = bitmap::rows::row_set(committed, chunks, n);
-    let longer = chunks + n;
-    Arena {
-        chunks: longer,
-        dirty: touched,
-        committed: whole,
-        ..a
+    // n adopted chunks more, at the arena's end.
+    #[tactic(auto, unfolding(crate::specs::Registering::grown_arena))]
+    pub fn grow(self, n: usize) -> Arena
+        requires { self.chunks + n ≤ 1024 }
+        ensures { result ≡ grown_arena self n }
+    {
+        Arena {
+            chunks: self.chunks + n,
+            dirty: bitmap::rows::row_set(self.dirty, self.chunks, n),
+            committed: bitmap::rows::row_set(self.committed, self.chunks, n),
+            ..self
+        }
     }
 }

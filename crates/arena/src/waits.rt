@@ -3,73 +3,63 @@ ghost use Rattle.std.specs.Prelude.{◌≡◌, false, cond, ◌+◌, ◌<◌, �
 ghost use Rattle.arena.specs.Sweeping.{young, nearer, wait};
 ghost use Rattle.arena.specs.Maps.{wait_in, next_deadline};
 
-use bitmap::runs::Found;
+use crate::Timing;
 
 // The lesser of a number and one that was found.
-fn nearer_of(x: usize, found: Found) -> Found
+fn nearer_of(x: usize, found: Option<usize>) -> Option<usize>
     ensures { result ≡ nearer x found }
 {
     match found {
-        Found::At(y) => Found::At(bitmap::words::least(x, y)),
-        Found::Nothing => Found::At(x),
+        Some(y) => Some(x.min(y)),
+        None => Some(x),
     }
 }
 
 // The nearest wait so far, with chunk j's where it is young.
 #[tactic(auto, unfolding(crate::specs::Sweeping::young, crate::specs::Sweeping::wait))]
-fn with_wait(stamps: &[u32], ms: u32, delay: u32, j: usize, best: Found) -> Found
+fn with_wait(stamps: &[u32], timing: Timing, j: usize, best: Option<usize>) -> Option<usize>
     requires { j < length stamps.now }
-    ensures { result ≡ cond (young stamps.now false ms delay j) (nearer (wait stamps.now ms delay j) best) best }
+    ensures { result ≡ cond (young stamps.now false timing.now timing.delay j) (nearer (wait stamps.now timing.now timing.delay j) best) best }
 {
-    let age = clock::age_ms(ms, stamps[j]);
-    if age < delay {
-        return nearer_of((delay - age) as usize, best);
+    let age = clock::age_ms(timing.now, stamps[j]);
+    if age < timing.delay {
+        return nearer_of((timing.delay - age) as usize, best);
     }
     best
 }
 
 // The shortest time from now to the deadline of a young pending chunk.
-fn next_wait(pending: &[u32; 32], chunks: usize, stamps: &[u32], ms: u32, delay: u32) -> Found
+#[tactic(auto, using(crate::proofs::ScanLaws::found_bounds, crate::proofs::waits::WaitLaws::waits_all, crate::proofs::waits::WaitLaws::waits_past, crate::proofs::waits::WaitLaws::waits_end))]
+fn next_wait(pending: &[u32; 32], chunks: usize, stamps: &[u32], timing: Timing) -> Option<usize>
     requires { (chunks ≤ 1024) × (length stamps.now ≡ 1024) }
-    ensures { result ≡ wait_in pending.now chunks stamps.now ms delay }
+    ensures { result ≡ wait_in pending.now chunks stamps.now timing.now timing.delay }
 {
-    let mut at: usize = 0;
-    let mut best = Found::Nothing;
-    while at < chunks {
-        let next = bitmap::row_scans::next_set_in_row(pending, at, chunks);
-        match next {
-            Found::At(j) => {
-                best = with_wait(stamps, ms, delay, j, best);
-                at = j + 1;
-            }
-            Found::Nothing => {
-                return best;
-            }
-        }
+    let mut at = 0;
+    let mut best = None;
+    while let Some(j) = bitmap::row_scans::next_set(pending, at, chunks) {
+        best = with_wait(stamps, timing, j, best);
+        at = j + 1;
     }
     best
 }
 
-// The deadline armed anew after an unforced sweep, for the pending chunks that were too young.
-#[tactic(auto, unfolding(crate::specs::Maps::next_deadline))]
+// The deadline armed anew after an unforced sweep, for the pending chunks that were too young. `stamps` are the arena's own.
+#[tactic(auto, using(crate::proofs::waits::WaitLaws::wait_most), unfolding(crate::specs::Maps::next_deadline))]
 pub fn next_deadline(
     deadline: u32,
     pending: &[u32; 32],
     chunks: usize,
     stamps: &[u32],
-    force: bool,
-    ms: u32,
-    delay: u32,
+    timing: Timing,
 ) -> u32
     requires { (chunks ≤ 1024) × (length stamps.now ≡ 1024) }
-    ensures { result ≡ next_deadline deadline pending.now chunks stamps.now force ms delay }
+    ensures { result ≡ next_deadline deadline pending.now chunks stamps.now timing.force timing.now timing.delay }
 {
-    if force {
+    if timing.force {
         return deadline;
     }
-    let next = next_wait(pending, chunks, stamps, ms, delay);
-    match next {
-        Found::At(w) => clock::arm(deadline, clock::due_at(ms, w as u32)),
-        Found::Nothing => deadline,
+    match next_wait(pending, chunks, stamps, timing) {
+        Some(w) => clock::arm(deadline, clock::due_at(timing.now, w as u32)),
+        None => deadline,
     }
 }

@@ -1,9 +1,7 @@
 -- The lowest run of n free places, over any test of a place and any number of places. It serves arenas (a clear used bit is free), the slice pool (a set
 -- bit is free), and whatever else is claimed by runs. Document 01, "Claiming": "Lowest id, then lowest run of n"; "Refusal 10 comes if and only if no
 -- eligible arena has n neighbouring clear used bits, written without any search". Assumes nothing.
-use Rattle.std.specs.Prelude.{◌≡◌, Bool, true, false, cond, not, ◌&&◌, ℕ, zero, suc, ◌+◌, ◌≤◌, ◌<◌, leb}
-use Rattle.bitmap.specs.declared.runs.Found.{Found}
-use Rattle.bitmap.specs.declared.runs.Found.TheVariants.{At, Nothing}
+use Rattle.std.specs.Prelude.{◌≡◌, Bool, true, false, cond, not, ◌&&◌, ℕ, zero, suc, ◌+◌, ◌≤◌, ◌<◌, leb, Option, Some, None}
 
 -- ---- without any search
 
@@ -17,9 +15,9 @@ pub record Starts (free : ℕ → Bool) (places n s : ℕ) : Type 0 where
   pub all-free : Free free s n
 
 -- what an answer says: a run can start there and at no lower place; or no run can start anywhere
-abbrev pub Lowest : (ℕ → Bool) → ℕ → ℕ → Found → Type 0
-Lowest free places n (At s) = Starts free places n s × ((t : ℕ) → t < s → Starts free places n t → ⊥)
-Lowest free places n Nothing = (t : ℕ) → Starts free places n t → ⊥
+abbrev pub Lowest : (ℕ → Bool) → ℕ → ℕ → Option ℕ → Type 0
+Lowest free places n (Some s) = Starts free places n s × ((t : ℕ) → t < s → Starts free places n t → ⊥)
+Lowest free places n None = (t : ℕ) → Starts free places n t → ⊥
 
 -- ---- the same, to compute with
 
@@ -29,12 +27,12 @@ all p s zero = true
 all p s (suc n) = let rest = all p (suc s) n in cond (p s) rest false
 
 -- the first of s, s + 1, .., s + k - 1 at which p holds
-unfoldable pub least : (ℕ → Bool) → ℕ → ℕ → Found
-least p s zero = Nothing
-least p s (suc k) = let rest = least p (suc s) k in cond (p s) (At s) rest
+unfoldable pub least : (ℕ → Bool) → ℕ → ℕ → Option ℕ
+least p s zero = None
+least p s (suc k) = let rest = least p (suc s) k in cond (p s) (Some s) rest
 
 -- the least s with s + n ≤ places and n free places from s on
-unfoldable pub lowest_run : (ℕ → Bool) → ℕ → ℕ → Found
+unfoldable pub lowest_run : (ℕ → Bool) → ℕ → ℕ → Option ℕ
 lowest_run free places n = least (λ s. leb (s + n) places && all free s n) 0 (suc places)
 
 -- ---- the sense of a bit

@@ -3,8 +3,6 @@ ghost use Rattle.std.specs.Prelude.{◌≡◌, true, false, ◌+◌, ◌*◌, �
 ghost use Rattle.bitmap.specs.Bits.{bit, bit_at};
 ghost use Rattle.bitmap.specs.Lowest.{all, least, sense};
 
-use crate::runs::Found;
-
 // Whether the m bits of w from lo on are set, by one mask.
 fn word_is_free(w: u32, lo: usize, m: usize) -> bool
     requires { (lo < 32) × (lo + m ≤ 32) }
@@ -21,49 +19,36 @@ pub fn run_is_free(lent: &[u32], used: bool, start: usize, n: usize) -> bool
 {
     let mut at = start;
     let end = start + n;
+    // The steps differ, so this is no `for`.
     while at < end {
         let lo = at % 32;
-        let m = crate::words::least(32 - lo, end - at);
+        let m = (32 - lo).min(end - at);
         let w = crate::runs::in_sense(lent[at / 32], used);
         if !word_is_free(w, lo, m) {
             return false;
         }
-        at = at + m;
+        at += m;
     }
     true
 }
 
 // The lowest set place from `from` on, below places: the count of trailing zeros of what is left of a word.
-pub fn next_set(lent: &[u32], from: usize, places: usize) -> Found
+pub fn next_set(lent: &[u32], from: usize, places: usize) -> Option<usize>
     requires { (places ≤ 32 * length lent.now) × (places ≤ 65536) }
     ensures { result ≡ least (bit_at lent.now) from (places - from) }
 {
     let mut at = from;
+    // The steps differ, so this is no `for`.
     while at < places {
         let w = lent[at / 32] >> ((at % 32) as u32);
         let z = crate::words::lowest_set(w) as usize;
         if z < 32 {
             if at + z < places {
-                return Found::At(at + z);
+                return Some(at + z);
             }
-            return Found::Nothing;
+            return None;
         }
         at = (at / 32 + 1) * 32;
     }
-    Found::Nothing
-}
-
-// The same two over a row of 1,024 places as an array.
-pub fn row_is_free(row: &[u32; 32], used: bool, start: usize, n: usize) -> bool
-    requires { start + n ≤ 1024 }
-    ensures { result ≡ all (λ j. sense used (bit_at row.now j)) start n }
-{
-    run_is_free(row, used, start, n)
-}
-
-pub fn next_set_in_row(row: &[u32; 32], from: usize, places: usize) -> Found
-    requires { places ≤ 1024 }
-    ensures { result ≡ least (bit_at row.now) from (places - from) }
-{
-    next_set(row, from, places)
+    None
 }

@@ -9,16 +9,18 @@ fn write_run(lent: &mut [u32], start: usize, n: usize, on: bool)
 {
     let mut at = start;
     let end = start + n;
+    // The steps differ, so this is no `for`.
     while at < end {
         let k = at / 32;
         let lo = at % 32;
-        let m = crate::words::least(32 - lo, end - at);
+        let m = (32 - lo).min(end - at);
         lent[k] = crate::words::write_word(lent[k], lo, m, on);
-        at = at + m;
+        at += m;
     }
 }
 
-// The n places from start on of a lent row set.
+// Four thin names of the one above and of one row by value, so that a call says set or cleared and not true or false: the n places
+// from start on of a lent row set.
 pub fn set_run(lent: &mut [u32], start: usize, n: usize)
     requires { (start + n ≤ 32 * length lent.old) × (start + n ≤ 65536) }
     ensures { lent.new ≡ set_run lent.old start n }

@@ -5,13 +5,6 @@ ghost use Rattle.bitmap.specs.Bits.{bit, bit_at};
 ghost use Rattle.bitmap.specs.Lowest.{all, lowest_run, sense};
 ghost use Rattle.bitmap.specs.Steps.{Stepped};
 
-// Where the lowest run starts.
-#[derive(Clone, Copy)]
-pub enum Found {
-    At(usize),
-    Nothing,
-}
-
 // What a word says of the search: the run starts before it, or in it; the word is free from end to
 // end; or so many places at its top are free.
 #[derive(Clone, Copy)]
@@ -36,13 +29,14 @@ fn run_starts(w: u32, n: usize) -> u32
 {
     let mut m = w;
     let mut have: usize = 1;
+    // The steps differ, so this is no `for`.
     while have < n {
         if m == 0 {
             return 0;
         }
-        let s = crate::words::least(have, n - have);
-        m = m & (m >> (s as u32));
-        have = have + s;
+        let s = have.min(n - have);
+        m &= m >> (s as u32);
+        have += s;
     }
     m
 }
@@ -109,47 +103,24 @@ fn free_bits(w: u32, used: bool, left: usize) -> u32
 
 // The lowest s such that the n places from s on are free, all below places. Where `used` is true, a set
 // bit is a place in use; else it is a free place.
-pub fn lowest_run(lent: &[u32], used: bool, places: usize, n: usize) -> Found
+pub fn lowest_run(lent: &[u32], used: bool, places: usize, n: usize) -> Option<usize>
     requires { (0 < n) × (places ≤ 32 * length lent.now) × (places ≤ 4294967296) }
     ensures { result ≡ lowest_run (λ j. sense used (bit_at lent.now j)) places n }
 {
-    let mut base: usize = 0;
     let mut carry: usize = 0;
-    while base < places {
-        let w = free_bits(lent[base / 32], used, places - base);
-        let got = look(w, carry, n);
-        match got {
+    for k in 0..places.div_ceil(32) {
+        let base = 32 * k;
+        let w = free_bits(lent[k], used, places - base);
+        match look(w, carry, n) {
             Step::Before => {
-                return Found::At(base - carry);
+                return Some(base - carry);
             }
             Step::From(i) => {
-                return Found::At(base + i);
+                return Some(base + i);
             }
-            Step::Whole => {
-                carry = carry + 32;
-                base = base + 32;
-            }
-            Step::Carry(k) => {
-                carry = k;
-                base = base + 32;
-            }
+            Step::Whole => carry += 32,
+            Step::Carry(top) => carry = top,
         }
     }
-    Found::Nothing
-}
-
-// A row of 1,024 places as an array, in which a set bit is a place in use: an arena's used map.
-pub fn lowest_clear_run(row: &[u32; 32], places: usize, n: usize) -> Found
-    requires { (0 < n) × (places ≤ 1024) }
-    ensures { result ≡ lowest_run (λ j. not (bit_at row.now j)) places n }
-{
-    lowest_run(row, true, places, n)
-}
-
-// Lent words, in which a set bit is a free place: the slice pool's map.
-pub fn lowest_set_run(lent: &[u32], places: usize, n: usize) -> Found
-    requires { (0 < n) × (places ≤ 32 * length lent.now) × (places ≤ 4294967296) }
-    ensures { result ≡ lowest_run (bit_at lent.now) places n }
-{
-    lowest_run(lent, false, places, n)
+    None
 }

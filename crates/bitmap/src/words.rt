@@ -1,6 +1,6 @@
 // Words of 32 bits, and what a row of them is as a bitmap: masks of low ones, a run of bits of a word set and cleared
 // by masks, and the lowest set or clear bit of a word. Document 01, "Map words".
-ghost use Rattle.std.specs.Prelude.{◌≡◌, true, false, cond, ℕ, ◌+◌, ◌<◌, ◌≤◌, min};
+ghost use Rattle.std.specs.Prelude.{◌≡◌, true, false, cond, ℕ, ◌+◌, ◌<◌, ◌≤◌};
 ghost use Rattle.bitmap.specs.Bits.{low_ones, bit, within, LowestBit};
 
 // The mask of n low ones. In 64 bits: 1 shifted by 32 does not fit in 32, and would need a branch.
@@ -11,31 +11,13 @@ pub fn low_ones(n: usize) -> u32
     ((1u64 << n) - 1) as u32
 }
 
-// w with the n bits from lo on set.
-fn set_word(w: u32, lo: usize, n: usize) -> u32
-    requires { (lo < 32) × (lo + n ≤ 32) }
-    ensures { (i : ℕ) → bit result i ≡ cond (within lo n i) true (bit w i) }
-{
-    w | low_ones(n) << (lo as u32)
-}
-
-// w with the n bits from lo on clear.
-fn clear_word(w: u32, lo: usize, n: usize) -> u32
-    requires { (lo < 32) × (lo + n ≤ 32) }
-    ensures { (i : ℕ) → bit result i ≡ cond (within lo n i) false (bit w i) }
-{
-    w & !(low_ones(n) << (lo as u32))
-}
-
 // w with the n bits from lo on made `on`.
 pub fn write_word(w: u32, lo: usize, n: usize, on: bool) -> u32
     requires { (lo < 32) × (lo + n ≤ 32) }
     ensures { (i : ℕ) → bit result i ≡ cond (within lo n i) on (bit w i) }
 {
-    if on {
-        return set_word(w, lo, n);
-    }
-    clear_word(w, lo, n)
+    let mask = low_ones(n) << (lo as u32);
+    if on { w | mask } else { w & !mask }
 }
 
 // The lowest set bit of w; 32 where there is none.
@@ -50,11 +32,4 @@ pub fn lowest_clear(w: u32) -> u32
     ensures { LowestBit false w result }
 {
     u32::trailing_zeros(!w)
-}
-
-// The lesser of two numbers.
-pub fn least(a: usize, b: usize) -> usize
-    ensures { result ≡ min a b }
-{
-    if a <= b { a } else { b }
 }

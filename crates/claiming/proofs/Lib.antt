@@ -1,6 +1,6 @@
 -- The laws that the answers cite.
 pub mod SearchLaws
-pub mod TurnLaws
 pub mod GrantLaws
 pub mod MissLaws
 pub mod RowLaws
+pub mod ClaimLaws

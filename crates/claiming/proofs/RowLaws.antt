@@ -1,10 +1,10 @@
 -- Each return of a claim's core leaves what the definition of a claim says. Assumes nothing.
 use Rattle.std.specs.Prelude.{◌≡◌, ◌+◌, ◌<◌, ◌≤◌}
-use Rattle.state.proofs.Prelude.{sym, ap, ◌∙◌, Bool, true, false, not, List, ℕ, arith, eqb, ℤ, length, set, Refusal, Zero, ArenasOff, when, unless, arena_allowed, Arena, found_inside, SoundArena, Settings, State, Reply, Outcome, size_of, after, Leaves, turn_down, calm, at, grant_arena, grant_reply, miss_reply, search_of, claim_of}
+use Rattle.state.proofs.Prelude.{sym, ap, ◌∙◌, Bool, true, false, not, List, ℕ, arith, eqb, ℤ, Some, None, length, set, Refusal, Zero, ArenasOff, when, unless, arena_allowed, Arena, found_inside, SoundArena, Settings, State, Reply, Outcome, size_of, after, Leaves, turn_down, calm, at, grant_arena, grant_reply, miss_reply, search_of, claim_of}
 use Rattle.state.specs.Ready.{Standing, Ready}
 use Rattle.state.proofs.Entry.{calm-is, stands, comes}
-use Rattle.claiming.specs.declared.verdicts.Verdict.{Verdict}
-use Rattle.claiming.specs.Search.{is_run, id_of, start_of, search_from, Searchable, RunAt}
+use Rattle.claiming.specs.declared.searching.Place.{Place}
+use Rattle.claiming.specs.Search.{search_from, Searchable, RunAt}
 use Rattle.claiming.proofs.SearchLaws.{Finds, finds, in-a-run, in-vain}
 
 -- what the search and the grant require
@@ -12,21 +12,14 @@ module _ (l : List Arena) (state : State) (ready : Standing l state) where
   pub searchable : Searchable l state.count
   searchable = let m : length l ≡ 32 = ready.lent in let k : state.count ≤ 32 = ready.few in (omega (arith, m, k), λ i h. (stands l state ready i h).range.few)
 
-  module _ (id : ℤ) (n : ℕ) (run : is_run (search_from l id n 0 state.count) ≡ true) where
-    abbrev v : Verdict
-    v = search_from l id n 0 state.count
-
-    found : Finds l id n 0 state.count v
-    found = finds l id n 0 state.count run
-
-    pub grantable : RunAt (size_of state) l (id_of v) (start_of v) n
-    grantable =
-        let m : length l ≡ 32 = ready.lent in
-        let k : state.count ≤ 32 = ready.few in
-        let h : id_of v < 0 + state.count = found.0 in
-        let in_count : id_of v < state.count = omega (arith, h) in
-        let a : SoundArena (size_of state) (at l (id_of v)) = stands l state ready (id_of v) in_count in
-        (omega (arith, h, m, k), found_inside (at l (id_of v)) n (start_of v) found.1, a.range.few, a.range.ends)
+  pub grantable : (id : ℤ) (n : ℕ) (p : Place) → search_from l id n 0 state.count ≡ Some p → RunAt (size_of state) l p.id p.start n
+  grantable id n p e =
+      let m : length l ≡ 32 = ready.lent in
+      let k : state.count ≤ 32 = ready.few in
+      let found : Finds l id n 0 state.count p = finds l id n 0 state.count p e in
+      let h : p.id < 0 + state.count = found.0 in
+      let a : SoundArena (size_of state) (at l p.id) = stands l state ready p.id (omega (arith, h)) in
+      (omega (arith, h, m, k), found_inside (at l p.id) n p.start found.1, a.range.few, a.range.ends)
 
 -- the returns
 module _ (l : List Arena) (stamps : List ℕ) (state : State) (settings : Settings) (id : ℤ) (n : ℕ) (commits : Bool) (ready : Ready l state) where
@@ -46,9 +39,6 @@ module _ (l : List Arena) (stamps : List ℕ) (state : State) (settings : Settin
     off-row e = comes out _ l stamps (unless _ _ _ some ∙ when _ _ _ (ap not e) ∙ down ArenasOff)
 
     module _ (allowed : arena_allowed settings.off id ≡ true) where
-      abbrev w : Verdict
-      w = search_from l id n 0 state.count
-
       abbrev waits : Reply
       waits = miss_reply (size_of state) state.count state.mark id n commits settings
 
@@ -56,9 +46,9 @@ module _ (l : List Arena) (stamps : List ℕ) (state : State) (settings : Settin
       unfolding claim_of
       searched = unless _ _ _ some ∙ unless _ _ _ (ap not allowed)
 
-      pub granted : is_run w ≡ true
-          → Leaves out (grant_reply (size_of state) state.count state.mark (id_of w) (at l (id_of w)) (start_of w) n commits) (set l (id_of w) (grant_arena (at l (id_of w)) (start_of w) n commits)) stamps
-      granted e = comes out _ _ stamps (searched ∙ in-a-run l id n (size_of state) stamps state.count state.mark commits waits e)
+      pub granted : (p : Place) → search_from l id n 0 state.count ≡ Some p
+          → Leaves out (grant_reply (size_of state) state.count state.mark p.id (at l p.id) p.start n commits) (set l p.id (grant_arena (at l p.id) p.start n commits)) stamps
+      granted p e = comes out _ _ stamps (searched ∙ in-a-run l id n (size_of state) stamps state.count state.mark commits waits p e)
 
-      pub missed : is_run w ≡ false → Leaves out waits l stamps
+      pub missed : search_from l id n 0 state.count ≡ None → Leaves out waits l stamps
       missed e = comes out _ l stamps (searched ∙ in-vain l id n (size_of state) stamps state.count state.mark commits waits e)

@@ -5,10 +5,8 @@
 pub mod grants;
 pub mod misses;
 pub mod searching;
-pub mod verdicts;
 
 ghost use Rattle.std.specs.Prelude.{◌≡◌, true, false, List, ℕ};
-ghost use Rattle.options.specs.Options.{arena_allowed};
 ghost use Rattle.layer.specs.World.{size_of, world_of, Leaves};
 ghost use Rattle.layer.specs.Claiming.{claim_of};
 ghost use Rattle.layer.specs.Step.{claim, step, act};
@@ -18,17 +16,7 @@ use arena::Arena;
 use layer::{Reply, Settings, State};
 use refusals::Refusal;
 
-// ---- rows 4 and 5
-
-fn is_allowed(settings: Settings, id: i32) -> bool
-    ensures { result ≡ arena_allowed settings.off id }
-{
-    options::arena_allowed(settings.off, id)
-}
-
-// ---- the core
-
-// A claim of n chunks at the id, on a table that rows 1 and 2 let pass. It reads no clock.
+// A claim of n chunks at the id, on a table that rows 1 and 2 let pass: rows 4 and 5, then the search. It reads no clock.
 pub fn claim(
     records: &mut [Arena],
     state: State,
@@ -43,17 +31,13 @@ pub fn claim(
     if n == 0 {
         return state::refuse(Refusal::Zero, state);
     }
-    if !is_allowed(settings, id) {
+    if !options::arena_allowed(settings.off, id) {
         return state::refuse(Refusal::ArenasOff, state);
     }
-    let count = state.count;
-    let v = crate::searching::search(records, count, id, n);
-    if crate::verdicts::is_run(v) {
-        return crate::grants::grant_found(records, state, v, n, commits);
+    match crate::searching::search(records, state.count, id, n) {
+        Some(place) => crate::grants::grant(records, state, place, n, commits),
+        None => crate::misses::miss(state, settings, id, n, commits, state::chunk_size(state)),
     }
-    let mark = state.mark;
-    let size = state::chunk_size(state);
-    crate::misses::miss(id, n, commits, settings, count, mark, size)
 }
 
 // ---- the entry points
@@ -70,12 +54,8 @@ fn claim_at(
 ) -> Reply
     ensures { (ns : ℕ) → Leaves (step (world_of records.old stamps.old state) ns settings (act (claim id n commits))) result records.new stamps.new }
 {
-    let size = state::chunk_size(state);
-    if !table::row_one(records, stamps.len(), state, settings.page, size) {
-        return state::refuse(Refusal::Broken, state);
-    }
-    if !state::is_idle(state) {
-        return state::refuse(Refusal::QuestionOpen, state);
+    if let Err(why) = table::rows_one_and_two(records, stamps.len(), state, settings.page) {
+        return state::refuse(why, state);
     }
     claim(records, state, settings, id, n, commits)
 }

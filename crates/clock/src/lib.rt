@@ -11,13 +11,15 @@ const LONGEST_DELAY: i64 = 1073741823;
 const HALF_ROUND: u32 = 2147483647;
 
 // 0 means that no deadline is set, so the clock and a deadline say 1 for it.
+#[tactic(auto, unfolding(crate::specs::Clock::or_one))]
 fn or_one(x: u32) -> u32
     ensures { result ≡ or_one x }
 {
-    if x == 0 { 1 } else { x }
+    x.max(1)
 }
 
 // The clock's reading, in milliseconds, of a number of nanoseconds.
+#[tactic(auto, unfolding(crate::specs::Clock::now_ms))]
 pub fn now_ms(ns: u64) -> u32
     ensures { result ≡ now_ms ns }
 {
@@ -25,19 +27,15 @@ pub fn now_ms(ns: u64) -> u32
 }
 
 // The purge delay (option 15), in the range that the wrapping compares can tell apart.
+#[tactic(auto, unfolding(crate::specs::Clock::delay_ms))]
 pub fn delay_ms(delay: i64) -> u32
     ensures { result ≡ delay_ms delay }
 {
-    if delay < 0 {
-        return 0;
-    }
-    if delay > LONGEST_DELAY {
-        return LONGEST_DELAY as u32;
-    }
-    delay as u32
+    delay.clamp(0, LONGEST_DELAY) as u32
 }
 
 // Whether the purge delay says that nothing is purged: −1 does, and every other negative one.
+#[tactic(auto, unfolding(crate::specs::Clock::never_purges))]
 pub fn never_purges(delay: i64) -> bool
     ensures { result ≡ never_purges delay }
 {
@@ -45,14 +43,12 @@ pub fn never_purges(delay: i64) -> bool
 }
 
 // The deadline after `due` is armed over it: the earlier of the two, 0 being none.
+#[tactic(auto, unfolding(crate::specs::Clock::armed, crate::specs::Clock::keeps))]
 pub fn arm(deadline: u32, due: u32) -> u32
     ensures { result ≡ armed deadline due }
 {
     let at = or_one(due);
-    if deadline == 0 {
-        return at;
-    }
-    if std::num::wrapping_sub_u32(deadline, at) > HALF_ROUND {
+    if deadline != 0 && deadline.wrapping_sub(at) > HALF_ROUND {
         deadline
     } else {
         at
@@ -60,22 +56,23 @@ pub fn arm(deadline: u32, due: u32) -> u32
 }
 
 // Whether the deadline `due` has come at `now`.
+#[tactic(auto, unfolding(crate::specs::Clock::is_due))]
 pub fn is_due(due: u32, now: u32) -> bool
     ensures { result ≡ is_due due now }
 {
-    due == now || std::num::wrapping_sub_u32(due, now) >= HALF_ROUND
+    due == now || due.wrapping_sub(now) >= HALF_ROUND
 }
 
 // How long ago `stamp` was, at `now`.
 pub fn age_ms(now: u32, stamp: u32) -> u32
     ensures { result ≡ age_of now stamp }
 {
-    std::num::wrapping_sub_u32(now, stamp)
+    now.wrapping_sub(stamp)
 }
 
 // The deadline `delay` milliseconds after `now`.
 pub fn due_at(now: u32, delay: u32) -> u32
     ensures { result ≡ due_at now delay }
 {
-    std::num::wrapping_add_u32(now, delay)
+    now.wrapping_add(delay)
 }

@@ -1,6 +1,6 @@
 -- Wish 1 of document 02, worked by hand: the smallest pairs of tables that tell its readings apart, over the definition of a join. Most cases are an equation of the
 -- answer and of all that is left on both sides; the others are what a call on the joined table answers. Assumes nothing.
-use Rattle.std.specs.Prelude.{◌≡◌, Bool, true, false, List, ◌∷◌, ◌++◌, ℕ, ◌-◌, ◌*◌, pos, negsuc, replicate}
+use Rattle.std.specs.Prelude.{◌≡◌, Bool, true, false, List, ◌∷◌, ◌++◌, ℕ, ◌-◌, ◌*◌, pos, negsuc, replicate, Ok, Err}
 use Rattle.refusals.specs.declared.Refusal.{Refusal}
 use Rattle.refusals.specs.declared.Refusal.TheVariants.{Broken, QuestionOpen, Range, TablesOverlap, TooManyArenas}
 use Rattle.arena.specs.declared.Arena.{Arena}
@@ -11,7 +11,6 @@ use Rattle.layer.specs.declared.Waiting.TheVariants.{Reserve}
 use Rattle.layer.specs.declared.Unusable.TheVariants.{Full}
 use Rattle.layer.specs.declared.Ask.TheVariants.{AskPurge}
 use Rattle.layer.specs.declared.Answer.TheVariants.{Refused, Asks, Swept}
-use Rattle.layer.specs.declared.JoinAnswer.TheVariants.{NotJoined, Joined}
 use Rattle.layer.specs.World.{World, blank, state_with, world_of, calm, empty}
 use Rattle.layer.specs.Step.{adopt, sweep, act, step}
 use Rattle.layer.specs.Joining.{join_outcome, join}
@@ -108,11 +107,11 @@ give_back_asked = GivingBack Full Reserve
 
 -- granted: the rise, the first's table after it, and the empty layer as the second's
 abbrev pub Joins : World → World → ℕ → World → Type 0
-Joins w v rise both = join w v 0 plain ≡ join_outcome (Joined rise) both empty
+Joins w v rise both = join w v 0 plain ≡ join_outcome (Ok rise) both empty
 
 -- refused: both tables as they were
 abbrev pub RefusesBy : Settings → World → World → Refusal → Type 0
-RefusesBy settings w v why = join w v 0 settings ≡ join_outcome (NotJoined why) w v
+RefusesBy settings w v why = join w v 0 settings ≡ join_outcome (Err why) w v
 
 abbrev pub Refuses : World → World → Refusal → Type 0
 Refuses w v why = RefusesBy plain w v why

@@ -1,9 +1,7 @@
 -- Document 01, "Worked by hand": the lines with ◆ as one table. `computed` is what the definitions give, `stated` what the document says; proofs/Worked
 -- proves that they are equal by computing. Assumes nothing.
-use Rattle.std.specs.Prelude.{true, false, cond, not, List, [], ◌∷◌, ℕ, pos, negsuc, replicate}
+use Rattle.std.specs.Prelude.{true, false, cond, not, List, [], ◌∷◌, ℕ, pos, negsuc, replicate, Option, Some, None}
 use Rattle.bitmap.specs.Bits.{low_ones, bit_at}
-use Rattle.bitmap.specs.declared.runs.Found.{Found}
-use Rattle.bitmap.specs.declared.runs.Found.TheVariants.{At, Nothing}
 use Rattle.bitmap.specs.Lowest.{lowest_run}
 use Rattle.sizes.specs.Sizes.{page_align_up}
 use Rattle.clock.specs.Clock.{now_ms, delay_ms, armed, is_due}
@@ -14,9 +12,9 @@ use Rattle.layer.specs.Table.{at}
 use Rattle.layer.specs.Registering.{manage_of}
 
 -- an answer as a number: the run's start, or 1,024 where there is none
-abbrev pub start : Found → ℕ
-start (At s) = s
-start Nothing = 1024
+abbrev pub start : Option ℕ → ℕ
+start (Some s) = s
+start None = 1024
 
 -- where the lowest run of n chunks starts, the used bits given as words
 abbrev pub run : List ℕ → ℕ → ℕ → ℕ

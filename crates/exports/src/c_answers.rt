@@ -5,11 +5,13 @@ ghost use Rattle.surface.specs.Told.{kind_of};
 ghost use Rattle.surface.specs.Replies.{step_numbers, LeavesNumbers};
 
 use arena::Arena;
+use layer::{Settings, State};
 use surface::StateNumbers;
 use surface::reply::ReplyNumbers;
 use surface::told::SettingsNumbers;
 
 // The host's answer to the open question; `base` is where the memory is that was asked for.
+#[tactic(auto, unfolding(surface::specs::Replies::step_numbers, surface::specs::Replies::reply_of))]
 #[unsafe(no_mangle)]
 pub extern "C" fn sirqobal_answer(
     records: &mut [Arena],
@@ -23,12 +25,11 @@ pub extern "C" fn sirqobal_answer(
 ) -> ReplyNumbers
     ensures { LeavesNumbers (step_numbers records.old stamps.old state ns settings (answer (kind_of kind) yes base)) result records.new stamps.new }
 {
-    if !surface::is_state(state) {
+    let Ok(s) = State::try_from(state) else {
         return surface::reply::no_state(state);
-    }
-    let s = surface::state_of(state);
-    let c = surface::told::settings_of(settings);
+    };
+    let c = Settings::from(settings);
     let k = surface::told::kind_of(kind);
     let r = answering::answer(records, stamps, s, ns, c, k, yes, base);
-    surface::reply::reply_of(r)
+    ReplyNumbers::from(r)
 }

@@ -5,11 +5,13 @@ ghost use Rattle.layer.specs.Step.{claim, act};
 ghost use Rattle.surface.specs.Replies.{step_numbers, LeavesNumbers};
 
 use arena::Arena;
+use layer::{Settings, State};
 use surface::StateNumbers;
 use surface::reply::ReplyNumbers;
 use surface::told::SettingsNumbers;
 
 // One chunk, committed.
+#[tactic(auto, unfolding(surface::specs::Replies::step_numbers, surface::specs::Replies::reply_of))]
 #[unsafe(no_mangle)]
 pub extern "C" fn sirqobal_chunk_alloc(
     records: &mut [Arena],
@@ -21,16 +23,16 @@ pub extern "C" fn sirqobal_chunk_alloc(
 ) -> ReplyNumbers
     ensures { LeavesNumbers (step_numbers records.old stamps.old state ns settings (act (claim id 1 true))) result records.new stamps.new }
 {
-    if !surface::is_state(state) {
+    let Ok(s) = State::try_from(state) else {
         return surface::reply::no_state(state);
-    }
-    let s = surface::state_of(state);
-    let c = surface::told::settings_of(settings);
+    };
+    let c = Settings::from(settings);
     let r = claiming::chunk_alloc(records, stamps, s, ns, c, id);
-    surface::reply::reply_of(r)
+    ReplyNumbers::from(r)
 }
 
 // One chunk, as it is: the answer says whether it is committed.
+#[tactic(auto, unfolding(surface::specs::Replies::step_numbers, surface::specs::Replies::reply_of))]
 #[unsafe(no_mangle)]
 pub extern "C" fn sirqobal_chunk_claim(
     records: &mut [Arena],
@@ -42,16 +44,16 @@ pub extern "C" fn sirqobal_chunk_claim(
 ) -> ReplyNumbers
     ensures { LeavesNumbers (step_numbers records.old stamps.old state ns settings (act (claim id 1 false))) result records.new stamps.new }
 {
-    if !surface::is_state(state) {
+    let Ok(s) = State::try_from(state) else {
         return surface::reply::no_state(state);
-    }
-    let s = surface::state_of(state);
-    let c = surface::told::settings_of(settings);
+    };
+    let c = Settings::from(settings);
     let r = claiming::chunk_claim(records, stamps, s, ns, c, id);
-    surface::reply::reply_of(r)
+    ReplyNumbers::from(r)
 }
 
 // A run of n chunks, committed.
+#[tactic(auto, unfolding(surface::specs::Replies::step_numbers, surface::specs::Replies::reply_of))]
 #[unsafe(no_mangle)]
 pub extern "C" fn sirqobal_chunk_alloc_n(
     records: &mut [Arena],
@@ -64,11 +66,10 @@ pub extern "C" fn sirqobal_chunk_alloc_n(
 ) -> ReplyNumbers
     ensures { LeavesNumbers (step_numbers records.old stamps.old state ns settings (act (claim id n true))) result records.new stamps.new }
 {
-    if !surface::is_state(state) {
+    let Ok(s) = State::try_from(state) else {
         return surface::reply::no_state(state);
-    }
-    let s = surface::state_of(state);
-    let c = surface::told::settings_of(settings);
+    };
+    let c = Settings::from(settings);
     let r = claiming::chunk_alloc_n(records, stamps, s, ns, c, id, n);
-    surface::reply::reply_of(r)
+    ReplyNumbers::from(r)
 }

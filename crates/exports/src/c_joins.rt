@@ -4,11 +4,13 @@
 ghost use Rattle.surface.specs.Joins.{join_numbers, LeavesBothNumbers};
 
 use arena::Arena;
+use layer::{Settings, State};
 use surface::StateNumbers;
 use surface::joins::JoinNumbers;
 use surface::told::SettingsNumbers;
 
 // One table out of two: the second's arenas come behind the first's, and the second is left empty.
+#[tactic(auto, unfolding(surface::specs::Joins::join_numbers, surface::specs::Joins::join_reply_of))]
 #[unsafe(no_mangle)]
 pub extern "C" fn sirqobal_join_tables(
     records: &mut [Arena],
@@ -22,17 +24,13 @@ pub extern "C" fn sirqobal_join_tables(
 ) -> JoinNumbers
     ensures { LeavesBothNumbers (join_numbers records.old stamps.old second_records.old second_stamps.old state second ns settings) result records.new stamps.new second_records.new second_stamps.new }
 {
-    let first_is_state = surface::is_state(state);
-    let second_is_state = surface::is_state(second);
-    if !first_is_state {
+    let Ok(s) = State::try_from(state) else {
         return surface::joins::no_join(state, second);
-    }
-    if !second_is_state {
+    };
+    let Ok(t) = State::try_from(second) else {
         return surface::joins::no_join(state, second);
-    }
-    let s = surface::state_of(state);
-    let t = surface::state_of(second);
-    let c = surface::told::settings_of(settings);
+    };
+    let c = Settings::from(settings);
     let r = joining::join_tables(records, stamps, second_records, second_stamps, s, t, ns, c);
-    surface::joins::join_reply_of(r)
+    JoinNumbers::from(r)
 }

@@ -2,10 +2,11 @@
 ghost use Rattle.std.specs.Prelude.{◌≡◌};
 ghost use Rattle.sizes.specs.Sizes.{is_aligned_to, page_align_up};
 ghost use Rattle.clock.specs.Clock.{now_ms, delay_ms, armed, is_due};
-ghost use Rattle.slice_pool.specs.Pool.{alloc_run, free_range, free_number};
+ghost use Rattle.refusals.specs.Number.{number_in};
+ghost use Rattle.slice_pool.specs.Pool.{alloc_run, free_range};
 ghost use Rattle.exports.specs.Exports.{slice_answer};
 
-use slice_pool::{Allocated, Freed};
+use refusals::Refusal;
 
 // ---- size arithmetic, clock and deadlines: functions on numbers
 
@@ -61,24 +62,15 @@ pub struct SliceAnswer {
     pub address: u64,
 }
 
-fn in_numbers(a: Allocated) -> SliceAnswer
+fn in_numbers(a: Result<u64, Refusal>) -> SliceAnswer
     ensures { result ≡ slice_answer a }
 {
     match a {
-        Allocated::Run(address) => SliceAnswer { number: 0, address },
-        Allocated::NotRun(why) => SliceAnswer {
-            number: refusals::refusal_number(why),
+        Ok(address) => SliceAnswer { number: 0, address },
+        Err(why) => SliceAnswer {
+            number: u32::from(why),
             address: 0,
         },
-    }
-}
-
-fn freed_number(f: Freed) -> u32
-    ensures { result ≡ free_number f }
-{
-    match f {
-        Freed::Done => 0,
-        Freed::NotDone(why) => refusals::refusal_number(why),
     }
 }
 
@@ -91,7 +83,7 @@ pub extern "C" fn sirqobal_alloc_run(words: &mut [u32], slices: u64) -> SliceAns
 
 #[unsafe(no_mangle)]
 pub extern "C" fn sirqobal_free_range(words: &mut [u32], base: u64, size: u64) -> u32
-    ensures { (result ≡ free_number (free_range words.old base size).answer) × (words.new ≡ (free_range words.old base size).words) }
+    ensures { (result ≡ number_in (free_range words.old base size).answer) × (words.new ≡ (free_range words.old base size).words) }
 {
-    freed_number(slice_pool::free_range(words, base, size))
+    refusals::number_in(slice_pool::free_range(words, base, size))
 }

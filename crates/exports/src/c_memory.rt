@@ -4,11 +4,13 @@ ghost use Rattle.layer.specs.Step.{reserve, manage, adopt, act};
 ghost use Rattle.surface.specs.Replies.{step_numbers, LeavesNumbers};
 
 use arena::Arena;
+use layer::{Settings, State};
 use surface::StateNumbers;
 use surface::reply::ReplyNumbers;
 use surface::told::SettingsNumbers;
 
 // Memory is asked of the host.
+#[tactic(auto, unfolding(surface::specs::Replies::step_numbers, surface::specs::Replies::reply_of))]
 #[unsafe(no_mangle)]
 pub extern "C" fn sirqobal_reserve_os_memory_ex(
     records: &mut [Arena],
@@ -23,11 +25,10 @@ pub extern "C" fn sirqobal_reserve_os_memory_ex(
 ) -> ReplyNumbers
     ensures { LeavesNumbers (step_numbers records.old stamps.old state ns settings (act (reserve size commit allow_large exclusive))) result records.new stamps.new }
 {
-    if !surface::is_state(state) {
+    let Ok(s) = State::try_from(state) else {
         return surface::reply::no_state(state);
-    }
-    let s = surface::state_of(state);
-    let c = surface::told::settings_of(settings);
+    };
+    let c = Settings::from(settings);
     let r = registering::reserve_os_memory_ex(
         records,
         stamps,
@@ -39,11 +40,12 @@ pub extern "C" fn sirqobal_reserve_os_memory_ex(
         allow_large,
         exclusive,
     );
-    surface::reply::reply_of(r)
+    ReplyNumbers::from(r)
 }
 
 // Memory that the host has already is registered. The first three flags say what nothing depends on; the
 // last two are the host's facts: in the segment map already, and reserved.
+#[tactic(auto, unfolding(surface::specs::Replies::step_numbers, surface::specs::Replies::reply_of))]
 #[unsafe(no_mangle)]
 pub extern "C" fn sirqobal_manage_os_memory_ex(
     records: &mut [Arena],
@@ -63,11 +65,10 @@ pub extern "C" fn sirqobal_manage_os_memory_ex(
 ) -> ReplyNumbers
     ensures { LeavesNumbers (step_numbers records.old stamps.old state ns settings (act (manage start size exclusive node mapped reserved))) result records.new stamps.new }
 {
-    if !surface::is_state(state) {
+    let Ok(s) = State::try_from(state) else {
         return surface::reply::no_state(state);
-    }
-    let s = surface::state_of(state);
-    let c = surface::told::settings_of(settings);
+    };
+    let c = Settings::from(settings);
     let r = registering::manage_os_memory_ex(
         records,
         stamps,
@@ -84,10 +85,11 @@ pub extern "C" fn sirqobal_manage_os_memory_ex(
         mapped,
         reserved,
     );
-    surface::reply::reply_of(r)
+    ReplyNumbers::from(r)
 }
 
 // A block of the allocator's own becomes an arena, or part of the one that ends at it.
+#[tactic(auto, unfolding(surface::specs::Replies::step_numbers, surface::specs::Replies::reply_of))]
 #[unsafe(no_mangle)]
 pub extern "C" fn sirqobal_adopt_os_block(
     records: &mut [Arena],
@@ -100,11 +102,10 @@ pub extern "C" fn sirqobal_adopt_os_block(
 ) -> ReplyNumbers
     ensures { LeavesNumbers (step_numbers records.old stamps.old state ns settings (act (adopt address size))) result records.new stamps.new }
 {
-    if !surface::is_state(state) {
+    let Ok(s) = State::try_from(state) else {
         return surface::reply::no_state(state);
-    }
-    let s = surface::state_of(state);
-    let c = surface::told::settings_of(settings);
+    };
+    let c = Settings::from(settings);
     let r = registering::adopt_os_block(records, stamps, s, ns, c, address, size);
-    surface::reply::reply_of(r)
+    ReplyNumbers::from(r)
 }

@@ -6,11 +6,13 @@ ghost use Rattle.layer.specs.Step.{owns, area, query};
 ghost use Rattle.surface.specs.Replies.{step_numbers};
 
 use arena::Arena;
+use layer::{Settings, State};
 use surface::StateNumbers;
 use surface::reply::ReplyNumbers;
 use surface::told::SettingsNumbers;
 
 // Whether an address lies in an arena.
+#[tactic(auto, using(surface::proofs::CallLaws::query_numbers), unfolding(surface::specs::Replies::step_numbers))]
 #[unsafe(no_mangle)]
 pub extern "C" fn sirqobal_owns(
     records: &[Arena],
@@ -22,16 +24,16 @@ pub extern "C" fn sirqobal_owns(
 ) -> ReplyNumbers
     ensures { result ≡ (step_numbers records.now stamps.now state ns settings (query (owns address))).reply }
 {
-    if !surface::is_state(state) {
+    let Ok(s) = State::try_from(state) else {
         return surface::reply::no_state(state);
-    }
-    let s = surface::state_of(state);
-    let c = surface::told::settings_of(settings);
+    };
+    let c = Settings::from(settings);
     let r = queries::owns(records, stamps, s, ns, c, address);
     surface::reply::answered(r, state)
 }
 
 // The base and the bytes of an arena; 0 and 0 where there is none.
+#[tactic(auto, using(surface::proofs::CallLaws::query_numbers), unfolding(surface::specs::Replies::step_numbers))]
 #[unsafe(no_mangle)]
 pub extern "C" fn sirqobal_arena_area(
     records: &[Arena],
@@ -43,11 +45,10 @@ pub extern "C" fn sirqobal_arena_area(
 ) -> ReplyNumbers
     ensures { result ≡ (step_numbers records.now stamps.now state ns settings (query (area id))).reply }
 {
-    if !surface::is_state(state) {
+    let Ok(s) = State::try_from(state) else {
         return surface::reply::no_state(state);
-    }
-    let s = surface::state_of(state);
-    let c = surface::told::settings_of(settings);
+    };
+    let c = Settings::from(settings);
     let r = queries::arena_area(records, stamps, s, ns, c, id);
     surface::reply::answered(r, state)
 }

@@ -8,11 +8,13 @@ ghost use Rattle.surface.specs.Replies.{step_numbers, LeavesNumbers};
 ghost use Rattle.surface.specs.Lists.{list_numbers, LeavesListNumbers};
 
 use arena::Arena;
+use layer::{Settings, State};
 use surface::StateNumbers;
 use surface::reply::ReplyNumbers;
 use surface::told::SettingsNumbers;
 
 // n chunks from an address on are given back, with what is told of their commitment; purged later, if pending.
+#[tactic(auto, unfolding(surface::specs::Replies::step_numbers, surface::specs::Replies::reply_of))]
 #[unsafe(no_mangle)]
 pub extern "C" fn sirqobal_chunk_release(
     records: &mut [Arena],
@@ -27,17 +29,17 @@ pub extern "C" fn sirqobal_chunk_release(
 ) -> ReplyNumbers
     ensures { LeavesNumbers (step_numbers records.old stamps.old state ns settings (act (release address n (commitment_of told) pending))) result records.new stamps.new }
 {
-    if !surface::is_state(state) {
+    let Ok(s) = State::try_from(state) else {
         return surface::reply::no_state(state);
-    }
-    let s = surface::state_of(state);
-    let c = surface::told::settings_of(settings);
+    };
+    let c = Settings::from(settings);
     let t = surface::told::told_of(told);
     let r = releasing::chunk_release(records, stamps, s, ns, c, address, n, t, pending);
-    surface::reply::reply_of(r)
+    ReplyNumbers::from(r)
 }
 
 // Runs are given back in list order, each item's number at its place; purged later, if pending.
+#[tactic(auto, unfolding(surface::specs::Lists::list_numbers, surface::specs::Replies::reply_of))]
 #[unsafe(no_mangle)]
 pub extern "C" fn sirqobal_chunk_release_list(
     records: &mut [Arena],
@@ -52,18 +54,18 @@ pub extern "C" fn sirqobal_chunk_release_list(
 ) -> ReplyNumbers
     ensures { LeavesListNumbers (list_numbers records.old stamps.old state ns settings (items addresses.now counts.now answers.old pending)) result records.new stamps.new answers.new }
 {
-    if !surface::is_state(state) {
+    let Ok(s) = State::try_from(state) else {
         return surface::reply::no_state(state);
-    }
-    let s = surface::state_of(state);
-    let c = surface::told::settings_of(settings);
+    };
+    let c = Settings::from(settings);
     let r = release_lists::chunk_release_list(
         records, stamps, addresses, counts, answers, s, ns, c, pending,
     );
-    surface::reply::reply_of(r)
+    ReplyNumbers::from(r)
 }
 
 // A sweep of the arenas whose deadline has come; of all that are armed, if forced.
+#[tactic(auto, unfolding(surface::specs::Replies::step_numbers, surface::specs::Replies::reply_of))]
 #[unsafe(no_mangle)]
 pub extern "C" fn sirqobal_purge_due(
     records: &mut [Arena],
@@ -75,11 +77,10 @@ pub extern "C" fn sirqobal_purge_due(
 ) -> ReplyNumbers
     ensures { LeavesNumbers (step_numbers records.old stamps.old state ns settings (act (sweep force))) result records.new stamps.new }
 {
-    if !surface::is_state(state) {
+    let Ok(s) = State::try_from(state) else {
         return surface::reply::no_state(state);
-    }
-    let s = surface::state_of(state);
-    let c = surface::told::settings_of(settings);
+    };
+    let c = Settings::from(settings);
     let r = sweeping::purge_due(records, stamps, s, ns, c, force);
-    surface::reply::reply_of(r)
+    ReplyNumbers::from(r)
 }

@@ -1,68 +1,60 @@
 -- A join row by row: what its loops know, and that each return is the definition's. Assumes nothing.
-use Rattle.std.specs.Prelude.{◌≡◌, ◌&&◌, ◌+◌, ◌*◌, ◌<◌, ◌≤◌}
-use Rattle.state.proofs.Prelude.{refl, sym, ap, ap₂, ◌∙◌, subst, Bool, true, false, not, List, ℕ, arith, ltb-false, ltb, length, set, replicate, length-replicate, Broken, QuestionOpen, when, unless, and_both, Arena, bytes_of, State, Settings, Question, World, world_of, size_of, calm, blank, at, is_at, overlaps, is_idle, sound}
-use lib.ListN.{get_or-replicate}
+use Rattle.std.specs.Prelude.{◌≡◌, ◌&&◌, ◌+◌, ◌*◌, ◌<◌, ◌≤◌, Result, Ok, Err}
 use Rattle.refusals.specs.declared.Refusal.{Refusal}
+use Rattle.state.proofs.Prelude.{refl, sym, ap, ap₂, ◌∙◌, subst, Bool, true, false, not, List, ℕ, arith, le-ltb, lt-ltb, length, replicate, Broken, QuestionOpen, when, unless, and_both, Arena, bytes_of, State, Settings, Question, World, world_of, size_of, calm, blank, at, is_some, overlaps, is_idle, sound}
+use lib.ListN.{take, get_or}
+use lib.Seq.{length-take-le, get_or-take}
+use Rattle.std.proofs.lemmas.List.{get_or_default}
 use Rattle.refusals.specs.declared.Refusal.TheVariants.{TablesOverlap, TooManyArenas}
 use Rattle.arena.specs.Moving.{overwritten}
+use Rattle.arena.specs.Soundness.{sound_range}
 use Rattle.arena.specs.Stamps.{no_stamps}
-use Rattle.arena.proofs.MovingLaws.{written_none, written-more, written_all}
-use Rattle.layer.specs.declared.JoinAnswer.{JoinAnswer}
-use Rattle.layer.specs.declared.JoinAnswer.TheVariants.{NotJoined, Joined}
 use Rattle.layer.specs.declared.JoinReply.{JoinReply}
 use Rattle.layer.specs.World.{empty}
 use Rattle.layer.specs.Joining.{JoinOutcome, join_outcome, tables_overlap, join_on, join_rules, join, join_reply, join_reply_in, LeavesBoth}
-use Rattle.state.specs.Ready.{Ready, Stamped}
+use Rattle.state.specs.Ready.{Ready, Stamped, SoundArenas}
 use Rattle.state.proofs.Entry.{ready, stamps-lent}
+use Rattle.table.proofs.TableLaws.{range_at}
 use Rattle.table.proofs.TurnLaws.{Passed, found_at, found_none}
 
--- ---- row 1
-
-module _ {a : Bool} (b : Bool) where
-  pub first-decides : a ≡ false → false ≡ a && b
-  first-decides e = sym (ap (λ (x : Bool). x && b) e)
-
-  pub second-decides : a ≡ true → b ≡ a && b
-  second-decides e = sym (ap (λ (x : Bool). x && b) e)
-
 -- ---- row 17
+
+-- a place of the first c records
+pub at-turn : (m : List Arena) (c j : ℕ) (d : Arena) → c ≤ length m → j < length (take c m) → (j < c) × (get_or (take c m) j d ≡ at m j)
+at-turn m c j d lent h =
+    let t = length-take-le c m lent in
+    let lt : j < c = omega (arith, t, h) in
+    (lt, get_or-take c m j d lt ∙ get_or_default m j d blank (omega (arith, lt, lent)))
+
+-- its range
+pub range-turn : (S : ℕ) (m : List Arena) (c j : ℕ) (d : Arena) → SoundArenas S m c → j < length (take c m)
+    → sound_range S (get_or (take c m) j d).base (get_or (take c m) j d).chunks ≡ true
+range-turn S m c j d sound h =
+    let here = at-turn m c j d sound.0 h in
+    subst (λ (a : Arena). sound_range S a.base a.chunks ≡ true) (sym here.1) (range_at S m c sound j here.0)
 
 -- an arena of the second against the first k of the first
 module _ (S : ℕ) (l m : List Arena) (k : ℕ) where
   abbrev pub crossed : ℕ → Bool
-  crossed j = overlaps S l k (at m j).base ((at m j).chunks * S)
+  crossed j = overlaps S l k (at m j).base (bytes_of S (at m j))
+
+  -- by the record's range, as it is read
+  pub crossed-is : (a : Arena) (j base bytes : ℕ) → a ≡ at m j → (base ≡ a.base) × (bytes ≡ bytes_of S a) → overlaps S l k base bytes ≡ crossed j
+  crossed-is a j base bytes e r = ap₂ (overlaps S l k) (r.0 ∙ ap (λ (x : Arena). x.base) e) (r.1 ∙ ap (bytes_of S) e)
 
   pub one-crossed : (c j : ℕ) → j < c → Passed false crossed j → crossed j ≡ true → true ≡ tables_overlap S l k m c
-  unfolding tables_overlap bytes_of
-  one-crossed c j h p e = ap is_at (found_at crossed c j h p e)
+  unfolding tables_overlap
+  one-crossed c j h p e = ap is_some (found_at crossed c j h p e)
 
   pub none-crossed : (c : ℕ) → Passed false crossed c → false ≡ tables_overlap S l k m c
-  unfolding tables_overlap bytes_of
-  none-crossed c p = ap is_at (found_none crossed c p)
+  unfolding tables_overlap
+  none-crossed c p = ap is_some (found_none crossed c p)
 
--- ---- the loops that write records
+-- ---- the second is left empty
 
-module _ (l m : List Arena) (k c : ℕ) (room : (k + c ≤ 32) × (length l ≡ 32) × (length m ≡ 32)) where
-  pub moved_more : (t : List Arena) (i : ℕ) → i < c → t ≡ overwritten l k m i → set t (k + i) (at m i) ≡ overwritten l k m (i + 1)
-  moved_more t i h e = ap (λ (x : List Arena). set x (k + i) (at m i)) e ∙ written-more l k m i blank (omega (arith, room.0, room.1, h)) (omega (arith, room.0, room.2, h))
-
--- the first i of 32 records made blank
-abbrev pub blanked : List Arena → ℕ → List Arena
-blanked l i = overwritten l 0 (replicate 32 blank) i
-
-pub blank_none : (l : List Arena) → l ≡ blanked l 0
-blank_none l = written_none l 0 (replicate 32 blank)
-
-module _ (l : List Arena) (lent : length l ≡ 32) where
-  pub blank-more : (t : List Arena) (i : ℕ) → i < 32 → t ≡ blanked l i → set t i blank ≡ blanked l (i + 1)
-  blank-more t i h e =
-      ap₂ (λ (x : List Arena) (a : Arena). set x i a) e (sym (get_or-replicate 32 i blank blank h))
-      ∙ ap (λ (j : ℕ). set (blanked l i) j (at (replicate 32 blank) i)) (let z : i ≡ 0 + i = omega arith in z)
-      ∙ written-more l 0 (replicate 32 blank) i blank (omega (arith, lent, h)) (omega (arith, length-replicate 32 blank, h))
-
-  pub all-blank : blanked l 32 ≡ empty.records
-  unfolding empty
-  all-blank = written_all l (replicate 32 blank) 32 lent (length-replicate 32 blank)
+pub records-empty : replicate 32 blank ≡ empty.records
+unfolding empty
+records-empty = refl
 
 pub stamps-empty : no_stamps ≡ empty.stamps
 unfolding empty
@@ -70,11 +62,8 @@ stamps-empty = refl
 
 -- ---- the rows
 
-pub few : (k c : ℕ) → ltb 32 (k + c) ≡ false → k + c ≤ 32
-few k c e = ltb-false 32 (k + c) e
-
 -- what an outcome leaves, by what it is
-comes : (o : JoinOutcome) (answer : JoinAnswer) (w v : World) → o ≡ join_outcome answer w v
+comes : (o : JoinOutcome) (answer : Result ℕ Refusal) (w v : World) → o ≡ join_outcome answer w v
     → LeavesBoth o (join_reply answer w.state v.state) w.records w.stamps v.records v.stamps
 comes o answer w v e =
     (sym (ap join_reply_in e), sym (ap (λ (p : JoinOutcome). p.first.records) e), sym (ap (λ (p : JoinOutcome). p.first.stamps) e), sym (ap (λ (p : JoinOutcome). p.second.records) e), sym (ap (λ (p : JoinOutcome). p.second.stamps) e))
@@ -96,7 +85,7 @@ module _ (l : List Arena) (stamps : List ℕ) (m : List Arena) (second-stamps : 
   c = second.count
 
   abbrev Refuses : JoinOutcome → Refusal → Type 0
-  Refuses o why = LeavesBoth o (join_reply (NotJoined why) state second) l stamps m second-stamps
+  Refuses o why = LeavesBoth o (join_reply (Err why) state second) l stamps m second-stamps
 
   -- past rows 1 and 2
   module _ (first-ready : Ready l state) (second-ready : Ready m second) where
@@ -108,15 +97,15 @@ module _ (l : List Arena) (stamps : List ℕ) (m : List Arena) (second-stamps : 
     overlap-row e = comes _ _ w v (unless _ _ _ none_open ∙ when _ _ _ e)
 
     module _ (apart : tables_overlap S l k m c ≡ false) where
-      pub many-row : ltb 32 (k + c) ≡ true → Refuses (join_on S w v) TooManyArenas
+      pub many-row : 32 < k + c → Refuses (join_on S w v) TooManyArenas
       unfolding join_on
-      many-row e = comes _ _ w v (unless _ _ _ none_open ∙ unless _ _ _ apart ∙ when _ _ _ e)
+      many-row h = comes _ _ w v (unless _ _ _ none_open ∙ unless _ _ _ apart ∙ when _ _ _ (lt-ltb 32 (k + c) h))
 
-      pub joined-row : ltb 32 (k + c) ≡ false
-          → LeavesBoth (join_on S w v) (join_reply (Joined k) (calm (k + c) (state.mark && second.mark)) (calm 0 false)) (overwritten l k m c)
+      pub joined-row : k + c ≤ 32
+          → LeavesBoth (join_on S w v) (join_reply (Ok k) (calm (k + c) (state.mark && second.mark)) (calm 0 false)) (overwritten l k m c)
           (overwritten stamps (1024 * k) second-stamps (1024 * c)) empty.records empty.stamps
       unfolding join_on empty
-      joined-row e = comes _ _ _ _ (unless _ _ _ none_open ∙ unless _ _ _ apart ∙ unless _ _ _ e)
+      joined-row h = comes _ _ _ _ (unless _ _ _ none_open ∙ unless _ _ _ apart ∙ unless _ _ _ (le-ltb 32 (k + c) h))
 
   -- the entry
   module _ (ns : ℕ) (settings : Settings) where

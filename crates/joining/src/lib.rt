@@ -3,9 +3,8 @@
 #![tactic(auto)]
 
 ghost use Rattle.std.specs.Prelude.{◌≡◌, false, ◌&&◌, ◌+◌, ◌*◌, ◌≤◌, ltb, length};
-ghost use Rattle.arena.specs.ChunkSize.{ChunkSize};
 ghost use Rattle.arena.specs.Moving.{overwritten};
-ghost use Rattle.layer.specs.declared.JoinAnswer.TheVariants.{NotJoined, Joined};
+ghost use Rattle.std.specs.Prelude.{Ok, Err};
 ghost use Rattle.layer.specs.World.{size_of, calm, world_of, empty};
 ghost use Rattle.layer.specs.Table.{sound_lent};
 ghost use Rattle.layer.specs.Answering.{is_idle};
@@ -13,24 +12,22 @@ ghost use Rattle.layer.specs.Joining.{tables_overlap, join_on, join, join_reply,
 ghost use Rattle.state.specs.Ready.{Ready, Stamped, SoundArenas};
 
 use arena::Arena;
-use layer::{JoinAnswer, JoinReply, Question, Settings, State};
+use arena::chunk_size::ChunkSize;
+use layer::{JoinReply, Question, Settings, State};
 use refusals::Refusal;
+use table::ranges::Range;
 
-// Whether both hold.
-fn both(a: bool, b: bool) -> bool
-    ensures { result ≡ (a && b) }
-{
-    a && b
-}
+// "18 when more than 32 arenas result"
+const MOST_ARENAS: usize = 32;
 
 // ---- replies
 
 // A refusal leaves both states.
 fn refuse(why: Refusal, state: State, second: State) -> JoinReply
-    ensures { result ≡ join_reply (NotJoined why) state second }
+    ensures { result ≡ join_reply (Err why) state second }
 {
     JoinReply {
-        answer: JoinAnswer::NotJoined(why),
+        answer: Err(why),
         first: state,
         second,
     }
@@ -39,25 +36,20 @@ fn refuse(why: Refusal, state: State, second: State) -> JoinReply
 // The second's ids rise by the first's count; "the give-up mark stands only if it stood in both".
 fn joined(state: State, second: State) -> JoinReply
     requires { state.count + second.count ≤ 32 }
-    ensures { result ≡ join_reply (Joined state.count) (calm (state.count + second.count) (state.mark && second.mark)) (calm 0 false) }
+    ensures { result ≡ join_reply (Ok state.count) (calm (state.count + second.count) (state.mark && second.mark)) (calm 0 false) }
 {
-    let rise = state.count;
-    let count = rise + second.count;
-    let mark = both(state.mark, second.mark);
-    let first = State {
-        count,
-        mark,
-        question: Question::Idle,
-    };
-    let emptied = State {
-        count: 0,
-        mark: false,
-        question: Question::Idle,
-    };
     JoinReply {
-        answer: JoinAnswer::Joined(rise),
-        first,
-        second: emptied,
+        answer: Ok(state.count),
+        first: State {
+            count: state.count + second.count,
+            mark: state.mark && second.mark,
+            question: Question::Idle,
+        },
+        second: State {
+            count: 0,
+            mark: false,
+            question: Question::Idle,
+        },
     }
 }
 
@@ -76,17 +68,15 @@ fn both_sound(
     ensures { result ≡ (sound_lent (size_of state) records.now stamps state page && sound_lent (size_of state) second_records.now second_stamps second page) }
 {
     let chunk_size = state::chunk_size(state);
-    if !table::row_one(records, stamps, state, page, chunk_size) {
-        return false;
-    }
-    table::row_one(second_records, second_stamps, second, page, chunk_size)
+    table::row_one(records, stamps, state, page, chunk_size)
+        && table::row_one(second_records, second_stamps, second, page, chunk_size)
 }
 
 // Whether no question is open on either side.
 fn both_idle(state: State, second: State) -> bool
     ensures { result ≡ (is_idle state.question && is_idle second.question) }
 {
-    both(state::is_idle(state), state::is_idle(second))
+    state::is_idle(state) && state::is_idle(second)
 }
 
 // Whether one of the first k arenas of the one table overlaps one of the first c of the other.
@@ -95,62 +85,29 @@ fn tables_overlap(
     second_records: &[Arena],
     k: usize,
     c: usize,
-    chunk_size: u64,
+    chunk_size: ChunkSize,
 ) -> bool
-    requires { ChunkSize chunk_size × SoundArenas chunk_size records.now k × SoundArenas chunk_size second_records.now c }
-    ensures { result ≡ tables_overlap chunk_size records.now k second_records.now c }
+    requires { SoundArenas chunk_size.bytes records.now k × SoundArenas chunk_size.bytes second_records.now c }
+    ensures { result ≡ tables_overlap chunk_size.bytes records.now k second_records.now c }
 {
-    let mut j = 0;
-    while j < c {
-        let h = table::head_at(second_records, j);
-        let base = table::ranges::base_of(h);
-        let bytes = table::ranges::bytes_of(h, chunk_size);
-        if table::overlaps_one(records, k, chunk_size, base, bytes) {
+    for a in &second_records[..c] {
+        let range = Range::of(a, chunk_size);
+        if table::overlaps_one(records, k, chunk_size, range.base, range.bytes) {
             return true;
         }
-        j = j + 1;
     }
     false
 }
 
-// "18 when more than 32 arenas result"
-fn too_many(k: usize, c: usize) -> bool
-    requires { (k ≤ 32) × (c ≤ 32) }
-    ensures { result ≡ ltb 32 (k + c) }
-{
-    32 < k + c
-}
-
 // ---- the tables
 
-// The id i of the second, behind k arenas.
-fn raised(k: usize, i: usize) -> usize
-    requires { (k ≤ 32) × (i ≤ 32) }
-    ensures { result ≡ k + i }
-{
-    k + i
-}
-
 // The first c records of the second, written from the id k on.
+#[tactic(auto, using(std::proofs::lemmas::Slice::overwrites), unfolding(arena::specs::Moving::overwritten))]
 fn move_records(records: &mut [Arena], second_records: &[Arena], k: usize, c: usize)
     requires { (k + c ≤ 32) × (length records.old ≡ 32) × (length second_records.now ≡ 32) }
     ensures { records.new ≡ overwritten records.old k second_records.now c }
 {
-    let mut i = 0;
-    while i < c {
-        let a = table::records::load(second_records, i);
-        let to = raised(k, i);
-        table::records::store(records, to, a);
-        i = i + 1;
-    }
-}
-
-// How many records a table has.
-fn all_records() -> usize
-    ensures { result ≡ 32 }
-{
-    let most = 32;
-    most
+    records[k..k + c].copy_from_slice(&second_records[..c]);
 }
 
 // All records made blank.
@@ -158,13 +115,7 @@ fn empty_records(records: &mut [Arena])
     requires { length records.old ≡ 32 }
     ensures { records.new ≡ empty.records }
 {
-    let a = table::records::blank_arena();
-    let n = all_records();
-    let mut id = 0;
-    while id < n {
-        table::records::store(records, id, a);
-        id = id + 1;
-    }
+    records.fill(table::records::blank_arena());
 }
 
 // The second's arenas come behind the k of the first, with their stamps, and the second's table is made empty.
@@ -206,7 +157,8 @@ pub fn join(
     if tables_overlap(records, second_records, k, c, chunk_size) {
         return refuse(Refusal::TablesOverlap, state, second);
     }
-    if too_many(k, c) {
+    let count = k + c;
+    if MOST_ARENAS < count {
         return refuse(Refusal::TooManyArenas, state, second);
     }
     unite(records, stamps, second_records, second_stamps, k, c);
@@ -226,17 +178,14 @@ pub fn join_tables(
 ) -> JoinReply
     ensures { LeavesBoth (join (world_of records.old stamps.old state) (world_of second_records.old second_stamps.old second) ns settings) result records.new stamps.new second_records.new second_stamps.new }
 {
-    let stamp_count = stamps.len();
-    let second_stamp_count = second_stamps.len();
-    let page = settings.page;
     if !both_sound(
         records,
         second_records,
-        stamp_count,
-        second_stamp_count,
+        stamps.len(),
+        second_stamps.len(),
         state,
         second,
-        page,
+        settings.page,
     ) {
         return refuse(Refusal::Broken, state, second);
     }

@@ -1,6 +1,6 @@
 -- One arena along a call, in a table that changes: the book that its record shows stays, or a run of it is granted. No call and no role. Assumes nothing.
 use Rattle.std.specs.Prelude.{◌≡◌, ◌∷◌, ◌++◌, ◌+◌, ◌-◌, ◌*◌, ◌/◌, ◌≤◌, ◌<◌}
-use Rattle.layer.proofs.Prelude.{refl, sym, ap, ap₂, ◌∙◌, subst, Bool, true, false, not, true≢false, List, [], ℕ, zero, suc, arith, ℕ_discrete, not-true, ℤ, length, set, length-set, Refusal, bit_at, by_cond, Found, At, Nothing, least, lowest_run, First, first_says, and_both, Arena, Commitment, find_run, run_fresh, run_committed, take_run, dirty_run, release_run, sweep_due, disarm, to_ask, young, next_asked, borrow_chunk, rearm, is_inside, stamps_of, Rows, found_inside, disarm-rows, rearm-rows, Settings, Sweep, Question, Idle, Committing, Purging, Waiting, Reserve, Claim, AskCommit, Answer, Asks, Claimed, Reply, Outcome, state_with, reply, after, at, is_at, ask_memory, with_record, serves, miss_reply, grant_found, search_of, release_of, purge_reply, swept_reply, visit_at, visit, sweep_from, fail_reply, reserve, answer, Book, Say, unheld, hold, claimed, said}
+use Rattle.layer.proofs.Prelude.{refl, sym, ap, ap₂, ◌∙◌, subst, Bool, true, false, not, true≢false, List, [], ℕ, zero, suc, arith, ℕ_discrete, not-true, ℤ, length, set, length-set, Refusal, bit_at, by_cond, Option, Some, None, least, lowest_run, First, first_says, and_both, Arena, Commitment, find_run, run_fresh, run_committed, take_run, dirty_run, release_run, sweep_due, disarm, to_ask, young, next_asked, borrow_chunk, rearm, is_inside, stamps_of, Rows, found_inside, disarm-rows, rearm-rows, Settings, Sweep, Question, Idle, Committing, Purging, Waiting, Reserve, Claim, AskCommit, Answer, Asks, Claimed, Reply, Outcome, state_with, reply, after, at, is_some, ask_memory, with_record, serves, miss_reply, grant_found, search_of, release_of, purge_reply, swept_reply, visit_at, visit, sweep_from, fail_reply, reserve, answer, Book, Say, unheld, hold, claimed, said}
 use Rattle.layer.proofs.Tools.{at_same, at_other}
 use Rattle.layer.proofs.Rules.{served-found}
 use Rattle.layer.proofs.Shown.{View, calm, committing, purging, view_of, waits_in, owed_in, book_in, Same}
@@ -47,7 +47,7 @@ module _ (S id : ℕ) (c : Arena) (small : c.chunks ≤ 1024) (B : Book) where
     pub same : Same c c.chunks (at o.world.records id)
     pub book : book_in S (view_of id o.world.state.question) (at o.world.records id) ≡ hold B s m
     pub given : Given S id c.base s m o
-    pub says : (claimed B m (At s)).say ∷ [] ≡ said o.answer ++ owed_in S (view_of id o.world.state.question) (at o.world.records id)
+    pub says : (claimed B m (Some s)).say ∷ [] ≡ said o.answer ++ owed_in S (view_of id o.world.state.question) (at o.world.records id)
 
   -- that table is left, with no question about the arena
   pub rests : (l : List Arena) (k : ℕ) (q : Question) (r : Answer) (stamps : List ℕ) (mark : Bool) → view_of id q ≡ calm → Stands l k
@@ -76,15 +76,15 @@ module _ (S id : ℕ) (c : Arena) (small : c.chunks ≤ 1024) (B : Book) where
     here a = at_same l id a (omega (arith, h.low, h.few, h.long))
 
     -- a run that was found ends inside its maps
-    fits : (m s : ℕ) → find_run (at l id) m ≡ At s → s + m ≤ 1024
+    fits : (m s : ℕ) → find_run (at l id) m ≡ Some s → s + m ≤ 1024
     fits m s e = omega (arith, found_inside (at l id) m s e, h.ready.same.chunks, small)
 
     -- what the book says of it is what the record's book says
-    told : (m s : ℕ) → (claimed B m (At s)).say ≡ (claimed (book_in S calm (at l id)) m (At s)).say
-    told m s = ap (λ (b : Book). (claimed b m (At s)).say) (sym h.ready.shows)
+    told : (m s : ℕ) → (claimed B m (Some s)).say ≡ (claimed (book_in S calm (at l id)) m (Some s)).say
+    told m s = ap (λ (b : Book). (claimed b m (Some s)).say) (sym h.ready.shows)
 
     -- the run is granted, or its commit asked for
-    granted-run : (m s : ℕ) → find_run (at l id) m ≡ At s → Takes m s (granting S l stamps k mark id m s)
+    granted-run : (m s : ℕ) → find_run (at l id) m ≡ Some s → Takes m s (granting S l stamps k mark id m s)
     granted-run m s e =
         let there : at (set l id (dirty_run (take_run (at l id) s m) s m)) id ≡ dirty_run (take_run (at l id) s m) s m = here _ in
         record {
@@ -95,7 +95,7 @@ module _ (S id : ℕ) (c : Arena) (small : c.chunks ≤ 1024) (B : Book) where
           says = ap (λ (x : Say). x ∷ []) (told m s ∙ say-fresh S (at l id) s m);
         }
 
-    asked-run : (m s : ℕ) → find_run (at l id) m ≡ At s → Takes m s (asking S l stamps k mark id m s)
+    asked-run : (m s : ℕ) → find_run (at l id) m ≡ Some s → Takes m s (asking S l stamps k mark id m s)
     asked-run m s e =
         let there : at (set l id (take_run (at l id) s m)) id ≡ take_run (at l id) s m = here _ in
         record {
@@ -117,18 +117,18 @@ module _ (S id : ℕ) (c : Arena) (small : c.chunks ≤ 1024) (B : Book) where
     pub data Seeks (at-id : ℤ) (m : ℕ) (missed : Reply) (o : Outcome) : Type 0 where
       none : serves at-id m l id ≡ false → o ≡ after missed l stamps → Seeks at-id m missed o
       other : (j : ℕ) → serves at-id m l j ≡ true → (j ≡ id → ⊥) → Leaves o → Seeks at-id m missed o
-      this : (s : ℕ) → serves at-id m l id ≡ true → lowest_run (unheld B) B.chunks m ≡ At s → Takes m s o → Seeks at-id m missed o
+      this : (s : ℕ) → serves at-id m l id ≡ true → lowest_run (unheld B) B.chunks m ≡ Some s → Takes m s o → Seeks at-id m missed o
 
     pub seeks : (at-id : ℤ) (m : ℕ) (commits : Bool) (missed : Reply) → Seeks at-id m missed (search_of S l stamps k mark at-id m commits missed)
     seeks at-id m commits missed =
         search-cases S l stamps k mark (Seeks at-id m missed) at-id m commits missed (λ f. none (f id h.low) refl) (λ j u f. found j f (ℕ_discrete j id))
       where
-        by-book : (s : ℕ) → find_run (at l id) m ≡ At s → lowest_run (unheld B) B.chunks m ≡ At s
+        by-book : (s : ℕ) → find_run (at l id) m ≡ Some s → lowest_run (unheld B) B.chunks m ≡ Some s
         by-book s e = ap (λ (b : Book). lowest_run (unheld b) b.chunks m) (sym h.ready.shows) ∙ (unfold find_run in e)
 
         run : serves at-id m l id ≡ true → Seeks at-id m missed (grant_found S l stamps k mark id m commits (find_run (at l id) m))
         run f =
-            grant-cases S l stamps k mark (Seeks at-id m missed) id m commits (λ e. absurd (true≢false (sym (served-found at-id m l id f) ∙ ap is_at e)))
+            grant-cases S l stamps k mark (Seeks at-id m missed) id m commits (λ e. absurd (true≢false (sym (served-found at-id m l id f) ∙ ap is_some e)))
             (λ s e. this s f (by-book s e) (granted-run m s e)) (λ s e. this s f (by-book s e) (asked-run m s e))
 
         found : (j : ℕ) → serves at-id m l j ≡ true → Dec (j ≡ id) → Seeks at-id m missed (grant_found S l stamps k mark j m commits (find_run (at l j) m))
@@ -182,8 +182,8 @@ module _ (S id : ℕ) (c : Arena) (small : c.chunks ≤ 1024) (B : Book) where
         go (least (to_ask a (stamps_of stamps i) w.force w.now w.delay) from (a.chunks - from))
         (first_says (to_ask a (stamps_of stamps i) w.force w.now w.delay) from (a.chunks - from))
       where
-        go : (x : Found) → First (to_ask a (stamps_of stamps i) w.force w.now w.delay) from (a.chunks - from) x → Leaves (visit_at S stamps k mark w l i a rest x)
-        go Nothing h =
+        go : (x : Option ℕ) → First (to_ask a (stamps_of stamps i) w.force w.now w.delay) from (a.chunks - from) x → Leaves (visit_at S stamps k mark w l i a rest x)
+        go None h =
             next (set l i (rearm a (stamps_of stamps i) w.force w.now w.delay)) (length-set l i _ ∙ u)
             (by-store Ready l i _ u
             (λ e. let r : Ready a = f e in
@@ -193,7 +193,7 @@ module _ (S id : ℕ) (c : Arena) (small : c.chunks ≤ 1024) (B : Book) where
               shows = book-rearmed a (stamps_of stamps i) w.force w.now w.delay ∙ r.shows;
             })
             g)
-        go (At j) h = ask (ℕ_discrete i id)
+        go (Some j) h = ask (ℕ_discrete i id)
           where
             clear : bit_at a.used j ≡ false
             clear = not-true (bit_at a.used j) (and_both (not (young (stamps_of stamps i) w.force w.now w.delay j)) _ (and_both (bit_at a.pending j) _ h.2).1).1

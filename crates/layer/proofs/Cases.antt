@@ -1,8 +1,8 @@
 -- The case principle of each call: to prove P of what comes out, prove it of each outcome, with what is known there. Assumes nothing.
 use Rattle.std.specs.Prelude.{◌≡◌, ◌&&◌, ◌||◌, ◌∷◌, ◌+◌, ◌-◌, ◌*◌, ◌/◌, ◌%◌, ◌<◌}
-use Rattle.layer.proofs.Prelude.{refl, Bool, true, false, cond, not, List, [], ℕ, arith, leb-false, eqb-true, eqb-false, eqb, leb, ℤ, set, Refusal, Zero, ArenasOff, Range, NotWhole, PastEnd, NoRun, ChunkCount, TableFull, NoWholeChunk, by_cond, Found, At, Nothing, least, First, first_says, and_both, arena_allowed, Arena, Commitment, reserved_arena, managed_arena, adopted_arena, find_run, run_committed, run_fresh, take_run, dirty_run, release_run, stamp_run, is_inside, Settings, Committing, Reserving, Waiting, Reserve, Claim, Unusable, Count, Misaligned, Full, AskCommit, Asks, Claimed, Released, Reply, Outcome, state_with, world_of, reply, after, turn_down, calm, refuse, first_of, at, is_at, bad_range, find_arena, too_large, ask_memory, bad_count, first_whole, past_whole, no_whole_chunk, grows, reserve_reply, reserve_of, manage_of, adopt_of, serves, is_negative, asks_commit, grant_arena, grant_reply, miss_reply, grant_found, search_at, search_of, claim_of, release_of, give_back_reply, resume, answer_memory}
+use Rattle.layer.proofs.Prelude.{refl, Bool, true, false, cond, not, List, [], ℕ, arith, leb-false, eqb-true, eqb-false, eqb, leb, ℤ, set, Refusal, Zero, ArenasOff, Range, NotWhole, PastEnd, NoRun, ChunkCount, TableFull, NoWholeChunk, by_cond, Option, Some, None, least, First, first_says, and_both, arena_allowed, Arena, Commitment, reserved_arena, managed_arena, adopted_arena, find_run, run_committed, run_fresh, take_run, dirty_run, release_run, stamp_run, is_inside, Settings, Committing, Reserving, Waiting, Reserve, Claim, Unusable, Count, Misaligned, Full, AskCommit, Asks, Claimed, Released, Reply, Outcome, state_with, world_of, reply, after, turn_down, calm, refuse, first_of, at, is_some, bad_range, find_arena, too_large, ask_memory, bad_count, first_whole, past_whole, no_whole_chunk, grows, reserve_reply, reserve_of, manage_of, adopt_of, serves, is_negative, asks_commit, grant_arena, grant_reply, miss_reply, grant_found, search_at, search_of, claim_of, release_of, give_back_reply, resume, answer_memory}
 use Rattle.refusals.specs.declared.Refusal.TheVariants.{NotInside, HostRefused}
-use Rattle.layer.specs.Table.{id_found}
+use Rattle.std.specs.Prelude.{unwrap_or}
 use Rattle.layer.specs.Registering.{registered, grown}
 use Rattle.layer.proofs.Tools.{by-not}
 
@@ -36,17 +36,17 @@ module _ (S : ℕ) (l : List Arena) (stamps : List ℕ) (k : ℕ) (mark : Bool) 
 module _ (S : ℕ) (l : List Arena) (stamps : List ℕ) (k : ℕ) (mark : Bool) (P : Outcome → Type 0) where
   -- ---- claims
 
-  pub grant-cases : (i m : ℕ) (commits : Bool) → (find_run (at l i) m ≡ Nothing → P (down S l stamps k mark NoRun))
-      → ((s : ℕ) → find_run (at l i) m ≡ At s → P (granting S l stamps k mark i m s)) → ((s : ℕ) → find_run (at l i) m ≡ At s → P (asking S l stamps k mark i m s))
+  pub grant-cases : (i m : ℕ) (commits : Bool) → (find_run (at l i) m ≡ None → P (down S l stamps k mark NoRun))
+      → ((s : ℕ) → find_run (at l i) m ≡ Some s → P (granting S l stamps k mark i m s)) → ((s : ℕ) → find_run (at l i) m ≡ Some s → P (asking S l stamps k mark i m s))
       → P (grant_found S l stamps k mark i m commits (find_run (at l i) m))
   unfolding grant_arena grant_reply
   grant-cases i m commits none grant ask = go (find_run (at l i) m) refl
     where
-      go : (f : Found) → find_run (at l i) m ≡ f → P (grant_found S l stamps k mark i m commits f)
-      go Nothing e = none e
-      go (At s) e = run (asks_commit (at l i) s m commits) refl
+      go : (f : Option ℕ) → find_run (at l i) m ≡ f → P (grant_found S l stamps k mark i m commits f)
+      go None e = none e
+      go (Some s) e = run (asks_commit (at l i) s m commits) refl
         where
-          run : (c : Bool) → asks_commit (at l i) s m commits ≡ c → P (grant_found S l stamps k mark i m commits (At s))
+          run : (c : Bool) → asks_commit (at l i) s m commits ≡ c → P (grant_found S l stamps k mark i m commits (Some s))
           run true f = rw f (ask s e)
           run false f = rw f (grant s e)
 
@@ -56,9 +56,9 @@ module _ (S : ℕ) (l : List Arena) (stamps : List ℕ) (k : ℕ) (mark : Bool) 
   unfolding search_of
   search-cases id m commits missed none found = go (least (serves id m l) 0 k) (first_says (serves id m l) 0 k)
     where
-      go : (f : Found) → First (serves id m l) 0 k f → P (search_at S l stamps k mark m commits missed f)
-      go (At i) h = found i (omega (arith, h.1)) h.2
-      go Nothing h = none (λ i u. h i (omega arith) (omega arith))
+      go : (f : Option ℕ) → First (serves id m l) 0 k f → P (search_at S l stamps k mark m commits missed f)
+      go (Some i) h = found i (omega (arith, h.1)) h.2
+      go None h = none (λ i u. h i (omega arith) (omega arith))
 
   pub miss-cases : (id : ℤ) (m : ℕ) (commits : Bool) (settings : Settings) → P (down S l stamps k mark NoRun) → P (after (turn_down NoRun (calm k true)) l stamps)
       → P (after (ask_memory S k mark settings.reserve settings.page false false false (Claim m commits)) l stamps)
@@ -97,10 +97,10 @@ module _ (S : ℕ) (l : List Arena) (stamps : List ℕ) (k : ℕ) (mark : Bool) 
     release-cases x zero nowhere inside =
         by_cond P (eqb m 0) _ _ zero (λ e. go e (least (λ i. is_inside S (at l i) x) 0 k) (first_says (λ i. is_inside S (at l i) x) 0 k))
       where
-        go : eqb m 0 ≡ false → (f : Found) → First (λ i. is_inside S (at l i) x) 0 k f
-            → P (cond (not (is_at f)) (down S l stamps k mark NotInside) (release_in S l stamps k mark (id_found f) (x - (at l (id_found f)).base) m told pending now delay))
-        go e (At i) h = inside i e (omega (arith, h.1)) h.2
-        go e Nothing h = nowhere e (λ i u. h i (omega arith) (omega arith))
+        go : eqb m 0 ≡ false → (f : Option ℕ) → First (λ i. is_inside S (at l i) x) 0 k f
+            → P (cond (not (is_some f)) (down S l stamps k mark NotInside) (release_in S l stamps k mark (unwrap_or f 0) (x - (at l (unwrap_or f 0)).base) m told pending now delay))
+        go e (Some i) h = inside i e (omega (arith, h.1)) h.2
+        go e None h = nowhere e (λ i u. h i (omega arith) (omega arith))
 
   -- ---- registering
 
@@ -144,10 +144,10 @@ module _ (S : ℕ) (l : List Arena) (stamps : List ℕ) (k : ℕ) (mark : Bool) 
       (least (λ i. grows S (at l i) address (size / S)) 0 k) (first_says (λ i. grows S (at l i) address (size / S)) 0 k)))
       (λ f. part))
     where
-      go : Whole address size → (f : Found) → First (λ i. grows S (at l i) address (size / S)) 0 k f
-          → P (cond (is_at f) (grown S l stamps k mark (id_found f) (size / S)) (register l stamps k mark (size / S) (adopted_arena address (size / S))))
-      go w (At i) h = grow i w (omega (arith, h.1)) h.2
-      go w Nothing h = add w
+      go : Whole address size → (f : Option ℕ) → First (λ i. grows S (at l i) address (size / S)) 0 k f
+          → P (cond (is_some f) (grown S l stamps k mark (unwrap_or f 0) (size / S)) (register l stamps k mark (size / S) (adopted_arena address (size / S))))
+      go w (Some i) h = grow i w (omega (arith, h.1)) h.2
+      go w None h = add w
 
   -- memory came
   pub memory-cases : (chunks bytes : ℕ) (commit exclusive : Bool) (waiting : Waiting) (base : ℕ)

@@ -3,12 +3,12 @@ use Rattle.std.specs.Prelude.{◌≡◌, ◌+◌, ◌-◌, ◌*◌, ◌/◌, ◌
 use Rattle.layer.proofs.Prelude.{sym, ap, ap₂, ◌∙◌, ℕ, zero, suc, add-mul, mul_comm, mul-sub, suc-mul, div-add-mod', mul-div_cancel, mul-le-mul_right, arith, lit<, chunks_for, first_whole, past_whole}
 use lib.Dec.{lit≤}
 use native.Mathlib.Nat.{mod-lt, le-div_iff_mul-le, div-lt_iff_lt-mul, div-mul-le_self, div-eq_of_lt-le}
-use Rattle.arena.specs.ChunkSize.{ChunkSize}
+use Rattle.arena.specs.ChunkSize.{IsChunkSize}
 use Rattle.layer.specs.declared.State.{State}
 use Rattle.layer.specs.World.{size_of}
 
 -- S fits the arithmetic of the code
-pub size_fits : (state : State) → ChunkSize (size_of state)
+pub size_fits : (state : State) → IsChunkSize (size_of state)
 size_fits state = (lit< tt, lit≤ tt)
 
 -- ---- products

@@ -1,7 +1,7 @@
 -- What follows, in the order's words; and demand 3 as a whole. All but that no other's claim is granted a chunk there follow from what the book says, whatever the layer.
 -- Assumes nothing.
 use Rattle.std.specs.Prelude.{◌≡◌, ◌&&◌, ◌||◌, ◌∷◌, ◌++◌, ◌⊎◌, ◌↔◌, ◌+◌, ◌-◌, ◌*◌, ◌/◌, ◌%◌, ◌<◌}
-use Rattle.layer.proofs.Prelude.{refl, sym, ap, ap₂, ◌∙◌, subst, Bool, false, not, List, [], append_assoc, inl, inr, ℕ, suc, mul-div_cancel, arith, ne_eqb, leb, eqb, length, within, by_cond, unless, Found, At, Nothing, Starts, Lowest, all, lowest_run, lowest-says, Book, lowest, Fed, claims, releases, Say, refused, granted, Turn, turn, unheld, claimed, enter, enter_all, say_all, History, Layer, Lent, Place, Where, ruled, place, fed, told, Keeps, book_of, ByTheBook}
+use Rattle.layer.proofs.Prelude.{refl, sym, ap, ap₂, ◌∙◌, subst, Bool, false, not, List, [], append_assoc, inl, inr, ℕ, suc, mul-div_cancel, arith, ne_eqb, leb, eqb, length, within, by_cond, unless, Option, Some, None, Starts, Lowest, all, lowest_run, lowest-says, Book, lowest, Fed, claims, releases, Say, refused, granted, Turn, turn, unheld, claimed, enter, enter_all, say_all, History, Layer, Lent, Place, Where, ruled, place, fed, told, Keeps, book_of, ByTheBook}
 use Rattle.layer.specs.Demand.{held_from, left_unheld, Claims, GrantedExactly, GrantedLowest, Begins, Alike}
 use Rattle.layer.proofs.ChunkLaws.{size_fits}
 use Rattle.layer.proofs.Demand.{say-append, place-size}
@@ -26,9 +26,9 @@ module _ (a : Place) (some : 0 < a.size) where
   unfolding enter
   entered b o (claims lowest n) = by_cond (Entered b (claims lowest n)) (eqb n 0) _ _ (λ e. record { of = o; held = λ fs ss. refl }) (λ e. go (lowest_run (unheld b) b.chunks n))
     where
-      go : (r : Found) → Entered b (claims lowest n) (claimed b n r)
-      go Nothing = record { of = o; held = λ fs ss. refl }
-      go (At s) = record {
+      go : (r : Option ℕ) → Entered b (claims lowest n) (claimed b n r)
+      go None = record { of = o; held = λ fs ss. refl }
+      go (Some s) = record {
         of = record { size = o.size; base = o.base; chunks = o.chunks };
         held = λ fs ss. ap (λ (i : ℕ). held_from a (λ j. within i n j || b.held j) fs ss) (ap₂ (λ (x y : ℕ). (x + s * y - a.base) / a.size) o.base o.size ∙ spot s);
       }
@@ -122,27 +122,27 @@ module _ (L : Layer) (keeps : ByTheBook L) (p : ℕ) (h : History) (w : Where h)
   told-book =
       told-there.1
       ∙ ap (λ (t : Turn). t.say) enters
-      ∙ ap (λ (f : Found). (claimed book c.n f).say) (ap₂ (λ (x : ℕ → Bool) (y : ℕ). lowest_run x y c.n) (sym free-is) before.of.chunks)
+      ∙ ap (λ (f : Option ℕ). (claimed book c.n f).say) (ap₂ (λ (x : ℕ → Bool) (y : ℕ). lowest_run x y c.n) (sym free-is) before.of.chunks)
 
   exactly : ((x : ℕ) × (fresh : Bool) × (c.say ≡ granted x fresh)) ↔ ((s : ℕ) × Starts free a.chunks c.n s)
   exactly = go (lowest_run free a.chunks c.n) (lowest-says free a.chunks c.n) told-book
     where
-      go : (f : Found) → Lowest free a.chunks c.n f → c.say ≡ (claimed book c.n f).say → ((x : ℕ) × (fresh : Bool) × (c.say ≡ granted x fresh)) ↔ ((s : ℕ) × Starts free a.chunks c.n s)
-      go (At s) low e = ((λ _. (s, low.0)), (λ _. (book.base + s * book.size, all (λ j. not (book.touched j)) s c.n, e)))
-      go Nothing low e = (
+      go : (f : Option ℕ) → Lowest free a.chunks c.n f → c.say ≡ (claimed book c.n f).say → ((x : ℕ) × (fresh : Bool) × (c.say ≡ granted x fresh)) ↔ ((s : ℕ) × Starts free a.chunks c.n s)
+      go (Some s) low e = ((λ _. (s, low.0)), (λ _. (book.base + s * book.size, all (λ j. not (book.touched j)) s c.n, e)))
+      go None low e = (
         (λ x. absurd (let u : refused 10 ≡ granted x.0 x.1 = sym e ∙ x.2 in let z : ◌≡◌ {A = ℕ} 0 1 = cc in omega arith)),
         (λ y. absurd (low y.0 y.1)),
       )
 
-  lowest-run : (x : ℕ) (fresh : Bool) → c.say ≡ granted x fresh → (s : ℕ) × (x ≡ a.base + s * a.size) × Lowest free a.chunks c.n (At s)
+  lowest-run : (x : ℕ) (fresh : Bool) → c.say ≡ granted x fresh → (s : ℕ) × (x ≡ a.base + s * a.size) × Lowest free a.chunks c.n (Some s)
   lowest-run x fresh is = go (lowest_run free a.chunks c.n) (lowest-says free a.chunks c.n) told-book
     where
-      go : (f : Found) → Lowest free a.chunks c.n f → c.say ≡ (claimed book c.n f).say → (s : ℕ) × (x ≡ a.base + s * a.size) × Lowest free a.chunks c.n (At s)
-      go (At s) low e =
+      go : (f : Option ℕ) → Lowest free a.chunks c.n f → c.say ≡ (claimed book c.n f).say → (s : ℕ) × (x ≡ a.base + s * a.size) × Lowest free a.chunks c.n (Some s)
+      go (Some s) low e =
           let u : granted (book.base + s * book.size) (all (λ j. not (book.touched j)) s c.n) ≡ granted x fresh = sym e ∙ is in
           let v : book.base + s * book.size ≡ x = cc in
           (s, sym v ∙ ap₂ (λ (y z : ℕ). y + s * z) before.of.base before.of.size, low)
-      go Nothing low e = absurd (let u : refused 10 ≡ granted x fresh = sym e ∙ is in let z : ◌≡◌ {A = ℕ} 0 1 = cc in omega arith)
+      go None low e = absurd (let u : refused 10 ≡ granted x fresh = sym e ∙ is in let z : ◌≡◌ {A = ℕ} 0 1 = cc in omega arith)
 
 -- ---- the statements
 

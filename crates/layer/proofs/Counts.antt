@@ -1,6 +1,6 @@
 -- How many arenas there are after a call, and the book of a new one. Assumes nothing.
 use Rattle.std.specs.Prelude.{◌≡◌, ◌+◌, ◌/◌, ◌≤◌, ◌<◌}
-use Rattle.layer.proofs.Prelude.{refl, sym, ◌∙◌, subst, Bool, true, false, List, ℕ, zero, suc, arith, ℤ, length-set, Refusal, by_cond, Found, At, Nothing, Arena, Commitment, new_arena, reserved_arena, managed_arena, adopted_arena, sweep_due, next_asked, stamps_of, Rows, Settings, Sweep, Question, Idle, Committing, Purging, Reserving, GivingBack, Waiting, Reserve, Claim, Kind, ForCommit, ForPurge, ForMemory, ForGiveBack, ForNone, Reply, Outcome, after, at, ask_memory, bad_count, with_record, with_stamps, search_of, claim_of, release_of, purge_reply, swept_reply, visit_at, visit, sweep_from, is_for, counted, fail_reply, resume, answer_of, Act, reserve, manage, adopt, claim, release, sweep, Call, act, query, answer, act_on, step_on, opened, Place, stays_pending, sweeps_none, sweep_of}
+use Rattle.layer.proofs.Prelude.{refl, sym, ◌∙◌, subst, Bool, true, false, List, ℕ, zero, suc, arith, ℤ, length-set, Refusal, by_cond, Option, Some, None, Arena, Commitment, new_arena, reserved_arena, managed_arena, adopted_arena, sweep_due, next_asked, stamps_of, Rows, Settings, Sweep, Question, Idle, Committing, Purging, Reserving, GivingBack, Waiting, Reserve, Claim, Kind, ForCommit, ForPurge, ForMemory, ForGiveBack, ForNone, Reply, Outcome, after, at, ask_memory, bad_count, with_record, with_stamps, search_of, claim_of, release_of, purge_reply, swept_reply, visit_at, visit, sweep_from, is_for, counted, fail_reply, resume, answer_of, Act, reserve, manage, adopt, claim, release, sweep, Call, act, query, answer, act_on, step_on, opened, Place, stays_pending, sweeps_none, sweep_of}
 use Rattle.layer.proofs.Tools.{at_same, by-not}
 use Rattle.layer.proofs.Facts.{SoundTable}
 use Rattle.layer.proofs.Rules.{Again, again, count-facts}
@@ -75,9 +75,9 @@ module _ (S : ℕ) (k : ℕ) (mark : Bool) where
     unfolding visit purge_reply
     visit-count l i a from rest next = go (next_asked a (stamps_of stamps i) w.force w.now w.delay from)
       where
-        go : (f : Found) → Many (visit_at S stamps k mark w l i a rest f)
-        go (At j) = refl
-        go Nothing = next _
+        go : (f : Option ℕ) → Many (visit_at S stamps k mark w l i a rest f)
+        go (Some j) = refl
+        go None = next _
 
     sweep-count : (f i : ℕ) (l : List Arena) → Many (sweep_from S stamps k mark w f i l)
     unfolding sweep_from swept_reply

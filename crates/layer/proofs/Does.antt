@@ -1,7 +1,7 @@
 -- What one call does to the share book of any arena below the count, shared or exclusive, and by which call: demand 3's exclusive arena is a case (`Keeps`).
 -- Assumes nothing.
 use Rattle.std.specs.Prelude.{◌≡◌, ◌&&◌, ◌∷◌, ◌++◌, ◌⊎◌, ◌+◌, ◌-◌, ◌*◌, ◌/◌, ◌%◌, ◌≤◌, ◌<◌}
-use Rattle.layer.proofs.Prelude.{refl, sym, ap, ap₂, ◌∙◌, subst, Bool, true, false, cond, true≢false, List, [], inl, inr, ⊎_elim, ℕ, suc, div-add-mod', arith, ℕ_discrete, eq-eqb, ne_eqb, eqb-true, eqb-false, leb-true, ℤ, pos, negsuc, eqb, leb, set, length-set, Refusal, QuestionOpen, Zero, NotWhole, PastEnd, NoRun, CommitRefused, lt-or-le, when, unless, Found, At, Nothing, lowest_run, now_ms, delay_ms, arena_allowed, Arena, is_on, Commitment, grown_arena, find_run, give_back_run, bytes_of, end_of, is_inside, Rows, never, return-rows, Settings, Sweep, Question, Idle, Committing, Purging, Reserving, GivingBack, Waiting, Reserve, Claim, Kind, ForCommit, ForPurge, ForMemory, ForGiveBack, ForNone, Answer, Refused, Registered, Released, Outcome, state_with, reply, after, turn_down, at, is_at, with_record, with_stamps, grows as grows_by, eligible, serves, miss_reply, claim_of, release_of, visit, sweep_from, is_for, counted, resume, answer_commit, answer_purge, answer_of, Act, reserve, manage, adopt, claim, release, sweep, Call, act, query, answer, act_on, step_on, Eligible, Book, lowest, Fed, claims, releases, Say, refused, released, turn, unheld, hold, unhold, claimed, enter, is_idle, said, in_range, is_answer, stays_pending, sweeps_none, sweep_of}
+use Rattle.layer.proofs.Prelude.{refl, sym, ap, ap₂, ◌∙◌, subst, Bool, true, false, cond, true≢false, List, [], inl, inr, ⊎_elim, ℕ, suc, div-add-mod', arith, ℕ_discrete, eq-eqb, ne_eqb, eqb-true, eqb-false, leb-true, ℤ, pos, negsuc, eqb, leb, set, length-set, Refusal, QuestionOpen, Zero, NotWhole, PastEnd, NoRun, CommitRefused, lt-or-le, when, unless, Option, Some, None, lowest_run, now_ms, delay_ms, arena_allowed, Arena, is_on, Commitment, grown_arena, find_run, give_back_run, bytes_of, end_of, is_inside, Rows, never, return-rows, Settings, Sweep, Question, Idle, Committing, Purging, Reserving, GivingBack, Waiting, Reserve, Claim, Kind, ForCommit, ForPurge, ForMemory, ForGiveBack, ForNone, Answer, Refused, Registered, Released, Outcome, state_with, reply, after, turn_down, at, is_some, with_record, with_stamps, grows as grows_by, eligible, serves, miss_reply, claim_of, release_of, visit, sweep_from, is_for, counted, resume, answer_commit, answer_purge, answer_of, Act, reserve, manage, adopt, claim, release, sweep, Call, act, query, answer, act_on, step_on, Eligible, Book, lowest, Fed, claims, releases, Say, refused, released, turn, unheld, hold, unhold, claimed, enter, is_idle, said, in_range, is_answer, stays_pending, sweeps_none, sweep_of}
 use Rattle.refusals.specs.Number.{number}
 use Rattle.arena.proofs.PlaceLaws.{Within, inside-facts}
 use Rattle.layer.proofs.Tools.{at_same, by-not}
@@ -85,9 +85,9 @@ module _ (S i : ℕ) (l : List Arena) (q : Question) (call : Call) (o : Outcome)
   -- the run is the lowest that the book has unheld; what the book says of it is told, or owed until the yes
   pub record Holds (s n : ℕ) : Type 0 where
     pub by : Claims n
-    pub lowest : lowest_run (unheld book_before) book_before.chunks n ≡ At s
+    pub lowest : lowest_run (unheld book_before) book_before.chunks n ≡ Some s
     pub given : Given S i (at l i).base s n o
-    pub says : (claimed book_before n (At s)).say ∷ [] ≡ said o.answer ++ owed_after
+    pub says : (claimed book_before n (Some s)).say ∷ [] ≡ said o.answer ++ owed_after
 
   -- a release of the run, as the book says
   pub record Drops (s n : ℕ) : Type 0 where
@@ -198,7 +198,7 @@ module _ (S id : ℕ) (l : List Arena) (small : (at l id).chunks ≤ 1024) where
   }
 
   -- it takes a run of it
-  taken : (q : Question) (call : Call) (o : Outcome) (m s : ℕ) → Claims S id l q call o m → lowest_run (unheld (shown q)) (shown q).chunks m ≡ At s
+  taken : (q : Question) (call : Call) (o : Outcome) (m s : ℕ) → Claims S id l q call o m → lowest_run (unheld (shown q)) (shown q).chunks m ≡ Some s
       → Takes S id (at l id) small (shown q) m s o → Does S id l q call o
   taken q call o m s by e h = record {
     what = holds s m;
@@ -314,12 +314,12 @@ module _ (S id : ℕ) (l : List Arena) (stamps : List ℕ) (k : ℕ) (mark : Boo
       allowed true = unfold arena_allowed in refl
       allowed false = unfold arena_allowed in refl
 
-      missed : (f : Found) → is_at f ≡ false → f ≡ Nothing
-      missed (At s) e = absurd (true≢false e)
-      missed Nothing e = refl
+      missed : (f : Option ℕ) → is_some f ≡ false → f ≡ None
+      missed (Some s) e = absurd (true≢false e)
+      missed None e = refl
 
-      none_found : serves (pos id) m l id ≡ false → lowest_run (unheld (before Idle)) (before Idle).chunks m ≡ Nothing
-      none_found f = unfold serves eligible find_run in missed (find_run (at l id) m) (sym (ap (λ (x : Bool). x && is_at (find_run (at l id) m)) (eq-eqb id id refl)) ∙ f)
+      none_found : serves (pos id) m l id ≡ false → lowest_run (unheld (before Idle)) (before Idle).chunks m ≡ None
+      none_found f = unfold serves eligible find_run in missed (find_run (at l id) m) (sym (ap (λ (x : Bool). x && is_some (find_run (at l id) m)) (eq-eqb id id refl)) ∙ f)
 
       go : eqb m 0 ≡ false → (o : Outcome) → Seeks S id (at l id) small (before Idle) l stamps k mark (stands Idle refl) (pos id) m (miss_reply S k mark (pos id) m commits settings) o → P o
       go e o (none f g) =

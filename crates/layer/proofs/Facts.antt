@@ -1,6 +1,6 @@
 -- A sound table, by facts, and when a store leaves one. Assumes nothing.
 use Rattle.std.specs.Prelude.{◌≡◌, ◌&&◌, ◌+◌, ◌*◌, ◌<◌, ◌≤◌}
-use Rattle.layer.proofs.Prelude.{refl, sym, ap, ap₂, ◌∙◌, true, false, not, true≢false, List, ℕ, arith, ℕ_discrete, not-true, leb-true, ltb-true, le-leb, lt-ltb, leb, ltb, length, set, length-set, bit_at, Found, At, Nothing, least, all-free-of, free_all, First, first_says, and_both, Arena, bytes_of, end_of, SoundArena, Rows, Question, Idle, Committing, Purging, Reserving, GivingBack, at, is_at, meets, overlaps, apart, asked_id, sound_question}
+use Rattle.layer.proofs.Prelude.{refl, sym, ap, ap₂, ◌∙◌, true, false, not, true≢false, List, ℕ, arith, ℕ_discrete, not-true, leb-true, ltb-true, le-leb, lt-ltb, leb, ltb, length, set, length-set, bit_at, Option, Some, None, least, all-free-of, free_all, First, first_says, and_both, Arena, bytes_of, end_of, SoundArena, Rows, Question, Idle, Committing, Purging, Reserving, GivingBack, at, is_some, meets, overlaps, apart, asked_id, sound_question}
 use Rattle.bitmap.proofs.runs.LowestLaws.{least-none}
 use Rattle.layer.proofs.Tools.{at_same, at_other, by-set}
 
@@ -20,13 +20,13 @@ pub overlaps-none : (S : ℕ) (l : List Arena) (k x y : ℕ) → overlaps S l k 
 unfolding overlaps
 overlaps-none S l k x y e = go (least (λ i. meets S (at l i) x y) 0 k) (first_says (λ i. meets S (at l i) x y) 0 k) e
   where
-    go : (f : Found) → First (λ i. meets S (at l i) x y) 0 k f → is_at f ≡ false → (i : ℕ) → i < k → meets S (at l i) x y ≡ false
-    go (At z) h e = absurd (true≢false e)
-    go Nothing h e = λ i u. h i (omega arith) (omega arith)
+    go : (f : Option ℕ) → First (λ i. meets S (at l i) x y) 0 k f → is_some f ≡ false → (i : ℕ) → i < k → meets S (at l i) x y ≡ false
+    go (Some z) h e = absurd (true≢false e)
+    go None h e = λ i u. h i (omega arith) (omega arith)
 
 pub none-overlaps : (S : ℕ) (l : List Arena) (k x y : ℕ) → ((i : ℕ) → i < k → meets S (at l i) x y ≡ false) → overlaps S l k x y ≡ false
 unfolding overlaps
-none-overlaps S l k x y h = ap is_at (least-none (λ i. meets S (at l i) x y) 0 k (λ i u v. h i (omega arith)))
+none-overlaps S l k x y h = ap is_some (least-none (λ i. meets S (at l i) x y) 0 k (λ i u v. h i (omega arith)))
 
 -- ---- a table
 

@@ -1,6 +1,6 @@
 -- What a join comes to: both tables as they were, or one table that is sound if both were. Assumes nothing.
 use Rattle.std.specs.Prelude.{◌≡◌, ◌&&◌, ◌+◌, ◌-◌, ◌*◌, ◌<◌, ◌≤◌}
-use Rattle.layer.proofs.Prelude.{refl, sym, ap, ◌∙◌, subst, Bool, true, false, not, true≢false, List, ⊎_elim, ℕ, arith, ltb-false, ltb, length, lt-or-le, Found, At, Nothing, least, First, first_says, by_cond, unless, when, and_both, Refusal, Arena, bytes_of, Rows, SoundArena, Settings, Idle, NotJoined, Joined, World, empty, at, is_at, sound, meets, overlaps, is_idle, JoinOutcome, join_outcome, tables_overlap, joined_world, join_on, join_rules, is_broken_join, is_joined, blank}
+use Rattle.layer.proofs.Prelude.{refl, sym, ap, ◌∙◌, subst, Bool, true, false, not, true≢false, List, ⊎_elim, ℕ, arith, ltb-false, ltb, length, lt-or-le, Option, Some, None, least, First, first_says, by_cond, unless, when, and_both, Refusal, Arena, bytes_of, Rows, SoundArena, Settings, Idle, Err, Ok, World, empty, at, is_some, sound, meets, overlaps, is_idle, JoinOutcome, join_outcome, tables_overlap, joined_world, join_on, join_rules, is_broken_join, is_joined, blank}
 use Rattle.arena.proofs.MovingLaws.{overwritten-length, before-written, where-written}
 use Rattle.layer.proofs.Tools.{by-not}
 use Rattle.layer.proofs.Facts.{overlaps-none}
@@ -18,10 +18,10 @@ pub record Unites (S : ℕ) (w v : World) : Type 0 where
 
 pub data Comes (S : ℕ) (w v : World) (o : JoinOutcome) : Type 0 where
   both-stay : is_joined o.answer ≡ false → o.first ≡ w → o.second ≡ v → Comes S w v o
-  one_table : Unites S w v → o ≡ join_outcome (Joined w.state.count) (joined_world w v) empty → Comes S w v o
+  one_table : Unites S w v → o ≡ join_outcome (Ok w.state.count) (joined_world w v) empty → Comes S w v o
 
 module _ (S : ℕ) (w v : World) where
-  refused : (why : Refusal) → Comes S w v (join_outcome (NotJoined why) w v)
+  refused : (why : Refusal) → Comes S w v (join_outcome (Err why) w v)
   refused why = both-stay refl refl refl
 
   pub on-comes : Comes S w v (join_on S w v)
@@ -72,9 +72,9 @@ module _ (S : ℕ) (l : List Arena) (k : ℕ) (m : List Arena) (c : ℕ) where
   unfolding tables_overlap
   none-across e i j h g = go (least meeting 0 c) (first_says meeting 0 c) e
     where
-      go : (f : Found) → First meeting 0 c f → is_at f ≡ false → meets S (at l i) (at m j).base (bytes_of S (at m j)) ≡ false
-      go (At z) a e = absurd (true≢false e)
-      go Nothing a e = overlaps-none S l k _ _ (a j (omega arith) (omega (arith, g))) i h
+      go : (f : Option ℕ) → First meeting 0 c f → is_some f ≡ false → meets S (at l i) (at m j).base (bytes_of S (at m j)) ≡ false
+      go (Some z) a e = absurd (true≢false e)
+      go None a e = overlaps-none S l k _ _ (a j (omega arith) (omega (arith, g))) i h
 
   -- two that meet
   pub record Pair : Type 0 where
@@ -88,13 +88,13 @@ module _ (S : ℕ) (l : List Arena) (k : ℕ) (m : List Arena) (c : ℕ) where
   unfolding tables_overlap overlaps
   some-across e = go (least meeting 0 c) (first_says meeting 0 c) e
     where
-      inner : (j : ℕ) → j < c → (f : Found) → First (λ i. meets S (at l i) (at m j).base (bytes_of S (at m j))) 0 k f → is_at f ≡ true → Pair
-      inner j h (At i) a e = record { i = i; j = j; of-first = omega (arith, a.1); of-second = h; meet = a.2 }
-      inner j h Nothing a e = absurd (true≢false (sym e))
+      inner : (j : ℕ) → j < c → (f : Option ℕ) → First (λ i. meets S (at l i) (at m j).base (bytes_of S (at m j))) 0 k f → is_some f ≡ true → Pair
+      inner j h (Some i) a e = record { i = i; j = j; of-first = omega (arith, a.1); of-second = h; meet = a.2 }
+      inner j h None a e = absurd (true≢false (sym e))
 
-      go : (f : Found) → First meeting 0 c f → is_at f ≡ true → Pair
-      go (At j) a e = inner j (omega (arith, a.1)) (least (λ i. meets S (at l i) (at m j).base (bytes_of S (at m j))) 0 k) (first_says (λ i. meets S (at l i) (at m j).base (bytes_of S (at m j))) 0 k) a.2
-      go Nothing a e = absurd (true≢false (sym e))
+      go : (f : Option ℕ) → First meeting 0 c f → is_some f ≡ true → Pair
+      go (Some j) a e = inner j (omega (arith, a.1)) (least (λ i. meets S (at l i) (at m j).base (bytes_of S (at m j))) 0 k) (first_says (λ i. meets S (at l i) (at m j).base (bytes_of S (at m j))) 0 k) a.2
+      go None a e = absurd (true≢false (sym e))
 
 -- ---- one table
 

@@ -1,7 +1,7 @@
 -- One call keeps the invariant, moves the book as it is fed, and tells its program what the book says: of all that a call can do to an arena (`Does`), what is
 -- left where the arena is exclusive and its program keeps the premises. Assumes nothing.
 use Rattle.std.specs.Prelude.{◌≡◌, ◌∷◌, ◌++◌, ◌⊎◌, ◌<◌}
-use Rattle.layer.proofs.Prelude.{refl, sym, ap, ap₂, ◌∙◌, subst, Bool, false, cond, true≢false, List, [], append-nil, inl, inr, ℕ, arith, eq-eqb, ne_eqb, eqb, pos, negsuc, unless, At, Arena, is_on, Settings, Question, Idle, Committing, Purging, Reserving, GivingBack, Answer, Outcome, at, is_for, Call, act, query, answer, step_on, Book, lowest, Fed, claims, releases, Say, refused, released, Turn, turn, unhold, claimed, enter, is_idle, entries_of, said, Place, is_none, feeds, is_answer, declines}
+use Rattle.layer.proofs.Prelude.{refl, sym, ap, ap₂, ◌∙◌, subst, Bool, false, cond, true≢false, List, [], append-nil, inl, inr, ℕ, arith, eq-eqb, ne_eqb, eqb, pos, negsuc, unless, Some, Arena, is_on, Settings, Question, Idle, Committing, Purging, Reserving, GivingBack, Answer, Outcome, at, is_for, Call, act, query, answer, step_on, Book, lowest, Fed, claims, releases, Say, refused, released, Turn, turn, unhold, claimed, enter, is_idle, entries_of, said, Place, is_none, feeds, is_answer, declines}
 use Rattle.refusals.specs.Number.{number}
 use Rattle.layer.proofs.Facts.{SoundTable, SoundQuestion}
 use Rattle.layer.proofs.Shown.{View, calm, committing, purging, view_of, waits_in, owed_in, Role, feeding, closing, aside, role, fed_of, asker_after, book_in, Mine, Same, book_at, owed_at, Inv, Fits}
@@ -132,12 +132,12 @@ module _ (S p id b n : ℕ) (managed : Bool) where
             })
         by (holds s m) e x low w = go x.by
           where
-            turns : (m ≡ 0 → ⊥) → enter before (claims lowest m) ≡ claimed before m (At s)
+            turns : (m ≡ 0 → ⊥) → enter before (claims lowest m) ≡ claimed before m (Some s)
             turns some = unfold enter in unless (eqb m 0) _ _ (ne_eqb m 0 some) ∙ ap (claimed before m) x.lowest
 
             go : Claims S id l q c o m → Fits S p id b n l q who z (role there q c) o
             go (by-claim (pos y) commits i is some named) =
-                entered (claims lowest m) (claimed before m (At s))
+                entered (claims lowest m) (claimed before m (Some s))
                 (ap (role there q) is ∙ ap (λ (z : Bool). feeding (cond z (claims lowest m ∷ []) [] ++ [])) (eq-eqb y id (sym named))) i (turns some) e x.says low w
             go (by-claim (negsuc y) commits i is some not-exclusive) = absurd (shared not-exclusive)
             go (by-memory chunks bytes base commit exclusive commits i is not-exclusive) = absurd (shared not-exclusive)

@@ -1,6 +1,6 @@
 -- Sound in, sound out: a call on a table that row 1 lets pass leaves one that row 1 lets pass. First what does not register. Assumes nothing.
 use Rattle.std.specs.Prelude.{◌≡◌, ◌++◌, ◌+◌, ◌-◌, ◌*◌, ◌/◌, ◌<◌, ◌≤◌}
-use Rattle.layer.proofs.Prelude.{refl, sym, ◌∙◌, subst, Bool, true, false, cond, List, ℕ, zero, suc, arith, leb-true, ℤ, length, set, take, drop, replicate, length-replicate, bit_at, by_cond, Found, At, Nothing, least, First, first_says, Arena, Commitment, Untold, Committed, Uncommitted, find_run, take_run, give_back_run, commit_run, dirty_run, finish_grant, tell_run, pend_run, release_run, stamp_run, sweep_due, to_ask, next_asked, disarm, borrow_chunk, unpend_chunk, return_chunk, next_wait, rearm_at, rearm, SoundArena, stamps_of, Rows, bit_in, found_inside, disarm-rows, rearm-rows, Sweep, Committing, Reply, World, Outcome, world_of, calm, at, search_of, release_of, purge_reply, swept_reply, visit_at, visit, sweep_from}
+use Rattle.layer.proofs.Prelude.{refl, sym, ◌∙◌, subst, Bool, true, false, cond, List, ℕ, zero, suc, arith, leb-true, ℤ, length, set, take, drop, replicate, length-replicate, bit_at, by_cond, Option, Some, None, least, First, first_says, Arena, Commitment, Untold, Committed, Uncommitted, find_run, take_run, give_back_run, commit_run, dirty_run, finish_grant, tell_run, pend_run, release_run, stamp_run, sweep_due, to_ask, next_asked, disarm, borrow_chunk, unpend_chunk, return_chunk, next_wait, rearm_at, rearm, SoundArena, stamps_of, Rows, bit_in, found_inside, disarm-rows, rearm-rows, Sweep, Committing, Reply, World, Outcome, world_of, calm, at, search_of, release_of, purge_reply, swept_reply, visit_at, visit, sweep_from}
 use lib.ListN.{length-append, length-take, length-drop}
 use Rattle.arena.proofs.Changes.{take-rows, dirty-rows, release-rows, borrow-rows}
 use Rattle.arena.proofs.StaysSound.{take-sound, dirty-sound, release-sound, disarm-sound, borrow-sound, rearm-sound}
@@ -62,9 +62,9 @@ return-range a j true true = (refl, refl)
 return-range a j true false = (refl, refl)
 return-range a j false decommit = (refl, refl)
 
-rearm-at-range : (a : Arena) (now : ℕ) (f : Found) → ((rearm_at a now f).base ≡ a.base) × ((rearm_at a now f).chunks ≡ a.chunks)
-rearm-at-range a now (At w) = (refl, refl)
-rearm-at-range a now Nothing = (refl, refl)
+rearm-at-range : (a : Arena) (now : ℕ) (f : Option ℕ) → ((rearm_at a now f).base ≡ a.base) × ((rearm_at a now f).chunks ≡ a.chunks)
+rearm-at-range a now (Some w) = (refl, refl)
+rearm-at-range a now None = (refl, refl)
 
 pub rearm-range : (a : Arena) (stamps : List ℕ) (force : Bool) (now delay : ℕ) → ((rearm a stamps force now delay).base ≡ a.base) × ((rearm a stamps force now delay).chunks ≡ a.chunks)
 unfolding rearm
@@ -92,7 +92,7 @@ module _ (S : ℕ) (l : List Arena) (stamps : List ℕ) (k : ℕ) (mark : Bool) 
   calm-kept m = record { table = t; stamps = ls; question = tt }
 
   -- the run that was found in arena i, taken
-  module _ (i s n : ℕ) (h : i < k) (found : find_run (at l i) n ≡ At s) where
+  module _ (i s n : ℕ) (h : i < k) (found : find_run (at l i) n ≡ Some s) where
     room : s + n ≤ (at l i).chunks
     room = found_inside (at l i) n s found
 
@@ -165,8 +165,8 @@ module _ (S : ℕ) (stamps : List ℕ) (k : ℕ) (mark : Bool) (w : Sweep) (ls :
       there : i < length l
       there = omega (arith, t.long, t.few)
 
-      go : (f : Found) → First (to_ask a (stamps_of stamps i) w.force w.now w.delay) from (a.chunks - from) f → Kept S (visit_at S stamps k mark w l i a rest f)
-      go (At j) f =
+      go : (f : Option ℕ) → First (to_ask a (stamps_of stamps i) w.force w.now w.delay) from (a.chunks - from) f → Kept S (visit_at S stamps k mark w l i a rest f)
+      go (Some j) f =
           let inside : j < a.chunks = omega (arith, f.0, f.1) in
           let few : a.chunks ≤ 1024 = x.range.few in
           record {
@@ -175,7 +175,7 @@ module _ (S : ℕ) (stamps : List ℕ) (k : ℕ) (mark : Bool) (w : Sweep) (ls :
             question = subst (λ (z : Arena). (i < k) × (j < z.chunks) × (bit_at z.used j ≡ true) × (w.purged ≤ 1024 * i + j)) (sym (at_same l i (borrow_chunk a j) there))
                 (h, omega (arith, inside, (borrow-range a j).1), borrowed a j r (omega (arith, inside, few)), omega (arith, f.0, b));
           }
-      go Nothing f =
+      go None f =
           go_on (set l i (rearm a (stamps_of stamps i) w.force w.now w.delay))
           (put-sound S l k i (rearm a (stamps_of stamps i) w.force w.now w.delay) t h (rearm-rows a (stamps_of stamps i) w.force w.now w.delay r)
           (rearm-sound S a (stamps_of stamps i) w.force w.now w.delay x)

@@ -26,8 +26,7 @@ pub use Rattle.bitmap.specs.Lowest.{Lowest, Starts}
 unfoldable pub use Rattle.bitmap.specs.Lowest.{all, least, lowest_run}
 pub use Rattle.bitmap.specs.Rows.{clear_run}
 unfoldable pub use Rattle.bitmap.specs.Rows.{as_number, pack, write_run}
-pub use Rattle.bitmap.specs.declared.runs.Found.{Found}
-pub use Rattle.bitmap.specs.declared.runs.Found.TheVariants.{At, Nothing}
+pub use Rattle.std.specs.Prelude.{Option, Some, None, Result, Ok, Err, is_some}
 pub use Rattle.arena.proofs.Changes.{disarm-rows, found_inside, rearm-rows, return-rows}
 pub use Rattle.arena.proofs.FlagLaws.{flag-read}
 pub use Rattle.arena.proofs.RowLaws.{bit_in, bit-out, bit_at-no_bits, no-bits-row}
@@ -68,7 +67,7 @@ pub use Rattle.layer.specs.Step.{Act, Call, act, act_on, adopt, answer, area, ar
 unfoldable pub use Rattle.layer.specs.Step.{rules}
 pub use Rattle.layer.specs.Sweeping.{visit_at}
 unfoldable pub use Rattle.layer.specs.Sweeping.{purge_reply, sweep_from, swept_reply, visit}
-pub use Rattle.layer.specs.Table.{asked_id, at, is_at, sound}
+pub use Rattle.layer.specs.Table.{asked_id, at, sound}
 unfoldable pub use Rattle.layer.specs.Table.{apart, bad_range, find_arena, meets, overlaps, sound_lent, sound_question, sound_table}
 pub use Rattle.layer.specs.Ten.{Eligible, TenExactly}
 pub use Rattle.layer.specs.World.{Outcome, Row, World, after, blank, calm, first_of, outcome, refuse, reply, state_with, turn_down, world_of}
@@ -76,8 +75,6 @@ unfoldable pub use Rattle.layer.specs.World.{empty}
 pub use Rattle.layer.specs.declared.Answer.{Answer}
 pub use Rattle.layer.specs.declared.Answer.TheVariants.{Area, Asks, Claimed, Owns, Refused, Registered, Released, Swept}
 pub use Rattle.layer.specs.declared.Ask.TheVariants.{AskCommit}
-pub use Rattle.layer.specs.declared.JoinAnswer.{JoinAnswer}
-pub use Rattle.layer.specs.declared.JoinAnswer.TheVariants.{Joined, NotJoined}
 pub use Rattle.layer.specs.declared.Kind.{Kind}
 pub use Rattle.layer.specs.declared.Kind.TheVariants.{ForCommit, ForGiveBack, ForMemory, ForNone, ForPurge}
 pub use Rattle.layer.specs.declared.Question.{Question}

@@ -1,6 +1,6 @@
 -- What single rules say, each as a short fact: a layer that breaks one of them fails demand 3. Assumes nothing.
 use Rattle.std.specs.Prelude.{◌≡◌, ◌&&◌, ◌+◌, ◌≤◌}
-use Rattle.layer.proofs.Prelude.{refl, sym, ap, ◌∙◌, Bool, true, false, not, true≢false, List, ℕ, zero, suc, arith, eqb-true, eqb-false, leb-true, ltb-false, eqb, leb, ℤ, pos, negsuc, NoRun, and_both, Arena, is_on, find_run, end_of, never, Claim, turn_down, calm, at, is_at, grows, bad_count, with_record, with_stamps, eligible, serves, search_of, answer_commit, resume, Eligible}
+use Rattle.layer.proofs.Prelude.{refl, sym, ap, ◌∙◌, Bool, true, false, not, true≢false, List, ℕ, zero, suc, arith, eqb-true, eqb-false, leb-true, ltb-false, eqb, leb, ℤ, pos, negsuc, NoRun, and_both, Arena, is_on, find_run, end_of, never, Claim, turn_down, calm, at, is_some, grows, bad_count, with_record, with_stamps, eligible, serves, search_of, answer_commit, resume, Eligible}
 use Rattle.layer.proofs.Tools.{or-false, at_other}
 
 -- ---- claims
@@ -18,7 +18,7 @@ named-only x i a e = eqb-true i x e
 -- what serves a claim is eligible
 serves-eligible : (id : ℤ) (n : ℕ) (l : List Arena) (i : ℕ) → serves id n l i ≡ true → eligible id i (at l i) ≡ true
 unfolding serves
-serves-eligible id n l i e = (and_both (eligible id i (at l i)) (is_at (find_run (at l i) n)) e).0
+serves-eligible id n l i e = (and_both (eligible id i (at l i)) (is_some (find_run (at l i) n)) e).0
 
 -- so an exclusive arena j serves no claim with a negative id, and a claim at its own id alone
 pub not-shared : (x n : ℕ) (l : List Arena) (i j : ℕ) → is_on (at l j).exclusive ≡ true → serves (negsuc x) n l i ≡ true → i ≡ j → ⊥
@@ -34,9 +34,9 @@ served-eligible (pos x) n l i e = served-named x n l i e
 served-eligible (negsuc x) n l i e = never (is_on (at l i).exclusive) (λ f. not-shared x n l i i f e refl)
 
 -- what serves a claim has the run
-pub served-found : (id : ℤ) (n : ℕ) (l : List Arena) (i : ℕ) → serves id n l i ≡ true → is_at (find_run (at l i) n) ≡ true
+pub served-found : (id : ℤ) (n : ℕ) (l : List Arena) (i : ℕ) → serves id n l i ≡ true → is_some (find_run (at l i) n) ≡ true
 unfolding serves
-served-found id n l i e = (and_both (eligible id i (at l i)) (is_at (find_run (at l i) n)) e).1
+served-found id n l i e = (and_both (eligible id i (at l i)) (is_some (find_run (at l i) n)) e).1
 
 -- ---- growth
 

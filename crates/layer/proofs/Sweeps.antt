@@ -1,6 +1,6 @@
 -- The case principle of a sweep: to prove P of what comes out, prove it of each question that it may put, and of its end. Assumes nothing.
-use Rattle.std.specs.Prelude.{◌+◌, ◌-◌, ◌*◌, ◌≤◌}
-use Rattle.layer.proofs.Prelude.{ℕ, zero, suc, Bool, cond, List, arith, by_cond, Found, At, Nothing, least, First, first_says, Arena, sweep_due, disarm, to_ask, next_asked, stamps_of, Sweep, Purging, Asks, Swept, Outcome, state_with, reply, after, calm, at, purge_reply, swept_reply, visit_at, visit, sweep_from}
+use Rattle.std.specs.Prelude.{◌+◌, ◌-◌, ◌*◌, ◌≤◌, ℕ}
+use Rattle.layer.proofs.Prelude.{ℕ, zero, suc, Bool, cond, List, arith, by_cond, Option, Some, None, least, First, first_says, Arena, sweep_due, disarm, to_ask, next_asked, stamps_of, Sweep, Purging, Asks, Swept, Outcome, state_with, reply, after, calm, at, purge_reply, swept_reply, visit_at, visit, sweep_from}
 use Rattle.layer.specs.declared.Ask.TheVariants.{AskPurge}
 
 -- it asks about a place from lo on, or ends
@@ -12,9 +12,9 @@ module _ (S : ℕ) (stamps : List ℕ) (k : ℕ) (mark : Bool) (w : Sweep) (P : 
   visit-cases l i a from rest h go_on =
       go (least (to_ask a (stamps_of stamps i) w.force w.now w.delay) from (a.chunks - from)) (first_says (to_ask a (stamps_of stamps i) w.force w.now w.delay) from (a.chunks - from))
     where
-      go : (f : Found) → First (to_ask a (stamps_of stamps i) w.force w.now w.delay) from (a.chunks - from) f → P (visit_at S stamps k mark w l i a rest f)
-      go (At j) g = asks _ i a j (omega (arith, h, g.0))
-      go Nothing g = go_on _
+      go : (f : Option ℕ) → First (to_ask a (stamps_of stamps i) w.force w.now w.delay) from (a.chunks - from) f → P (visit_at S stamps k mark w l i a rest f)
+      go (Some j) g = asks _ i a j (omega (arith, h, g.0))
+      go None g = go_on _
 
   pub sweep-cases : (f i : ℕ) (l : List Arena) → lo ≤ 1024 * i → P (sweep_from S stamps k mark w f i l)
   unfolding sweep_from swept_reply

@@ -1,6 +1,6 @@
 -- Refusal 10 comes exactly where no eligible arena has the run: of a claim, and of one that goes on once its memory came. Assumes nothing.
 use Rattle.std.specs.Prelude.{◌≡◌, ◌&&◌, ◌↔◌, ◌%◌, ◌*◌}
-use Rattle.layer.proofs.Prelude.{by_rules, refl, sym, ap, ap₂, ◌∙◌, subst, Bool, true, not, true≢false, List, ℕ, suc, arith, eq-eqb, ne_eqb, not-true, lt-leb, eqb, leb, ℤ, pos, negsuc, bit_at, unless, Found, At, Nothing, Starts, Lowest, lowest-says, arena_allowed, Arena, reserved_arena, free, find_run, NoRun, Settings, Idle, Reserving, Claim, ForMemory, Reply, Outcome, turn_down, calm, at, is_at, bad_range, ask_memory, bad_count, with_record, with_stamps, eligible, serves, miss_reply, search_of, claim_of, is_for, answer_memory, answer_of, claim, act, answer, Eligible, TenExactly}
+use Rattle.layer.proofs.Prelude.{by_rules, refl, sym, ap, ap₂, ◌∙◌, subst, Bool, true, not, true≢false, List, ℕ, suc, arith, eq-eqb, ne_eqb, not-true, lt-leb, eqb, leb, ℤ, pos, negsuc, bit_at, unless, Option, Some, None, Starts, Lowest, lowest-says, arena_allowed, Arena, reserved_arena, free, find_run, NoRun, Settings, Idle, Reserving, Claim, ForMemory, Reply, Outcome, turn_down, calm, at, is_some, bad_range, ask_memory, bad_count, with_record, with_stamps, eligible, serves, miss_reply, search_of, claim_of, is_for, answer_memory, answer_of, claim, act, answer, Eligible, TenExactly}
 use Rattle.layer.specs.World.{size_of}
 use Rattle.layer.specs.Ten.{ClearFrom, NoneHas, IsMiss, TenAfterMemory}
 use Rattle.layer.proofs.Rules.{served-eligible, served-found}
@@ -25,17 +25,17 @@ module _ (id : ℤ) (n : ℕ) (l : List Arena) (i : ℕ) where
   unfolding find_run
   serves-run e = (served-eligible id n l i e, go (find_run (at l i) n) (lowest-says (free (at l i)) (at l i).chunks n) (served-found id n l i e))
     where
-      go : (f : Found) → Lowest (free (at l i)) (at l i).chunks n f → is_at f ≡ true → (s : ℕ) × ClearFrom (at l i) n s
-      go (At s) low e = (s, starts-clear (at l i) n s low.0)
-      go Nothing low e = absurd (true≢false (sym e))
+      go : (f : Option ℕ) → Lowest (free (at l i)) (at l i).chunks n f → is_some f ≡ true → (s : ℕ) × ClearFrom (at l i) n s
+      go (Some s) low e = (s, starts-clear (at l i) n s low.0)
+      go None low e = absurd (true≢false (sym e))
 
   run-serves : Eligible id i (at l i) → (s : ℕ) → ClearFrom (at l i) n s → serves id n l i ≡ true
   unfolding serves find_run
   run-serves e s h = ap₂ ◌&&◌ (eligible-test id i (at l i) e) (go (find_run (at l i) n) (lowest-says (free (at l i)) (at l i).chunks n))
     where
-      go : (f : Found) → Lowest (free (at l i)) (at l i).chunks n f → is_at f ≡ true
-      go (At s) low = refl
-      go Nothing low = absurd (low s (clear-starts (at l i) n s h))
+      go : (f : Option ℕ) → Lowest (free (at l i)) (at l i).chunks n f → is_some f ≡ true
+      go (Some s) low = refl
+      go None low = absurd (low s (clear-starts (at l i) n s h))
 
 -- ---- a search misses exactly if none has the run
 
@@ -49,7 +49,7 @@ module _ (S : ℕ) (l : List Arena) (stamps : List ℕ) (k : ℕ) (mark : Bool) 
       (λ none. ((λ _ i h e s c. true≢false (sym (run-serves id n l i e s c) ∙ none i h)), (λ _. is-miss)))
       (λ i h e. let r = serves-run id n l i e in
       let found : NoneHas id n l k → ⊥ = λ none. none i h r.0 r.1.0 r.1.1 in
-      grant-cases S l stamps k mark Exactly i n commits (λ f. absurd (true≢false (sym (served-found id n l i e) ∙ ap is_at f)))
+      grant-cases S l stamps k mark Exactly i n commits (λ f. absurd (true≢false (sym (served-found id n l i e) ∙ ap is_some f)))
       (λ s f. ((λ m. absurd m), (λ none. absurd (found none)))) (λ s f. ((λ m. absurd m), (λ none. absurd (found none)))))
 
 -- ---- the claim, and the answer that goes on with one

@@ -1,7 +1,7 @@
 -- "a program's calls in its exclusive arena get the addresses and fresh marks they would have got unjoined": the history without joins is the program's alone. It registers the same range in the
 -- empty layer, then claims and releases as the book was fed, and puts no commit question, so that none of its calls waits. Assumes nothing.
 use Rattle.std.specs.Prelude.{◌≡◌, ◌&&◌, ◌∷◌, ◌++◌, ◌+◌, ◌*◌, ◌^◌, ◌<◌}
-use Rattle.layer.proofs.Prelude.{refl, sym, ap, ap₂, ◌∙◌, subst, Bool, true, false, cond, List, [], append_assoc, append-nil, inl, inr, ℕ, arith, eq-eqb, lt-leb, eqb, leb, ltb, pos, negsuc, length, by_cond, when, unless, page_size_sound, Found, At, Nothing, find_run, Arena, Untold, Settings, Question, Idle, Reserve, ForMemory, Reply, Outcome, empty, after, at, chunks_for, too_large, ask_memory, reserve_reply, reserve_of, asks_commit, grant_reply, miss_reply, grant_found, claim_of, release_of, is_for, Act, reserve, manage, claim, release, Call, act, answer, act_on, step_on, Book, lowest, Fed, claims, releases, Say, opened, say_all, Marked, History, begin, next, joining, of_first, of_second, is_sound, by_rules, Lent, Trail, open_at, is_idle, start, ruled, entries, entries_of, Place, in_range, feeds, fed_by, waits, Registrable, OpensAt, Where, place, fed, told, book_of, MarkedList, listing, is_taken, fed_by_list, entries_of_list}
+use Rattle.layer.proofs.Prelude.{refl, sym, ap, ap₂, ◌∙◌, subst, Bool, true, false, cond, List, [], append_assoc, append-nil, inl, inr, ℕ, arith, eq-eqb, lt-leb, eqb, leb, ltb, pos, negsuc, length, by_cond, when, unless, page_size_sound, Option, Some, None, find_run, Arena, Untold, Settings, Question, Idle, Reserve, ForMemory, Reply, Outcome, empty, after, at, chunks_for, too_large, ask_memory, reserve_reply, reserve_of, asks_commit, grant_reply, miss_reply, grant_found, claim_of, release_of, is_for, Act, reserve, manage, claim, release, Call, act, answer, act_on, step_on, Book, lowest, Fed, claims, releases, Say, opened, say_all, Marked, History, begin, next, joining, of_first, of_second, is_sound, by_rules, Lent, Trail, open_at, is_idle, start, ruled, entries, entries_of, Place, in_range, feeds, fed_by, waits, Registrable, OpensAt, Where, place, fed, told, book_of, MarkedList, listing, is_taken, fed_by_list, entries_of_list}
 use Rattle.layer.specs.History.{Entry, claims_at, releases_at, fed_at, bytes_in, Reserves}
 use Rattle.layer.specs.Demand.{AllBut, is_unjoined, Unjoined, AsUnjoined}
 use Rattle.layer.proofs.ChunkLaws.{size_fits, up_is}
@@ -99,9 +99,9 @@ module _ (S : ℕ) (l : List Arena) (stamps : List ℕ) (k : ℕ) (mark : Bool) 
       claim-cases S l stamps k mark Quiet (pos id) n false settings (λ e. refl) (λ e f. refl)
       (λ e f. search-cases S l stamps k mark Quiet (pos id) n false (miss_reply S k mark (pos id) n false settings) (λ _. refl) (λ i h g. found i (find_run (at l i) n)))
     where
-      found : (i : ℕ) (f : Found) → Quiet (grant_found S l stamps k mark i n false f)
-      found i (At s) = refl
-      found i Nothing = refl
+      found : (i : ℕ) (f : Option ℕ) → Quiet (grant_found S l stamps k mark i n false f)
+      found i (Some s) = refl
+      found i None = refl
 
   release-quiet : (x n now delay : ℕ) → Quiet (release_of S l stamps k mark x n Untold false now delay)
   release-quiet x n now delay =

@@ -1,6 +1,6 @@
 -- What each change of a record does to the share book that it shows, and what it leaves of the record's range. No id and no table. Assumes nothing.
 use Rattle.std.specs.Prelude.{◌≡◌, ◌&&◌, ◌||◌, ◌∷◌, ◌+◌, ◌*◌, ◌≤◌, ◌<◌}
-use Rattle.layer.proofs.Prelude.{refl, sym, ap, ◌∙◌, Bool, true, false, cond, not, List, [], ℕ, arith, eq-eqb, ne_eqb, ℤ, bit_at, within, clear_run, Stands, stands, before, inside, within-before, within-after, Found, At, Nothing, Arena, Commitment, Untold, Committed, Uncommitted, no_bits, each_bit, new_arena, reserved_arena, managed_arena, adopted_arena, grown_arena, run_fresh, take_run, give_back_run, commit_run, dirty_run, finish_grant, tell_run, pend_run, release_run, disarm, borrow_chunk, unpend_chunk, return_chunk, next_wait, rearm_at, rearm, Rows, no-bits-row, bit_at-no_bits, Sweep, Committing, Purging, Book, granted, opened, hold, unhold, claimed}
+use Rattle.layer.proofs.Prelude.{refl, sym, ap, ◌∙◌, Bool, true, false, cond, not, List, [], ℕ, arith, eq-eqb, ne_eqb, ℤ, bit_at, within, clear_run, Stands, stands, before, inside, within-before, within-after, Option, Some, None, Arena, Commitment, Untold, Committed, Uncommitted, no_bits, each_bit, new_arena, reserved_arena, managed_arena, adopted_arena, grown_arena, run_fresh, take_run, give_back_run, commit_run, dirty_run, finish_grant, tell_run, pend_run, release_run, disarm, borrow_chunk, unpend_chunk, return_chunk, next_wait, rearm_at, rearm, Rows, no-bits-row, bit_at-no_bits, Sweep, Committing, Purging, Book, granted, opened, hold, unhold, claimed}
 use Rattle.bitmap.proofs.words.RowLaws.{beyond, within-yes}
 use Rattle.arena.proofs.RowLaws.{bit-write}
 use Rattle.arena.proofs.SoundLaws.{Past}
@@ -83,7 +83,7 @@ module _ (a : Arena) (s n : ℕ) (r : Rows a) (h : s + n ≤ 1024) where
       go j (inside p q) = ap (λ (t : Bool). t || (not t && bit_at a.used j)) (within-yes s n j p q) ∙ sym (e j p q)
 
 -- what a claim is told: the book's fresh is the record's
-pub say-fresh : (S : ℕ) (a : Arena) (s n : ℕ) → (claimed (book_in S calm a) n (At s)).say ≡ granted (a.base + s * S) (run_fresh a s n)
+pub say-fresh : (S : ℕ) (a : Arena) (s n : ℕ) → (claimed (book_in S calm a) n (Some s)).say ≡ granted (a.base + s * S) (run_fresh a s n)
 unfolding run_fresh
 say-fresh S a s n = refl
 
@@ -102,9 +102,9 @@ unfolding rearm
 book-rearmed {S = S} a stamps true now delay = refl
 book-rearmed {S = S} a stamps false now delay = go (next_wait a stamps now delay)
   where
-    go : (f : Found) → book_in S calm (rearm_at a now f) ≡ book_in S calm a
-    go (At w) = refl
-    go Nothing = refl
+    go : (f : Option ℕ) → book_in S calm (rearm_at a now f) ≡ book_in S calm a
+    go (Some w) = refl
+    go None = refl
 
 -- a sweep borrows the used bit of a chunk that is not held
 pub book-borrowed : {S : ℕ} → (a : Arena) (c : ℕ) → Rows a → c < 1024 → bit_at a.used c ≡ false → book_in S (purging c) (borrow_chunk a c) ≡ book_in S calm a
@@ -227,9 +227,9 @@ module _ (old : Arena) (m : ℕ) (a : Arena) (x : Same old m a) where
   rearm-same stamps true now delay = x
   rearm-same stamps false now delay = go (next_wait a stamps now delay)
     where
-      go : (f : Found) → Same old m (rearm_at a now f)
-      go (At w) = record { base = x.base; chunks = x.chunks; exclusive = x.exclusive; owned = x.owned }
-      go Nothing = x
+      go : (f : Option ℕ) → Same old m (rearm_at a now f)
+      go (Some w) = record { base = x.base; chunks = x.chunks; exclusive = x.exclusive; owned = x.owned }
+      go None = x
 
   pub grown-same : (n : ℕ) → Same old (m + n) (grown_arena a n)
   unfolding grown_arena

@@ -1,9 +1,7 @@
 -- The share book of an exclusive arena, a term of document 01. It is told base, number of chunks and whether managed, and fed the claims and releases of its
 -- program; it knows no table, answer, clock or setting. Assumes nothing.
-use Rattle.std.specs.Prelude.{Bool, false, cond, not, ◌&&◌, ◌||◌, List, [], ◌∷◌, ℕ, ◌+◌, ◌-◌, ◌*◌, ◌/◌, ◌%◌, leb, eqb}
+use Rattle.std.specs.Prelude.{Bool, false, cond, not, ◌&&◌, ◌||◌, List, [], ◌∷◌, ℕ, ◌+◌, ◌-◌, ◌*◌, ◌/◌, ◌%◌, leb, eqb, Option, Some, None}
 use Rattle.bitmap.specs.Bits.{within}
-use Rattle.bitmap.specs.declared.runs.Found.{Found}
-use Rattle.bitmap.specs.declared.runs.Found.TheVariants.{At, Nothing}
 use Rattle.bitmap.specs.Lowest.{all, lowest_run}
 
 -- the bytes of a chunk, the range, which chunks are held, and which were ever granted
@@ -20,7 +18,7 @@ pub data How : Type 0 where
 
 -- a choice of a run: the test of a place, the number of places, the length
 abbrev pub Choice : Type 0
-Choice = (ℕ → Bool) → ℕ → ℕ → Found
+Choice = (ℕ → Bool) → ℕ → ℕ → Option ℕ
 
 abbrev pub chosen : How → Choice
 chosen lowest = lowest_run
@@ -60,9 +58,9 @@ abbrev pub unhold : Book → ℕ → ℕ → Book
 unhold b s n = record { size = b.size; base = b.base; chunks = b.chunks; held = λ j. not (within s n j) && b.held j; touched = b.touched }
 
 -- "Without n neighbouring unheld chunks, 10. Otherwise the lowest such run, at base + start × S, becomes held; it is fresh if none of it was touched"
-abbrev pub claimed : Book → ℕ → Found → Turn
-claimed b n Nothing = turn (refused 10) b
-claimed b n (At s) = turn (granted (b.base + s * b.size) (all (λ j. not (b.touched j)) s n)) (hold b s n)
+abbrev pub claimed : Book → ℕ → Option ℕ → Turn
+claimed b n None = turn (refused 10) b
+claimed b n (Some s) = turn (granted (b.base + s * b.size) (all (λ j. not (b.touched j)) s n)) (hold b s n)
 
 -- "Claim of n: 0 is 4"; "Release of n: 0 is 4, an address not whole 7, a run past the end 9." "A refusal changes nothing."
 unfoldable pub enter : Book → Fed → Turn

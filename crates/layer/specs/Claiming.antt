@@ -1,8 +1,8 @@
 -- The three claims, where no question is open. Document 01, "Claiming". k arenas stand; S is the size of a chunk. Assumes nothing.
-use Rattle.std.specs.Prelude.{◌&&◌, ◌∷◌, ◌+◌, ◌*◌}
-use Rattle.layer.specs.Prelude.{Bool, true, false, cond, not, List, [], ℕ, eqb, leb, ℤ, pos, negsuc, set, Zero, ArenasOff, NoRun, arena_allowed, Found, At, Nothing, least, Arena, is_on, find_run, run_committed, run_fresh, take_run, dirty_run, Settings, Committing, Claim, AskCommit, Asks, Claimed, Reply}
+use Rattle.std.specs.Prelude.{◌&&◌, ◌∷◌, ◌+◌, ◌*◌, is_some}
+use Rattle.layer.specs.Prelude.{Bool, true, false, cond, not, List, [], ℕ, eqb, leb, ℤ, pos, negsuc, set, Zero, ArenasOff, NoRun, arena_allowed, Option, Some, None, least, Arena, is_on, find_run, run_committed, run_fresh, take_run, dirty_run, Settings, Committing, Claim, AskCommit, Asks, Claimed, Reply}
 use Rattle.layer.specs.World.{Outcome, state_with, calm, world_of, reply, after, turn_down, refuse, first_of}
-use Rattle.layer.specs.Table.{at, is_at}
+use Rattle.layer.specs.Table.{at}
 use Rattle.layer.specs.Registering.{too_large, ask_memory}
 
 -- "A negative arena id means every arena that is not exclusive; other ids mean that one arena."
@@ -12,7 +12,7 @@ eligible (negsuc x) i a = not (is_on a.exclusive)
 
 -- arena i serves a claim of n at the id
 unfoldable pub serves : ℤ → ℕ → List Arena → ℕ → Bool
-serves id n l i = eligible id i (at l i) && is_at (find_run (at l i) n)
+serves id n l i = eligible id i (at l i) && is_some (find_run (at l i) n)
 
 abbrev pub is_negative : ℤ → Bool
 is_negative (pos x) = false
@@ -46,14 +46,14 @@ miss_reply S k mark id n commits settings =
 -- ---- the call
 
 module _ (S : ℕ) (l : List Arena) (stamps : List ℕ) (k : ℕ) (mark : Bool) where
-  abbrev pub grant_found : ℕ → ℕ → Bool → Found → Outcome
-  grant_found i n commits (At s) = after (grant_reply S k mark i (at l i) s n commits) (set l i (grant_arena (at l i) s n commits)) stamps
-  grant_found i n commits Nothing = after (turn_down NoRun (calm k mark)) l stamps
+  abbrev pub grant_found : ℕ → ℕ → Bool → Option ℕ → Outcome
+  grant_found i n commits (Some s) = after (grant_reply S k mark i (at l i) s n commits) (set l i (grant_arena (at l i) s n commits)) stamps
+  grant_found i n commits None = after (turn_down NoRun (calm k mark)) l stamps
 
   -- "Lowest id, then lowest run of n"; a search in vain is answered by `missed`
-  abbrev pub search_at : ℕ → Bool → Reply → Found → Outcome
-  search_at n commits missed (At i) = grant_found i n commits (find_run (at l i) n)
-  search_at n commits missed Nothing = after missed l stamps
+  abbrev pub search_at : ℕ → Bool → Reply → Option ℕ → Outcome
+  search_at n commits missed (Some i) = grant_found i n commits (find_run (at l i) n)
+  search_at n commits missed None = after missed l stamps
 
   unfoldable pub search_of : ℤ → ℕ → Bool → Reply → Outcome
   search_of id n commits missed = search_at n commits missed (least (serves id n l) 0 k)

@@ -1,10 +1,9 @@
 -- Demand 3, of any layer; proofs/ proves it of every layer that answers and leaves what the rules say. Each statement is about every history from the empty
 -- layer, with lists of releases and any nesting of joins in it, lent as the order says, and every exclusive arena whose book opened in it, in this table or in one that was joined
 -- to it, and whose program keeps the premises. Assumes nothing.
-use Rattle.std.specs.Prelude.{◌≡◌, Bool, true, false, cond, not, ◌&&◌, ◌||◌, List, [], ◌∷◌, ◌++◌, ◌⊎◌, ◌↔◌, ℕ, ◌+◌, ◌-◌, ◌*◌, ◌/◌, ◌<◌, ◌≤◌, length}
+use Rattle.std.specs.Prelude.{◌≡◌, Bool, true, false, cond, not, ◌&&◌, ◌||◌, List, [], ◌∷◌, ◌++◌, ◌⊎◌, ◌↔◌, ℕ, ◌+◌, ◌-◌, ◌*◌, ◌/◌, ◌<◌, ◌≤◌, length, Some}
 use Rattle.std.proofs.Common.{inr}
 use Rattle.bitmap.specs.Bits.{within}
-use Rattle.bitmap.specs.declared.runs.Found.TheVariants.{At}
 use Rattle.bitmap.specs.Lowest.{Starts, Lowest}
 use Rattle.options.specs.Options.{page_size_sound}
 use Rattle.layer.specs.declared.Answer.TheVariants.{Claimed}
@@ -69,7 +68,7 @@ abbrev pub GrantedLowest : Layer → Type 0
 GrantedLowest L =
     (p : ℕ) (h : History) (w : Where h) → Lent L h → Keeps p h w → (c : Claims (place h w) (fed h w) (told L h w))
     → (x : ℕ) (fresh : Bool) → c.say ≡ granted x fresh
-    → (s : ℕ) × (x ≡ (place h w).base + s * (place h w).size) × Lowest (left_unheld (place h w) c.fs c.ss) (place h w).chunks c.n (At s)
+    → (s : ℕ) × (x ≡ (place h w).base + s * (place h w).size) × Lowest (left_unheld (place h w) c.fs c.ss) (place h w).chunks c.n (Some s)
 
 -- whose claim a call makes or goes on with, and of how many chunks
 abbrev pub claimant : Trail → Marked → ℕ

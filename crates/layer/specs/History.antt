@@ -1,7 +1,8 @@
 -- Histories: calls and lists of releases, each marked with its program and with what it is lent, from the empty layer, and joins of two histories; any layer's run of one, and the
 -- rules' own; what the share book of an exclusive arena is fed and its program is told; and the premises of demand 3. What is open, who asked for what and what is registered are read
 -- off the rules' own run: "a question is open from where the rules above put it until they close it, whatever a layer says". Assumes nothing.
-use Rattle.std.specs.Prelude.{◌≡◌, Bool, true, false, cond, not, ◌&&◌, List, [], ◌∷◌, ◌++◌, map, ◌⊎◌, ℕ, zero, suc, ◌+◌, ◌*◌, ◌%◌, ◌^◌, ◌<◌, ◌≤◌, ℤ, pos, negsuc, leb, ltb, eqb}
+use Rattle.std.specs.Prelude.{◌≡◌, Bool, true, false, cond, not, ◌&&◌, List, [], ◌∷◌, ◌++◌, map, ◌⊎◌, ℕ, zero, suc, ◌+◌, ◌*◌, ◌%◌, ◌^◌, ◌<◌, ◌≤◌, ℤ, pos, negsuc, leb, ltb, eqb, Result, Ok, Err}
+use Rattle.refusals.specs.declared.Refusal.{Refusal}
 use Rattle.std.proofs.Common.{inl, inr}
 use Rattle.refusals.specs.Number.{number}
 use Rattle.layer.specs.declared.Settings.{Settings}
@@ -10,8 +11,6 @@ use Rattle.layer.specs.declared.Question.TheVariants.{Idle}
 use Rattle.layer.specs.declared.Kind.TheVariants.{ForCommit, ForMemory}
 use Rattle.layer.specs.declared.Answer.{Answer}
 use Rattle.layer.specs.declared.Answer.TheVariants.{Refused, Asks, Registered, Claimed, Released, Swept, Owns, Area}
-use Rattle.layer.specs.declared.JoinAnswer.{JoinAnswer}
-use Rattle.layer.specs.declared.JoinAnswer.TheVariants.{NotJoined, Joined}
 use Rattle.layer.specs.World.{World, Outcome, size_of, empty}
 use Rattle.layer.specs.Table.{at, sound}
 use Rattle.layer.specs.Answering.{is_for}
@@ -101,9 +100,9 @@ is_broken (Swept count) = false
 is_broken (Owns whether) = false
 is_broken (Area base bytes) = false
 
-abbrev pub is_broken_join : JoinAnswer → Bool
-is_broken_join (NotJoined why) = eqb (number why) 1
-is_broken_join (Joined rise) = false
+abbrev pub is_broken_join : Result ℕ Refusal → Bool
+is_broken_join (Err why) = eqb (number why) 1
+is_broken_join (Ok rise) = false
 
 -- of a side
 abbrev pub side_of : {A : Type 0} → Side → A → A → A
@@ -176,9 +175,9 @@ ruled (listing h m) = follow_list (ruled h) m
 ruled (joining side h g m) = follow_join side (ruled h) (ruled g) m
 
 -- the rules make one table of the two
-abbrev pub is_joined : JoinAnswer → Bool
-is_joined (Joined rise) = true
-is_joined (NotJoined why) = false
+abbrev pub is_joined : Result ℕ Refusal → Bool
+is_joined (Ok rise) = true
+is_joined (Err why) = false
 
 abbrev pub unites : Trail → Trail → MarkedJoin → Bool
 unites t u m = both_sound m && is_joined (join_of t u m).answer

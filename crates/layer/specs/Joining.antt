@@ -1,26 +1,26 @@
 -- Joining, wish 1 of document 02: one table out of two. The rules of the call on any two lent tables; it is no call of one table, so it stands beside `step`. Assumes nothing.
-use Rattle.std.specs.Prelude.{◌≡◌, ◌&&◌, ◌∷◌, ◌+◌, ◌*◌}
-use Rattle.layer.specs.Prelude.{Bool, not, List, [], ℕ, ltb, Refusal, Broken, QuestionOpen, TablesOverlap, TooManyArenas, least, Arena, bytes_of, overwritten, State, Settings, JoinAnswer, NotJoined, Joined, JoinReply}
+use Rattle.std.specs.Prelude.{◌≡◌, ◌&&◌, ◌∷◌, ◌+◌, ◌*◌, is_some}
+use Rattle.layer.specs.Prelude.{Bool, not, List, [], ℕ, ltb, Refusal, Broken, QuestionOpen, TablesOverlap, TooManyArenas, least, Arena, bytes_of, overwritten, State, Settings, Result, Err, Ok, JoinReply}
 use Rattle.layer.specs.World.{World, size_of, calm, world_of, Row, row, first_of, empty}
-use Rattle.layer.specs.Table.{at, is_at, overlaps, sound}
+use Rattle.layer.specs.Table.{at, overlaps, sound}
 use Rattle.layer.specs.Answering.{is_idle}
 
 -- what a join answers, and the two worlds that it leaves
 pub record JoinOutcome : Type 0 where
-  pub answer : JoinAnswer
+  pub answer : Result ℕ Refusal
   pub first : World
   pub second : World
 
-abbrev pub join_outcome : JoinAnswer → World → World → JoinOutcome
+abbrev pub join_outcome : Result ℕ Refusal → World → World → JoinOutcome
 join_outcome answer first second = record { answer = answer; first = first; second = second }
 
 -- every refusal leaves both tables
 abbrev pub refuse_join : World → World → Refusal → Bool → Row JoinOutcome
-refuse_join w v why holds = row (join_outcome (NotJoined why) w v) holds
+refuse_join w v why holds = row (join_outcome (Err why) w v) holds
 
 -- "17 when a range of one overlaps a range of the other": of the first k arenas of l and the first c of m
 unfoldable pub tables_overlap : ℕ → List Arena → ℕ → List Arena → ℕ → Bool
-tables_overlap S l k m c = is_at (least (λ j. overlaps S l k (at m j).base (bytes_of S (at m j))) 0 c)
+tables_overlap S l k m c = is_some (least (λ j. overlaps S l k (at m j).base (bytes_of S (at m j))) 0 c)
 
 -- "the first keeps its ids, the second's rise by the first's arena count, stamps and deadlines move along, and the give-up mark stands only if it stood in both"
 abbrev pub joined_world : World → World → World
@@ -38,7 +38,7 @@ join_on S w v =
     ∷ refuse_join w v TablesOverlap (tables_overlap S w.records w.state.count v.records v.state.count)
     ∷ refuse_join w v TooManyArenas (ltb 32 (w.state.count + v.state.count))
     ∷ [])
-    (join_outcome (Joined w.state.count) (joined_world w v) empty)
+    (join_outcome (Ok w.state.count) (joined_world w v) empty)
 
 -- THE RULES of a join, of chunks of S bytes: any two lent tables. All of row 1 on both sides comes before any 2.
 unfoldable pub join_rules : ℕ → World → World → Settings → JoinOutcome
@@ -49,7 +49,7 @@ abbrev pub join : World → World → ℕ → Settings → JoinOutcome
 join w v ns settings = join_rules (size_of w.state) w v settings
 
 -- what the entry point over the four lent slices leaves: the answer and the states go back by value, the records and stamps stand in the slices
-abbrev pub join_reply : JoinAnswer → State → State → JoinReply
+abbrev pub join_reply : Result ℕ Refusal → State → State → JoinReply
 join_reply answer first second = record { answer = answer; first = first; second = second }
 
 abbrev pub join_reply_in : JoinOutcome → JoinReply

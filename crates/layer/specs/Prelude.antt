@@ -5,8 +5,7 @@ pub use Rattle.refusals.specs.declared.Refusal.TheVariants.{Broken, QuestionOpen
 pub use Rattle.clock.specs.Clock.{now_ms, delay_ms, never_purges}
 pub use Rattle.options.specs.Options.{page_size_sound, arena_allowed}
 pub use Rattle.bitmap.specs.Bits.{bit_at}
-pub use Rattle.bitmap.specs.declared.runs.Found.{Found}
-pub use Rattle.bitmap.specs.declared.runs.Found.TheVariants.{At, Nothing}
+pub use Rattle.std.specs.Prelude.{Option, Some, None, Result, Ok, Err}
 pub use Rattle.bitmap.specs.Lowest.{all, least}
 pub use Rattle.arena.specs.declared.Arena.{Arena}
 pub use Rattle.arena.specs.declared.Commitment.{Commitment}
@@ -35,6 +34,4 @@ pub use Rattle.layer.specs.declared.Ask.TheVariants.{AskCommit, AskPurge, AskMem
 pub use Rattle.layer.specs.declared.Answer.{Answer}
 pub use Rattle.layer.specs.declared.Answer.TheVariants.{Refused, Asks, Registered, Claimed, Released, Swept, Owns, Area}
 pub use Rattle.layer.specs.declared.Reply.{Reply}
-pub use Rattle.layer.specs.declared.JoinAnswer.{JoinAnswer}
-pub use Rattle.layer.specs.declared.JoinAnswer.TheVariants.{NotJoined, Joined}
 pub use Rattle.layer.specs.declared.JoinReply.{JoinReply}

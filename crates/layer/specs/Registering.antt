@@ -1,8 +1,8 @@
 -- The calls that register arenas, where no question is open. Document 01, "Registering". k arenas stand; S is the size of a chunk. Assumes nothing.
-use Rattle.std.specs.Prelude.{◌&&◌, ◌||◌, ◌∷◌, ◌+◌, ◌-◌, ◌*◌, ◌/◌, ◌%◌, ◌^◌}
-use Rattle.layer.specs.Prelude.{Bool, cond, not, List, [], ℕ, suc, eqb, leb, ltb, ℤ, set, Zero, Range, NotWhole, ChunkCount, TableFull, NoWholeChunk, HostRefused, Found, least, Arena, is_on, managed_arena, adopted_arena, grown_arena, stamp_run, end_of, Reserving, Waiting, Reserve, AskMemory, Asks, Registered, Reply}
+use Rattle.std.specs.Prelude.{◌&&◌, ◌||◌, ◌∷◌, ◌+◌, ◌-◌, ◌*◌, ◌/◌, ◌%◌, ◌^◌, is_some, unwrap_or}
+use Rattle.layer.specs.Prelude.{Bool, cond, not, List, [], ℕ, suc, eqb, leb, ltb, ℤ, set, Zero, Range, NotWhole, ChunkCount, TableFull, NoWholeChunk, HostRefused, Option, least, Arena, is_on, managed_arena, adopted_arena, grown_arena, stamp_run, end_of, Reserving, Waiting, Reserve, AskMemory, Asks, Registered, Reply}
 use Rattle.layer.specs.World.{Outcome, state_with, calm, world_of, reply, after, turn_down, row, refuse, first_of}
-use Rattle.layer.specs.Table.{at, is_at, id_found, bad_range}
+use Rattle.layer.specs.Table.{at, bad_range}
 
 -- ---- reserving
 
@@ -67,7 +67,7 @@ unfoldable pub grows : ℕ → Arena → ℕ → ℕ → Bool
 grows S a address n = is_on a.owned && (not (is_on a.exclusive) && (eqb (end_of S a) address && leb (a.chunks + n) 1024))
 
 -- the one of k arenas that grows by a block of n chunks at the address
-abbrev pub growing : ℕ → List Arena → ℕ → ℕ → ℕ → Found
+abbrev pub growing : ℕ → List Arena → ℕ → ℕ → ℕ → Option ℕ
 growing S l k address n = least (λ i. grows S (at l i) address n) 0 k
 
 -- ---- the calls
@@ -105,7 +105,7 @@ module _ (S : ℕ) (l : List Arena) (stamps : List ℕ) (k : ℕ) (mark : Bool) 
       (refuse w Zero (eqb size 0)
       ∷ refuse w NotWhole (not (eqb (address % S) 0 && eqb (size % S) 0))
       ∷ refuse w Range (bad_range S l k address size)
-      ∷ row (grown (id_found found) n) (is_at found)
+      ∷ row (grown (unwrap_or found 0) n) (is_some found)
       ∷ refuse w ChunkCount (bad_count n)
       ∷ refuse w TableFull (leb 32 k)
       ∷ [])

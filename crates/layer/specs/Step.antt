@@ -1,8 +1,8 @@
 -- One call: the rules of document 01, with what document 02 changes, put together. Assumes nothing.
-use Rattle.std.specs.Prelude.{◌&&◌, ◌∷◌}
+use Rattle.std.specs.Prelude.{◌&&◌, ◌∷◌, is_some}
 use Rattle.layer.specs.Prelude.{Bool, cond, not, List, [], ℕ, ltb, ℤ, pos, negsuc, Broken, QuestionOpen, now_ms, delay_ms, never_purges, Arena, Commitment, bytes_of, Settings, Sweep, Question, Kind, Answer, Owns, Area}
 use Rattle.layer.specs.World.{World, Outcome, size_of, state_with, world_of, reply, after, refuse, first_of}
-use Rattle.layer.specs.Table.{at, is_at, find_arena, sound}
+use Rattle.layer.specs.Table.{at, find_arena, sound}
 use Rattle.layer.specs.Registering.{reserve_of, manage_of, adopt_of}
 use Rattle.layer.specs.Claiming.{claim_of}
 use Rattle.layer.specs.Releasing.{release_of}
@@ -61,7 +61,7 @@ module _ (S : ℕ) (l : List Arena) (stamps : List ℕ) (k : ℕ) (mark : Bool) 
       cond (sweeps_none settings force) (after (swept_reply k mark (sweep_of force ns settings)) l stamps) (sweep_from S stamps k mark (sweep_of force ns settings) k 0 l)
 
   abbrev pub query_on : Query → Answer
-  query_on (owns address) = Owns (is_at (find_arena S l k address))
+  query_on (owns address) = Owns (is_some (find_arena S l k address))
   query_on (area id) = area_of S l k id
 
   -- "then 2, or 3 for answers; then the call's own"

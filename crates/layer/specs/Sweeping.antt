@@ -1,7 +1,7 @@
 -- `purge_due`: a sweep over the arenas, until it has a question or ends. Document 01, "Sweeping": "Arenas by id, chunks ascending." k arenas stand; S is
 -- the size of a chunk. Assumes nothing.
 use Rattle.std.specs.Prelude.{◌+◌, ◌*◌}
-use Rattle.layer.specs.Prelude.{Bool, cond, List, ℕ, zero, suc, set, Found, At, Nothing, Arena, sweep_due, disarm, next_asked, borrow_chunk, rearm, stamps_of, Sweep, Purging, AskPurge, Asks, Swept, Reply}
+use Rattle.layer.specs.Prelude.{Bool, cond, List, ℕ, zero, suc, set, Option, Some, None, Arena, sweep_due, disarm, next_asked, borrow_chunk, rearm, stamps_of, Sweep, Purging, AskPurge, Asks, Swept, Reply}
 use Rattle.layer.specs.World.{Outcome, state_with, calm, reply, after}
 use Rattle.layer.specs.Table.{at}
 
@@ -15,9 +15,9 @@ swept_reply k mark w = reply (Swept w.purged) (calm k mark)
 
 module _ (S : ℕ) (stamps : List ℕ) (k : ℕ) (mark : Bool) (w : Sweep) where
   -- the next question about arena i, whose record is a, or its end: `rest` goes on with the arenas after it
-  abbrev pub visit_at : List Arena → ℕ → Arena → (List Arena → Outcome) → Found → Outcome
-  visit_at l i a rest (At j) = after (purge_reply S k mark w i a j) (set l i (borrow_chunk a j)) stamps
-  visit_at l i a rest Nothing = rest (set l i (rearm a (stamps_of stamps i) w.force w.now w.delay))
+  abbrev pub visit_at : List Arena → ℕ → Arena → (List Arena → Outcome) → Option ℕ → Outcome
+  visit_at l i a rest (Some j) = after (purge_reply S k mark w i a j) (set l i (borrow_chunk a j)) stamps
+  visit_at l i a rest None = rest (set l i (rearm a (stamps_of stamps i) w.force w.now w.delay))
 
   unfoldable pub visit : List Arena → ℕ → Arena → ℕ → (List Arena → Outcome) → Outcome
   visit l i a from rest = visit_at l i a rest (next_asked a (stamps_of stamps i) w.force w.now w.delay from)

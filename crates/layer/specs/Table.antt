@@ -1,20 +1,11 @@
 -- The table of arenas: what row 1 of document 01's "Turned down" lets pass, and what is asked of it. S is the size of a chunk. Assumes nothing.
-use Rattle.std.specs.Prelude.{◌&&◌, ◌||◌, ◌+◌, ◌*◌, ◌^◌}
-use Rattle.layer.specs.Prelude.{Bool, true, false, not, List, ℕ, eqb, leb, ltb, length, get_or, bit_at, Found, At, Nothing, all, least, page_size_sound, Arena, bytes_of, end_of, is_inside, sound_arena, State, Question, Idle, Committing, Purging, Reserving, GivingBack}
+use Rattle.std.specs.Prelude.{◌&&◌, ◌||◌, ◌+◌, ◌*◌, ◌^◌, is_some}
+use Rattle.layer.specs.Prelude.{Bool, true, false, not, List, ℕ, eqb, leb, ltb, length, get_or, bit_at, Option, Some, None, all, least, page_size_sound, Arena, bytes_of, end_of, is_inside, sound_arena, State, Question, Idle, Committing, Purging, Reserving, GivingBack}
 use Rattle.layer.specs.World.{World, blank}
 
 -- the record at an id
 abbrev pub at : List Arena → ℕ → Arena
 at l i = get_or l i blank
-
-abbrev pub is_at : Found → Bool
-is_at (At x) = true
-is_at Nothing = false
-
--- the id that was found
-abbrev pub id_found : Found → ℕ
-id_found (At i) = i
-id_found Nothing = 0
 
 -- ---- ranges
 
@@ -24,14 +15,14 @@ meets S a base bytes = ltb 0 bytes && (ltb base (end_of S a) && ltb a.base (base
 
 -- the range overlaps one of the first k arenas
 unfoldable pub overlaps : ℕ → List Arena → ℕ → ℕ → ℕ → Bool
-overlaps S l k base bytes = is_at (least (λ i. meets S (at l i) base bytes) 0 k)
+overlaps S l k base bytes = is_some (least (λ i. meets S (at l i) base bytes) 0 k)
 
 -- row 6: "range starts at 0, ends past 2^64 − 1 or overlaps an arena". The end is the first address past the range.
 unfoldable pub bad_range : ℕ → List Arena → ℕ → ℕ → ℕ → Bool
 bad_range S l k base bytes = eqb base 0 || (leb (2 ^ 64) (base + bytes) || overlaps S l k base bytes)
 
 -- the arena that an address lies in
-unfoldable pub find_arena : ℕ → List Arena → ℕ → ℕ → Found
+unfoldable pub find_arena : ℕ → List Arena → ℕ → ℕ → Option ℕ
 find_arena S l k address = least (λ i. is_inside S (at l i) address) 0 k
 
 -- ---- row 1

@@ -1,5 +1,6 @@
 // The types of the layer's calls: what a call carries, what it answers, and the state that goes in and
 // comes out. Its rules are the definitions in specs/. The code stands in the crates above.
+// Records and stamps are two lent slices beside the state, as document 01 and the C side have them, so no struct joins them.
 #![tactic(auto)]
 
 // S, the bytes of a chunk in the product: 32 MiB. The definitions are of any S.
@@ -20,7 +21,7 @@ pub struct Settings {
     pub page: u64,
 }
 
-// Who waits for memory: an explicit reserve, or a claim of n chunks that missed.
+// Who waits for memory: an explicit reserve, or a claim of n chunks that missed. No Option: somebody waits in either case.
 #[derive(Clone, Copy)]
 pub enum Waiting {
     Reserve,
@@ -114,7 +115,7 @@ pub enum Kind {
     ForNone,
 }
 
-// What a call answers.
+// What a call answers: document 01's named answers. A refusal is one of eight, and leaves a state as the others do, so it is no Err.
 #[derive(Clone, Copy)]
 pub enum Answer {
     Refused(refusals::Refusal),
@@ -141,17 +142,11 @@ pub struct Reply {
     pub state: State,
 }
 
-// What a join of two tables answers: why it is turned down, or by how much the ids of the second's arenas rise.
-#[derive(Clone, Copy)]
-pub enum JoinAnswer {
-    NotJoined(refusals::Refusal),
-    Joined(usize),
-}
-
-// Its answer with the two states that it leaves.
+// What a join of two tables answers: by how much the ids of the second's arenas rise, or why it is turned down;
+// with the two states that it leaves.
 #[derive(Clone, Copy)]
 pub struct JoinReply {
-    pub answer: JoinAnswer,
+    pub answer: Result<usize, refusals::Refusal>,
     pub first: State,
     pub second: State,
 }

@@ -1,5 +1,5 @@
 -- What a replay keeps between two lines, and what a line makes of it. Assumes nothing.
-use Rattle.std.specs.Prelude.{Bool, false, cond, ◌&&◌, ℕ, ◌*◌, ◌/◌, ◌%◌, ◌^◌, eqb, leb, ℤ, pos}
+use Rattle.std.specs.Prelude.{Bool, false, cond, ◌&&◌, ℕ, ◌*◌, ◌/◌, ◌%◌, ◌^◌, eqb, leb, ℤ, pos, Option, Some, None}
 use Rattle.std.specs.Int.Bits.{bit_or}
 use Rattle.bitmap.specs.Bits.{bit}
 use Rattle.layer.specs.declared.Question.TheVariants.{Idle}
@@ -10,8 +10,6 @@ use Rattle.surface.specs.declared.reply.ReplyNumbers.{ReplyNumbers}
 use Rattle.arena.specs.Flags.{as_flag}
 use Rattle.surface.specs.Replies.{reply_of}
 use Rattle.samples.specs.declared.lines.Line.{Line}
-use Rattle.samples.specs.declared.lines.Parsed.{Parsed}
-use Rattle.samples.specs.declared.lines.Parsed.TheVariants.{Whole, Malformed}
 use Rattle.samples.specs.Counting.{after_answer, after_malformed}
 use Rattle.samples.specs.Counting as C
 use Rattle.samples.specs.Signed.{signed_of}
@@ -23,9 +21,9 @@ use Rattle.layer_samples.specs.declared.Session.{Session}
 abbrev pub no_line : ℕ → Line
 no_line kind = record { kind = kind; a = 0; b = 0; r = 0 }
 
-abbrev pub line_of : Parsed → Line
-line_of (Whole l) = l
-line_of Malformed = no_line 16
+abbrev pub line_of : Option Line → Line
+line_of (Some l) = l
+line_of None = no_line 16
 
 abbrev pub is_call : Line → Bool
 is_call l = leb 4 l.kind && leb l.kind 13

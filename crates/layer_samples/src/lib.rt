@@ -4,15 +4,15 @@
 pub mod recorded;
 pub mod state_hash;
 
-ghost use Rattle.std.specs.Prelude.{◌≡◌, ◌<◌};
+ghost use Rattle.std.specs.Prelude.{◌≡◌};
 ghost use Rattle.layer.specs.World.{reply_in, Leaves};
 ghost use Rattle.layer_samples.specs.StateHash.{hash_of};
-ghost use Rattle.layer_samples.specs.Replaying.{made_of, stepped_of, replayed_of};
+ghost use Rattle.layer_samples.specs.Replaying.{stepped_of, replayed_of};
 ghost use Rattle.layer_samples.specs.Session.{no_line, line_of, is_call, is_hash, none, counted, skipped, word_of, said_of, called_of, hashed_of, with_clock, with_settings, with_more, carried_of, state_after, carrying, says_so, noted_of};
 
 use arena::Arena;
 use layer::{Question, Reply, Settings, State};
-use samples::lines::{Line, Parsed};
+use samples::lines::Line;
 use samples::tally::Tally;
 use surface::reply::ReplyNumbers;
 
@@ -43,7 +43,7 @@ pub struct Session {
 
 // ---- lines
 
-// The kinds of what is no line: a malformed one, and the end of the input.
+// The kinds of what is no line: a malformed one, and the end of the input. Numbers, since `noted` says what a line of either does.
 const BAD: u64 = 16;
 
 const END: u64 = 17;
@@ -65,42 +65,22 @@ pub fn bad() -> Line
     no_line(BAD)
 }
 
-pub fn end() -> Line
-    ensures { result ≡ no_line 17 }
-{
-    no_line(END)
-}
-
-pub fn line_of(p: Parsed) -> Line
+pub fn line_of(p: Option<Line>) -> Line
     ensures { result ≡ line_of p }
 {
-    match p {
-        Parsed::Whole(l) => l,
-        Parsed::Malformed => bad(),
-    }
+    p.unwrap_or(bad())
 }
 
 pub fn is_call(l: Line) -> bool
     ensures { result ≡ is_call l }
 {
-    (4 <= l.kind) & (l.kind <= 13)
+    4 <= l.kind && l.kind <= 13
 }
 
 pub fn is_hash(l: Line) -> bool
     ensures { result ≡ is_hash l }
 {
     l.kind == 15
-}
-
-// The lines that may still come.
-pub fn fewer(left: u64, l: Line) -> u64
-    requires { 0 < left }
-    ensures { result < left }
-{
-    if l.kind == END {
-        return 0;
-    }
-    left - 1
 }
 
 // ---- a session
@@ -116,86 +96,31 @@ fn empty() -> State
     }
 }
 
-fn nothing_carried() -> Carried
-    ensures { result ≡ none.carried }
-{
-    let settings = Settings {
-        delay: 0,
-        decommits: false,
-        off: false,
-        reserve: 0,
-        page: 0,
-    };
-    Carried {
-        ns: 0,
-        settings,
-        x: 0,
-        y: 0,
-    }
-}
-
-fn nothing_said() -> Said
-    ensures { result ≡ none.said }
-{
-    Said {
-        address: 0,
-        bytes: 0,
-        word: 0,
-    }
-}
-
+// Nothing is carried, said or counted yet.
 pub fn start() -> Session
     ensures { result ≡ none }
 {
-    let state = empty();
-    let carried = nothing_carried();
-    let said = nothing_said();
-    let t = samples::tally::none_yet();
     Session {
-        state,
-        carried,
-        said,
-        tally: t,
+        state: empty(),
+        carried: Carried {
+            ns: 0,
+            settings: Settings {
+                delay: 0,
+                decommits: false,
+                off: false,
+                reserve: 0,
+                page: 0,
+            },
+            x: 0,
+            y: 0,
+        },
+        said: Said {
+            address: 0,
+            bytes: 0,
+            word: 0,
+        },
+        tally: Tally::none_yet(),
     }
-}
-
-pub fn state_of(s: Session) -> State
-    ensures { result ≡ s.state }
-{
-    s.state
-}
-
-pub fn tally_of(s: Session) -> Tally
-    ensures { result ≡ s.tally }
-{
-    s.tally
-}
-
-// ---- a call, from its line and what is carried
-
-pub fn ns_of(s: Session) -> u64
-    ensures { result ≡ s.carried.ns }
-{
-    s.carried.ns
-}
-
-pub fn settings_of(s: Session) -> Settings
-    ensures { result ≡ s.carried.settings }
-{
-    s.carried.settings
-}
-
-// The two more numbers.
-fn first_more(s: Session) -> u64
-    ensures { result ≡ s.carried.x }
-{
-    s.carried.x
-}
-
-fn second_more(s: Session) -> u64
-    ensures { result ≡ s.carried.y }
-{
-    s.carried.y
 }
 
 // ---- what is counted
@@ -204,20 +129,20 @@ fn second_more(s: Session) -> u64
 fn counted(s: Session, same: bool) -> Session
     ensures { result ≡ counted s same }
 {
-    let mut t = s;
-    let u = samples::tally::answered(s.tally, same);
-    t.tally = u;
-    t
+    Session {
+        tally: s.tally.answered(same),
+        ..s
+    }
 }
 
 // The session with one line more that was not.
 fn skipped(s: Session) -> Session
     ensures { result ≡ skipped s }
 {
-    let mut t = s;
-    let u = samples::tally::malformed(s.tally);
-    t.tally = u;
-    t
+    Session {
+        tally: s.tally.malformed(),
+        ..s
+    }
 }
 
 // ---- what a call said
@@ -269,16 +194,12 @@ fn said_of(x: ReplyNumbers) -> Said
 pub fn called(s: Session, l: Line, r: Reply) -> Session
     ensures { result ≡ called_of s l r }
 {
-    let x = surface::reply::reply_of(r);
-    let said = said_of(x);
-    let state = r.state;
-    let carried = s.carried;
-    let t = samples::tally::answered(s.tally, x.number as u64 == l.r);
+    let x = ReplyNumbers::from(r);
     Session {
-        state,
-        carried,
-        said,
-        tally: t,
+        state: r.state,
+        said: said_of(x),
+        tally: s.tally.answered(x.number as u64 == l.r),
+        ..s
     }
 }
 
@@ -287,7 +208,7 @@ pub fn called(s: Session, l: Line, r: Reply) -> Session
 pub fn hashed(s: Session, l: Line, h: u32) -> Session
     ensures { result ≡ hashed_of s l h }
 {
-    counted(s, (h as u64 == l.a) & (l.r == 1))
+    counted(s, h as u64 == l.a && l.r == 1)
 }
 
 // ---- other lines
@@ -295,67 +216,42 @@ pub fn hashed(s: Session, l: Line, h: u32) -> Session
 fn with_clock(c: Carried, ns: u64, delay: i64) -> Carried
     ensures { result ≡ with_clock c ns delay }
 {
-    let e = c.settings;
     let settings = Settings {
         delay,
-        decommits: e.decommits,
-        off: e.off,
-        reserve: e.reserve,
-        page: e.page,
+        ..c.settings
     };
-    Carried {
-        ns,
-        settings,
-        x: c.x,
-        y: c.y,
-    }
+    Carried { ns, settings, ..c }
 }
 
 fn with_settings(c: Carried, a: u64, reserve: u64) -> Carried
     ensures { result ≡ with_settings c a reserve }
 {
-    let e = c.settings;
-    let decommits = crate::recorded::bit(a, 0);
-    let off = crate::recorded::bit(a, 1);
     let settings = Settings {
-        delay: e.delay,
-        decommits,
-        off,
+        decommits: crate::recorded::bit(a, 0),
+        off: crate::recorded::bit(a, 1),
         reserve,
         page: a / 256,
+        ..c.settings
     };
-    Carried {
-        ns: c.ns,
-        settings,
-        x: c.x,
-        y: c.y,
-    }
+    Carried { settings, ..c }
 }
 
 fn with_more(c: Carried, x: u64, y: u64) -> Carried
     ensures { result ≡ with_more c x y }
 {
-    let mut d = c;
-    d.x = x;
-    d.y = y;
-    d
+    Carried { x, y, ..c }
 }
 
 #[tactic(auto, unfolding(crate::specs::Session::carried_of))]
 fn carried_after(c: Carried, l: Line) -> Carried
     ensures { result ≡ carried_of c l }
 {
-    let kind = l.kind;
-    if kind == 1 {
-        return with_clock(c, l.a, samples::signed::wide(l.b));
+    match l.kind {
+        1 => with_clock(c, l.a, samples::signed::wide(l.b)),
+        2 => with_settings(c, l.a, l.b),
+        3 => with_more(c, l.a, l.b),
+        _ => c,
     }
-    if kind == 2 {
-        return with_settings(c, l.a, l.b);
-    }
-    if kind == 3 {
-        return with_more(c, l.a, l.b);
-    }
-    c
 }
 
 #[tactic(auto, unfolding(crate::specs::Session::state_after))]
@@ -372,15 +268,11 @@ fn state_after(z: State, l: Line) -> State
 fn carrying(s: Session, l: Line) -> Session
     ensures { result ≡ carrying s l }
 {
-    let state = state_after(s.state, l);
-    let carried = carried_after(s.carried, l);
-    let said = s.said;
-    let t = samples::tally::answered(s.tally, l.r == 1);
     Session {
-        state,
-        carried,
-        said,
-        tally: t,
+        state: state_after(s.state, l),
+        carried: carried_after(s.carried, l),
+        tally: s.tally.answered(l.r == 1),
+        ..s
     }
 }
 
@@ -388,7 +280,7 @@ fn carrying(s: Session, l: Line) -> Session
 fn says_so(said: Said, l: Line) -> bool
     ensures { result ≡ says_so said l }
 {
-    (said.address == l.a) & (said.bytes == l.b) & (said.word == l.r)
+    said.address == l.a && said.bytes == l.b && said.word == l.r
 }
 
 // After a line that is no call and no hash.
@@ -396,48 +288,23 @@ fn says_so(said: Said, l: Line) -> bool
 pub fn noted(s: Session, l: Line) -> Session
     ensures { result ≡ noted_of s l }
 {
-    let kind = l.kind;
-    if kind == 14 {
-        return counted(s, says_so(s.said, l));
+    match l.kind {
+        14 => counted(s, says_so(s.said, l)),
+        BAD => skipped(s),
+        END => s,
+        _ => carrying(s, l),
     }
-    if kind == BAD {
-        return skipped(s);
-    }
-    if kind == END {
-        return s;
-    }
-    carrying(s, l)
 }
 
 // ---- a line replayed on the table that its session is of
 
-// The call of a line is made.
-fn make(
-    records: &mut [Arena],
-    stamps: &mut [u32],
-    state: State,
-    ns: u64,
-    settings: Settings,
-    l: Line,
-    x: u64,
-    y: u64,
-) -> Reply
-    ensures { Leaves (made_of records.old stamps.old state ns settings l x y) result records.new stamps.new }
-{
-    let c = crate::recorded::recorded(l, x, y);
-    calls::call(records, stamps, state, ns, settings, c)
-}
-
-// The same, with what the session carries.
+// The call of a line is made, with what the session carries.
 fn reply_line(records: &mut [Arena], stamps: &mut [u32], s: Session, l: Line) -> Reply
     ensures { Leaves (stepped_of records.old stamps.old s l) result records.new stamps.new }
 {
-    let state = state_of(s);
-    let ns = ns_of(s);
-    let settings = settings_of(s);
-    let x = first_more(s);
-    let y = second_more(s);
-    make(records, stamps, state, ns, settings, l, x, y)
+    let Carried { ns, settings, x, y } = s.carried;
+    let call = crate::recorded::recorded(l, x, y);
+    calls::call(records, stamps, s.state, ns, settings, call)
 }
 
 fn call_line(records: &mut [Arena], stamps: &mut [u32], s: Session, l: Line) -> Session
@@ -450,9 +317,7 @@ fn call_line(records: &mut [Arena], stamps: &mut [u32], s: Session, l: Line) -> 
 fn hash_line(records: &[Arena], stamps: &[u32], s: Session, l: Line) -> Session
     ensures { result ≡ hashed_of s l (hash_of records.now stamps.now s.state) }
 {
-    let state = state_of(s);
-    let h = crate::state_hash::hash(records, stamps, state);
-    hashed(s, l, h)
+    hashed(s, l, crate::state_hash::hash(records, stamps, s.state))
 }
 
 #[tactic(auto, unfolding(crate::specs::Replaying::replayed_of))]

@@ -19,52 +19,40 @@ pub fn bit(x: u64, i: u32) -> bool
 fn reserve_of(l: Line) -> MemoryCall
     ensures { result ≡ reserve_of l }
 {
-    let commit = bit(l.b, 0);
-    let allow_large = bit(l.b, 1);
-    let exclusive = bit(l.b, 2);
     MemoryCall::Reserve {
         size: l.a,
-        commit,
-        allow_large,
-        exclusive,
+        commit: bit(l.b, 0),
+        allow_large: bit(l.b, 1),
+        exclusive: bit(l.b, 2),
     }
 }
 
 fn manage_of(l: Line, x: u64, y: u64) -> MemoryCall
     ensures { result ≡ manage_of l x y }
 {
-    let is_committed = bit(y, 0);
-    let is_large = bit(y, 1);
-    let is_zero = bit(y, 2);
-    let exclusive = bit(y, 3);
-    let mapped = bit(y, 4);
-    let reserved = bit(y, 5);
-    let node = samples::signed::narrow(x);
     MemoryCall::Manage {
         start: l.a,
         size: l.b,
-        is_committed,
-        is_large,
-        is_zero,
-        node,
-        exclusive,
-        mapped,
-        reserved,
+        is_committed: bit(y, 0),
+        is_large: bit(y, 1),
+        is_zero: bit(y, 2),
+        node: samples::signed::narrow(x),
+        exclusive: bit(y, 3),
+        mapped: bit(y, 4),
+        reserved: bit(y, 5),
     }
 }
 
 fn memory_of(l: Line, x: u64, y: u64) -> MemoryCall
     ensures { result ≡ memory_of l x y }
 {
-    if l.kind == 4 {
-        return reserve_of(l);
-    }
-    if l.kind == 5 {
-        return manage_of(l, x, y);
-    }
-    MemoryCall::Adopt {
-        address: l.a,
-        size: l.b,
+    match l.kind {
+        4 => reserve_of(l),
+        5 => manage_of(l, x, y),
+        _ => MemoryCall::Adopt {
+            address: l.a,
+            size: l.b,
+        },
     }
 }
 
@@ -72,28 +60,24 @@ fn claim_of(l: Line) -> ClaimCall
     ensures { result ≡ claim_of l }
 {
     let id = samples::signed::narrow(l.a);
-    if l.kind == 7 {
-        return ClaimCall::ChunkAlloc { id };
-    }
-    if l.kind == 8 {
-        return ClaimCall::ChunkClaim { id };
-    }
-    ClaimCall::ChunkAllocN {
-        id,
-        n: l.b as usize,
+    match l.kind {
+        7 => ClaimCall::ChunkAlloc { id },
+        8 => ClaimCall::ChunkClaim { id },
+        _ => ClaimCall::ChunkAllocN {
+            id,
+            n: l.b as usize,
+        },
     }
 }
 
 fn release_of(l: Line, x: u64, y: u64) -> FreeCall
     ensures { result ≡ release_of l x y }
 {
-    let told = surface::told::told_of(samples::signed::narrow(x));
-    let pending = bit(y, 0);
     FreeCall::ChunkRelease {
         address: l.a,
         n: l.b as usize,
-        told,
-        pending,
+        told: surface::told::told_of(samples::signed::narrow(x)),
+        pending: bit(y, 0),
     }
 }
 
@@ -103,18 +87,15 @@ fn free_of(l: Line, x: u64, y: u64) -> FreeCall
     if l.kind == 10 {
         return release_of(l, x, y);
     }
-    let force = bit(l.a, 0);
-    FreeCall::PurgeDue { force }
+    FreeCall::PurgeDue { force: bit(l.a, 0) }
 }
 
 fn answer_of(l: Line) -> Call
     ensures { result ≡ answer_of l }
 {
-    let kind = surface::told::kind_of((l.a % 256) as u32);
-    let yes = bit(l.a / 256, 0);
     Call::Answer {
-        kind,
-        yes,
+        kind: surface::told::kind_of((l.a % 256) as u32),
+        yes: bit(l.a / 256, 0),
         base: l.b,
     }
 }
@@ -125,29 +106,20 @@ fn query_of(l: Line) -> QueryCall
     if l.a == 0 {
         return QueryCall::Owns { address: l.b };
     }
-    let id = samples::signed::narrow(l.b);
-    QueryCall::ArenaArea { id }
+    QueryCall::ArenaArea {
+        id: samples::signed::narrow(l.b),
+    }
 }
 
 #[tactic(auto, unfolding(crate::specs::Recorded::recorded_of))]
 pub fn recorded(l: Line, x: u64, y: u64) -> Call
     ensures { result ≡ recorded_of l x y }
 {
-    if l.kind < 7 {
-        let m = memory_of(l, x, y);
-        return Call::Act(ActCall::Memory(m));
+    match l.kind {
+        0..=6 => Call::Act(ActCall::Memory(memory_of(l, x, y))),
+        7..=9 => Call::Act(ActCall::Claim(claim_of(l))),
+        10..=11 => Call::Act(ActCall::Free(free_of(l, x, y))),
+        12 => answer_of(l),
+        _ => Call::Query(query_of(l)),
     }
-    if l.kind < 10 {
-        let c = claim_of(l);
-        return Call::Act(ActCall::Claim(c));
-    }
-    if l.kind < 12 {
-        let f = free_of(l, x, y);
-        return Call::Act(ActCall::Free(f));
-    }
-    if l.kind == 12 {
-        return answer_of(l);
-    }
-    let q = query_of(l);
-    Call::Query(q)
 }

@@ -5,6 +5,7 @@ ghost use Rattle.layer_samples.specs.StateHash.{owner, node_word, with_numbers, 
 
 use arena::Arena;
 use layer::State;
+use surface::StateNumbers;
 
 // The low and the high half.
 fn low(x: u64) -> u32
@@ -52,11 +53,15 @@ fn with_numbers(h: u32, base: u64, chunks: u64, own: u32, node: u32, deadline: u
 fn with_head(h: u32, a: Arena) -> u32
     ensures { result ≡ with_head h a }
 {
-    let exclusive = arena::is_on(a.exclusive);
-    let owned = arena::is_on(a.owned);
-    let own = owner(exclusive, owned);
-    let node = node_word(a.node);
-    with_numbers(h, a.base, a.chunks as u64, own, node, a.deadline)
+    let own = owner(arena::is_on(a.exclusive), arena::is_on(a.owned));
+    with_numbers(
+        h,
+        a.base,
+        a.chunks as u64,
+        own,
+        node_word(a.node),
+        a.deadline,
+    )
 }
 
 #[tactic(auto, unfolding(crate::specs::StateHash::with_maps))]
@@ -91,29 +96,19 @@ fn with_stamps(stamps: &[u32], h: u32, id: usize) -> u32
 fn of_state(s: State) -> u32
     ensures { result ≡ of_state s }
 {
-    let n = surface::numbers_of(s);
+    let n = StateNumbers::from(s);
     let count = samples::hash::with_word(samples::hash::START, low(n.count as u64));
     samples::hash::with_word(samples::hash::with_word(count, n.mark), n.question)
-}
-
-fn count_of(s: State) -> usize
-    ensures { result ≡ s.count }
-{
-    s.count
 }
 
 #[tactic(auto, unfolding(crate::specs::StateHash::with_arenas))]
 pub fn hash(records: &[Arena], stamps: &[u32], s: State) -> u32
     ensures { result ≡ hash_of records.now stamps.now s }
 {
-    let k = count_of(s);
     let mut h = of_state(s);
-    let mut i: usize = 0;
-    while i < k {
+    for i in 0..s.count {
         let a = table::records::load_or(records, i);
-        let g = with_arena(h, a);
-        h = with_stamps(stamps, g, i);
-        i += 1;
+        h = with_stamps(stamps, with_arena(h, a), i);
     }
     h
 }

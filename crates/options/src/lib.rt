@@ -15,8 +15,5 @@ pub fn arena_allowed(arenas_off: bool, id: i32) -> bool
 pub fn page_size_sound(page: u64) -> bool
     ensures { result ≡ page_size_sound page }
 {
-    match page {
-        4096 | 8192 | 16384 | 32768 | 65536 => true,
-        _ => false,
-    }
+    matches!(page, 4096 | 8192 | 16384 | 32768 | 65536)
 }

@@ -1,35 +1,48 @@
 -- The queries: behind row 1 the cores' answers are the layer's. Assumes nothing.
-use Rattle.std.specs.Prelude.{◌≡◌, ◌*◌, ◌<◌, ◌≤◌}
-use Rattle.state.proofs.Prelude.{refl, sym, ap, true, false, true≢false, List, ℕ, arith, ltb-true, ℤ, pos, negsuc, nat_abs, length, when, unless, Arena, bytes_of, Area, Settings, State, size_of, world_of, reply_in, reply, at, Query, query, query_on, step}
+use Rattle.std.specs.Prelude.{◌≡◌, ◌*◌, ◌<◌, ◌^◌, Some, None, get_or}
+use Rattle.state.proofs.Prelude.{refl, sym, ap, ◌∙◌, subst, Bool, true, false, cond, List, ℕ, arith, ltb, ltb-true, lt-ltb, ℤ, pos, negsuc, length, when, Broken, Arena, bytes_of, Area, Settings, State, size_of, world_of, reply_in, reply, turn_down, blank, at, sound_lent, Query, query, query_on, step}
+use Rattle.std.proofs.lemmas.List.{get_or_default}
 use Rattle.layer.specs.Step.{area_of}
 use Rattle.state.specs.Ready.{Standing}
-use Rattle.state.proofs.Entry.{Passes, goes, stands}
-use Rattle.queries.specs.Registered.{is_registered}
+use Rattle.state.proofs.Entry.{goes, stands, standing, broken-row}
+use Rattle.queries.specs.Registered.{registered}
 
--- past row 1
-pub answered-row : (l : List Arena) (stamps : List ℕ) (state : State) (ns : ℕ) (settings : Settings) (c : Query) → Passes l stamps state ns settings
-    → reply (query_on (size_of state) l stamps state.count state.mark state.question ns settings c) state ≡ reply_in (step (world_of l stamps state) ns settings (query c))
-answered-row l stamps state ns settings c e = sym (ap reply_in (goes l stamps state ns settings e (query c)))
+-- row 1, as both queries test it
+module _ (l : List Arena) (stamps : List ℕ) (state : State) (ns : ℕ) (settings : Settings) (S : ℕ) (passes : Bool) (size : S ≡ size_of state)
+    (row : passes ≡ sound_lent S l (length stamps) state settings.page) where
+  tested : sound_lent (size_of state) l (length stamps) state settings.page ≡ passes
+  tested = sym (rw size at row)
+
+  pub turned-down : passes ≡ false → (c : Query) → turn_down Broken state ≡ reply_in (step (world_of l stamps state) ns settings (query c))
+  turned-down e c = (broken-row l stamps state ns settings (tested ∙ e) (query c)).0
+
+  pub handed : passes ≡ true → Standing l state
+  handed e = standing l stamps state ns settings (tested ∙ e)
+
+  pub answered : passes ≡ true → (c : Query)
+      → reply (query_on (size_of state) l stamps state.count state.mark state.question ns settings c) state ≡ reply_in (step (world_of l stamps state) ns settings (query c))
+  answered e c = sym (ap reply_in (goes l stamps state ns settings (tested ∙ e) (query c)))
 
 -- areas
-module _ (l : List Arena) (state : State) (standing : Standing l state) where
-  below : (id : ℤ) → is_registered state.count id ≡ true → nat_abs id < state.count
-  below (pos i) e = ltb-true i state.count e
-  below (negsuc i) e = absurd (true≢false (sym e))
+registered-is : (k : ℕ) (id : ℤ) (i : ℕ) → registered k id ≡ Some i → (id ≡ pos i) × (i < k)
+registered-is k (pos x) i e = go (ltb x k) refl e
+  where
+    go : (b : Bool) → ltb x k ≡ b → cond b (Some x) None ≡ Some i → (pos x ≡ pos i) × (i < k)
+    go true t f = let same : x ≡ i = cc in (ap pos same, subst (λ (y : ℕ). y < k) same (ltb-true x k t))
+    go false t f = cc
+registered-is k (negsuc x) i e = cc
 
-  pub placed : (id : ℤ) → is_registered state.count id ≡ true → nat_abs id < length l
-  placed id e =
-      let h : nat_abs id < state.count = below id e in let m : length l ≡ 32 = standing.lent in let k : state.count ≤ 32 = standing.few in omega (arith, h, m, k)
+module _ (l : List Arena) (state : State) (ready : Standing l state) (id : ℤ) (i : ℕ) (is : registered state.count id ≡ Some i) (S : ℕ) (size : S ≡ size_of state)
+    (d : Arena) where
+  below : (id ≡ pos i) × (i < state.count)
+  below = registered-is state.count id i is
 
-  pub few-chunks : (id : ℤ) → is_registered state.count id ≡ true → (at l (nat_abs id)).chunks ≤ 1024
-  few-chunks id e = (stands l state standing (nat_abs id) (below id e)).range.few
+  there : get_or l i d ≡ at l i
+  there = get_or_default l i d blank (omega (arith, below.1, ready.lent, ready.few))
 
-  pub none-registered : (id : ℤ) → is_registered state.count id ≡ false → Area 0 0 ≡ area_of (size_of state) l state.count id
-  none-registered (pos i) e = sym (unless _ _ _ e)
-  none-registered (negsuc i) e = refl
+  pub bytes-fit : (get_or l i d).chunks * S < 2 ^ 64
+  bytes-fit = rw (there, size) (omega (arith, (stands l state ready i below.1).range.ends))
 
-  pub area-is : (id : ℤ) → is_registered state.count id ≡ true
-      → Area (at l (nat_abs id)).base ((at l (nat_abs id)).chunks * size_of state) ≡ area_of (size_of state) l state.count id
+  pub area-is : Area (get_or l i d).base ((get_or l i d).chunks * S) ≡ area_of (size_of state) l state.count id
   unfolding bytes_of
-  area-is (pos i) e = sym (when _ _ _ e)
-  area-is (negsuc i) e = absurd (true≢false (sym e))
+  area-is = rw (there, size, below.0) (sym (when _ _ _ (lt-ltb i state.count below.1)))

@@ -1,6 +1,6 @@
 -- The ids that the table has an arena of. Assumes nothing.
-use Rattle.std.specs.Prelude.{Bool, false, ℕ, ltb, ℤ, pos, negsuc}
+use Rattle.std.specs.Prelude.{cond, ℕ, ltb, ℤ, pos, negsuc, Option, Some, None}
 
-abbrev pub is_registered : ℕ → ℤ → Bool
-is_registered k (pos i) = ltb i k
-is_registered k (negsuc i) = false
+abbrev pub registered : ℕ → ℤ → Option ℕ
+registered k (pos i) = cond (ltb i k) (Some i) None
+registered k (negsuc i) = None

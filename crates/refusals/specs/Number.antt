@@ -1,5 +1,5 @@
 -- The number of each refusal: the column "No." of document 01's table "Turned down", and those of document 02. The one place that says it.
-use Rattle.std.specs.Prelude.{ℕ}
+use Rattle.std.specs.Prelude.{ℕ, Result, Ok, Err}
 use Rattle.refusals.specs.declared.Refusal.{Refusal}
 use Rattle.refusals.specs.declared.Refusal.TheVariants.{Broken, QuestionOpen, NoSuchQuestion, Zero, ArenasOff, Range, NotWhole, NotInside, PastEnd, NoRun, CommitRefused, ChunkCount, TableFull, MemoryRefused, NoWholeChunk, HostRefused, TablesOverlap, TooManyArenas, ListLength}
 
@@ -25,3 +25,8 @@ number TablesOverlap = 17
 number TooManyArenas = 18
 -- "19 when the three lengths differ or pass 32,768"
 number ListLength = 19
+
+-- the number that an answer hands out: that of the refusal, and 0 for a grant
+abbrev pub number_in : {T : Type 0} → Result T Refusal → ℕ
+number_in (Ok x) = 0
+number_in (Err why) = number why

@@ -3,7 +3,7 @@
 #![tactic(auto)]
 
 ghost use Rattle.std.specs.Prelude.{◌≡◌};
-ghost use Rattle.refusals.specs.Number.{number};
+ghost use Rattle.refusals.specs.Number.{number, number_in};
 
 #[derive(Clone, Copy)]
 pub enum Refusal {
@@ -48,28 +48,40 @@ pub enum Refusal {
 }
 
 // The number by which the papers and the C side name a refusal.
-pub fn refusal_number(r: Refusal) -> u32
-    ensures { result ≡ number r }
+impl From<Refusal> for u32 {
+    ghost from_gives = { λ why n. n ≡ number why };
+
+    fn from(why: Refusal) -> u32 {
+        match why {
+            Refusal::Broken => 1,
+            Refusal::QuestionOpen => 2,
+            Refusal::NoSuchQuestion => 3,
+            Refusal::Zero => 4,
+            Refusal::ArenasOff => 5,
+            Refusal::Range => 6,
+            Refusal::NotWhole => 7,
+            Refusal::NotInside => 8,
+            Refusal::PastEnd => 9,
+            Refusal::NoRun => 10,
+            Refusal::CommitRefused => 11,
+            Refusal::ChunkCount => 12,
+            Refusal::TableFull => 13,
+            Refusal::MemoryRefused => 14,
+            Refusal::NoWholeChunk => 15,
+            Refusal::HostRefused => 16,
+            Refusal::TablesOverlap => 17,
+            Refusal::TooManyArenas => 18,
+            Refusal::ListLength => 19,
+        }
+    }
+}
+
+// The number that an answer hands out: that of the refusal, and 0 for a grant.
+pub fn number_in<T: Drop>(answer: Result<T, Refusal>) -> u32
+    ensures { result ≡ number_in answer }
 {
-    match r {
-        Refusal::Broken => 1,
-        Refusal::QuestionOpen => 2,
-        Refusal::NoSuchQuestion => 3,
-        Refusal::Zero => 4,
-        Refusal::ArenasOff => 5,
-        Refusal::Range => 6,
-        Refusal::NotWhole => 7,
-        Refusal::NotInside => 8,
-        Refusal::PastEnd => 9,
-        Refusal::NoRun => 10,
-        Refusal::CommitRefused => 11,
-        Refusal::ChunkCount => 12,
-        Refusal::TableFull => 13,
-        Refusal::MemoryRefused => 14,
-        Refusal::NoWholeChunk => 15,
-        Refusal::HostRefused => 16,
-        Refusal::TablesOverlap => 17,
-        Refusal::TooManyArenas => 18,
-        Refusal::ListLength => 19,
+    match answer {
+        Ok(_) => 0,
+        Err(why) => u32::from(why),
     }
 }

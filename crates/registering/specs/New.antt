@@ -1,11 +1,8 @@
--- A new arena, where all rows but 12 and 13 let it pass. Assumes nothing.
-use Rattle.std.specs.Prelude.{Bool, List, [], ◌∷◌, ℕ, leb}
+-- The chunks of a new arena beside k that stand, where rows 12 and 13 let them pass. Assumes nothing.
+use Rattle.std.specs.Prelude.{cond, ℕ, leb, Result, Ok, Err}
+use Rattle.refusals.specs.declared.Refusal.{Refusal}
 use Rattle.refusals.specs.declared.Refusal.TheVariants.{ChunkCount, TableFull}
-use Rattle.arena.specs.declared.Arena.{Arena}
-use Rattle.layer.specs.World.{Outcome, world_of, calm, refuse, first_of}
-use Rattle.layer.specs.Registering.{bad_count, registered}
+use Rattle.layer.specs.Registering.{bad_count}
 
-unfoldable pub register_new : List Arena → List ℕ → ℕ → Bool → ℕ → Arena → Outcome
-register_new l stamps k mark chunks a =
-    let w = world_of l stamps (calm k mark) in
-    first_of (refuse w ChunkCount (bad_count chunks) ∷ refuse w TableFull (leb 32 k) ∷ []) (registered l stamps k mark a)
+abbrev pub new_chunks : ℕ → ℕ → Result ℕ Refusal
+new_chunks k chunks = cond (bad_count chunks) (Err ChunkCount) (cond (leb 32 k) (Err TableFull) (Ok chunks))

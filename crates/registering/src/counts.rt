@@ -1,48 +1,51 @@
-// Bytes in whole chunks, and how many chunks and arenas there may be, by value.
-ghost use Rattle.std.specs.Prelude.{◌≡◌, ◌/◌, leb};
-ghost use Rattle.arena.specs.ChunkSize.{ChunkSize};
+// Bytes in whole chunks, and how many chunks and arenas there may be.
+ghost use Rattle.std.specs.Prelude.{◌≡◌, leb};
 ghost use Rattle.layer.specs.Registering.{chunks_for, bad_count};
+ghost use Rattle.registering.specs.New.{new_chunks};
+
+use arena::MOST_CHUNKS;
+use arena::chunk_size::ChunkSize;
+use refusals::Refusal;
+
+// The most arenas that a table has.
+const MOST_ARENAS: usize = 32;
 
 // So many bytes in whole chunks, rounded up.
-pub fn chunks_for(size: u64, chunk_size: u64) -> u64
-    requires { ChunkSize chunk_size }
-    ensures { result ≡ chunks_for chunk_size size }
+#[tactic(auto, unfolding(layer::specs::Registering::chunks_for))]
+pub fn chunks_for(size: u64, chunk_size: ChunkSize) -> u64
+    ensures { result ≡ chunks_for chunk_size.bytes size }
 {
-    let whole = size / chunk_size;
-    if size % chunk_size == 0 {
+    let whole = chunk_size.chunks_in(size);
+    if chunk_size.divides(size) {
         return whole;
     }
     whole + 1
 }
 
-// The chunks of so many bytes that are whole chunks.
-pub fn whole_chunks(bytes: u64, chunk_size: u64) -> u64
-    requires { ChunkSize chunk_size }
-    ensures { result ≡ bytes / chunk_size }
-{
-    bytes / chunk_size
-}
-
-// A number of chunks, as a record has it.
-pub fn as_recorded(chunks: u64) -> usize
-    ensures { result ≡ chunks }
-{
-    chunks as usize
-}
-
 // Row 12: "chunks 0 or above 1,024".
+#[tactic(auto, unfolding(layer::specs::Registering::bad_count))]
 pub fn has_bad_count(chunks: u64) -> bool
     ensures { result ≡ bad_count chunks }
 {
-    if chunks == 0 {
-        return true;
-    }
-    1024 < chunks
+    chunks == 0 || (MOST_CHUNKS as u64) < chunks
 }
 
 // Row 13: "32 arenas stand".
 pub fn is_full(k: usize) -> bool
     ensures { result ≡ leb 32 k }
 {
-    32 <= k
+    MOST_ARENAS <= k
+}
+
+// Rows 12 and 13 of a new arena beside k that stand: its chunks, as a record has them.
+pub fn new_chunks(k: usize, chunks: u64) -> Result<usize, Refusal>
+    ensures { result ≡ new_chunks k chunks }
+{
+    if has_bad_count(chunks) {
+        return Err(Refusal::ChunkCount);
+    }
+    if is_full(k) {
+        return Err(Refusal::TableFull);
+    }
+    Ok(chunks as usize)
 }

@@ -14,7 +14,6 @@ ghost use Rattle.layer.specs.Step.{reserve, manage, adopt, step, act};
 
 use arena::Arena;
 use layer::{Reply, Settings, State};
-use refusals::Refusal;
 
 // Memory is asked of the host.
 pub fn reserve_os_memory_ex(
@@ -30,12 +29,8 @@ pub fn reserve_os_memory_ex(
 ) -> Reply
     ensures { Leaves (step (world_of records.old stamps.old state) ns settings (act (reserve size commit allow_large exclusive))) result records.new stamps.new }
 {
-    let chunk_size = state::chunk_size(state);
-    if !table::row_one(records, stamps.len(), state, settings.page, chunk_size) {
-        return state::refuse(Refusal::Broken, state);
-    }
-    if !state::is_idle(state) {
-        return state::refuse(Refusal::QuestionOpen, state);
+    if let Err(why) = table::rows_one_and_two(records, stamps.len(), state, settings.page) {
+        return state::refuse(why, state);
     }
     crate::reserving::reserve(state, settings, size, commit, allow_large, exclusive)
 }
@@ -60,12 +55,8 @@ pub fn manage_os_memory_ex(
 ) -> Reply
     ensures { Leaves (step (world_of records.old stamps.old state) ns settings (act (manage start size exclusive node mapped reserved))) result records.new stamps.new }
 {
-    let chunk_size = state::chunk_size(state);
-    if !table::row_one(records, stamps.len(), state, settings.page, chunk_size) {
-        return state::refuse(Refusal::Broken, state);
-    }
-    if !state::is_idle(state) {
-        return state::refuse(Refusal::QuestionOpen, state);
+    if let Err(why) = table::rows_one_and_two(records, stamps.len(), state, settings.page) {
+        return state::refuse(why, state);
     }
     crate::managing::manage(
         records, stamps, state, start, size, exclusive, node, mapped, reserved,
@@ -84,12 +75,8 @@ pub fn adopt_os_block(
 ) -> Reply
     ensures { Leaves (step (world_of records.old stamps.old state) ns settings (act (adopt address size))) result records.new stamps.new }
 {
-    let chunk_size = state::chunk_size(state);
-    if !table::row_one(records, stamps.len(), state, settings.page, chunk_size) {
-        return state::refuse(Refusal::Broken, state);
-    }
-    if !state::is_idle(state) {
-        return state::refuse(Refusal::QuestionOpen, state);
+    if let Err(why) = table::rows_one_and_two(records, stamps.len(), state, settings.page) {
+        return state::refuse(why, state);
     }
     crate::adopting::adopt(records, stamps, state, address, size)
 }

@@ -1,53 +1,54 @@
 // Reserving, by value: the memory question of a reserve, and of the claim that waits for a default reserve.
 ghost use Rattle.std.specs.Prelude.{◌≡◌, false};
-ghost use Rattle.arena.specs.ChunkSize.{ChunkSize};
 ghost use Rattle.layer.specs.declared.Question.TheVariants.{Idle};
 ghost use Rattle.layer.specs.World.{size_of};
 ghost use Rattle.layer.specs.Registering.{chunks_for, too_large, bytes_asked, ask_memory, reserve_reply};
 
 use arena::LAST;
+use arena::chunk_size::ChunkSize;
 use layer::{Answer, Ask, Question, Reply, Settings, State, Waiting};
 use refusals::Refusal;
 
 // Whether the whole chunks, or they and one more, pass the last address.
-pub fn too_large(size: u64, chunk_size: u64) -> bool
-    requires { ChunkSize chunk_size }
-    ensures { result ≡ too_large chunk_size size }
+#[tactic(auto, unfolding(layer::specs::Registering::too_large))]
+pub fn too_large(size: u64, chunk_size: ChunkSize) -> bool
+    ensures { result ≡ too_large chunk_size.bytes size }
 {
-    LAST / chunk_size <= crate::counts::chunks_for(size, chunk_size)
+    chunk_size.chunks_in(LAST) <= crate::counts::chunks_for(size, chunk_size)
 }
 
 // The bytes of the memory question: those of the whole chunks, and a page for none.
-fn bytes_asked(size: u64, chunks: u64, page: u64, chunk_size: u64) -> u64
-    requires { ChunkSize chunk_size × (too_large chunk_size size ≡ false) × (chunks ≡ chunks_for chunk_size size) }
-    ensures { result ≡ bytes_asked chunk_size size page }
+#[tactic(auto, unfolding(layer::specs::Registering::bytes_asked, layer::specs::Registering::too_large))]
+fn bytes_asked(size: u64, chunks: u64, page: u64, chunk_size: ChunkSize) -> u64
+    requires { (too_large chunk_size.bytes size ≡ false) × (chunks ≡ chunks_for chunk_size.bytes size) }
+    ensures { result ≡ bytes_asked chunk_size.bytes size page }
 {
     if size == 0 {
         return page;
     }
-    chunks * chunk_size
+    chunks * chunk_size.bytes
 }
 
 // Memory is asked for, and somebody waits.
+#[tactic(auto, unfolding(layer::specs::Registering::ask_memory))]
 pub fn ask_memory(
-    k: usize,
-    mark: bool,
+    state: State,
     size: u64,
     page: u64,
     commit: bool,
     large: bool,
     exclusive: bool,
     waiting: Waiting,
-    chunk_size: u64,
+    chunk_size: ChunkSize,
 ) -> Reply
-    requires { ChunkSize chunk_size × (too_large chunk_size size ≡ false) }
-    ensures { result ≡ ask_memory chunk_size k mark size page commit large exclusive waiting }
+    requires { too_large chunk_size.bytes size ≡ false }
+    ensures { result ≡ ask_memory chunk_size.bytes state.count state.mark size page commit large exclusive waiting }
 {
     let chunks = crate::counts::chunks_for(size, chunk_size);
     let bytes = bytes_asked(size, chunks, page, chunk_size);
     let ask = Ask::AskMemory {
         bytes,
-        align: chunk_size,
+        align: chunk_size.bytes,
         commit,
         large,
     };
@@ -58,10 +59,11 @@ pub fn ask_memory(
         exclusive,
         waiting,
     };
-    state::asked(Answer::Asks(ask), k, mark, question)
+    state::asked(Answer::Asks(ask), state.count, state.mark, question)
 }
 
 // A reserve, where no question is open. "if that product, or it plus S, passes 2^64 − 1, the answer is 12 unasked".
+#[tactic(auto, unfolding(layer::specs::Registering::reserve_reply))]
 pub fn reserve(
     state: State,
     settings: Settings,
@@ -78,8 +80,7 @@ pub fn reserve(
         return state::refuse(Refusal::ChunkCount, state);
     }
     ask_memory(
-        state.count,
-        state.mark,
+        state,
         size,
         settings.page,
         commit,

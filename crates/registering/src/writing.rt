@@ -1,8 +1,8 @@
 // A new arena: "Registering writes the whole record and its 1,024 stamps".
 ghost use Rattle.std.specs.Prelude.{◌≡◌, suc, ◌<◌, length};
 ghost use Rattle.layer.specs.declared.Answer.TheVariants.{Registered};
-ghost use Rattle.layer.specs.World.{reply, calm};
-ghost use Rattle.layer.specs.Registering.{with_record, with_stamps};
+ghost use Rattle.layer.specs.World.{Leaves, reply, calm};
+ghost use Rattle.layer.specs.Registering.{with_record, with_stamps, registered};
 ghost use Rattle.state.specs.Ready.{Stamped};
 
 use arena::Arena;
@@ -24,4 +24,13 @@ pub fn registered(state: State) -> Reply
 {
     let k = state.count;
     state::settled(Answer::Registered(k), k + 1, state.mark)
+}
+
+// The new arena, for which there is room.
+pub fn register(records: &mut [Arena], stamps: &mut [u32], state: State, a: Arena) -> Reply
+    requires { (length records.old ≡ 32) × (state.count < 32) × Stamped stamps.old }
+    ensures { Leaves (registered records.old stamps.old state.count state.mark a) result records.new stamps.new }
+{
+    write_new(records, stamps, state.count, a);
+    registered(state)
 }

@@ -1,6 +1,6 @@
 -- A list turn by turn, and its rows. Assumes nothing.
-use Rattle.std.specs.Prelude.{◌≡◌, ◌&&◌, ◌∷◌, ◌++◌, ◌+◌, ◌<◌}
-use Rattle.layer.proofs.Prelude.{refl, sym, ap, ap₂, ◌∙◌, subst, Bool, true, false, not, List, [], append_assoc, append-nil, ℕ, suc, arith, eqb-true, eqb, leb, length, get_or, set, take, drop, when, unless, and_both, Broken, QuestionOpen, ListLength, now_ms, delay_ms, Arena, Untold, World, Outcome, world_of, reply, calm, turn_down, sound, release_of, stays_pending, is_idle, ListOutcome, item_number, release_each, release_item, list_fits, release_list}
+use Rattle.std.specs.Prelude.{◌≡◌, ◌&&◌, ◌∷◌, ◌++◌, ◌+◌, ◌<◌, Result, Ok, Err}
+use Rattle.layer.proofs.Prelude.{refl, sym, ap, ap₂, ◌∙◌, subst, Bool, true, false, not, List, [], append_assoc, append-nil, ℕ, suc, arith, eqb-true, eqb, leb, length, get_or, set, take, drop, when, unless, by_cond, and_both, Refusal, Broken, QuestionOpen, ListLength, now_ms, delay_ms, Arena, Untold, World, Outcome, world_of, reply, calm, turn_down, sound, release_of, stays_pending, is_idle, ListOutcome, item_number, release_each, release_item, list_fits, release_list}
 use lib.Seq.{drop-cons, drop-length, take-length, take-suc-set}
 use Rattle.layer.specs.declared.State.{State}
 use Rattle.layer.specs.declared.Settings.{Settings}
@@ -11,6 +11,7 @@ use Rattle.layer.specs.World.{size_of, Leaves}
 use Rattle.layer.specs.Listing.{items, list_outcome, LeavesList}
 use Rattle.layer.proofs.Calls.{idle-is}
 use Rattle.layer.proofs.Lists.{item-is, settled, still-past-two, each-granted, each-state}
+use Rattle.table.specs.FirstRows.{first_rows}
 use Rattle.state.specs.Ready.{Ready, Stamped}
 use Rattle.state.proofs.Entry.{calm-is, ready, stamps-lent}
 use Rattle.release_lists.specs.Passed.{Passed, LeavesItem}
@@ -101,43 +102,60 @@ module _ (records : List Arena) (stamps addresses counts answers : List ℕ) (st
   comes : (o : ListOutcome) (r : Reply) (l : List Arena) (t given : List ℕ) → all ≡ o → LeavesList o r l t given → LeavesList all r l t given
   comes o r l t given e = subst (λ (u : ListOutcome). LeavesList u r l t given) (sym e)
 
-  pub broken-row : sound (size_of state) w settings.page ≡ false → LeavesList all (turn_down Broken state) records stamps answers
+  broken-row : sound (size_of state) w settings.page ≡ false → LeavesList all (turn_down Broken state) records stamps answers
   unfolding release_list
   broken-row e = comes _ _ _ _ _ (when _ _ _ (ap not e)) ((refl, refl, refl), refl)
 
-  pub open_row : sound (size_of state) w settings.page ≡ true → is_idle state.question ≡ false → LeavesList all (turn_down QuestionOpen state) records stamps answers
+  open_row : sound (size_of state) w settings.page ≡ true → is_idle state.question ≡ false → LeavesList all (turn_down QuestionOpen state) records stamps answers
   unfolding release_list
   open_row e f = comes _ _ _ _ _ (unless _ _ _ (ap not e) ∙ when _ _ _ (ap not f)) ((refl, refl, refl), refl)
 
-  pub length-row : sound (size_of state) w settings.page ≡ true → is_idle state.question ≡ true
-      → (eqb (length counts) (length addresses) && (eqb (length answers) (length addresses) && leb (length addresses) 32768)) ≡ false
-      → LeavesList all (turn_down ListLength state) records stamps answers
-  unfolding release_list list_fits
-  length-row e f g = comes _ _ _ _ _ (unless _ _ _ (ap not e) ∙ unless _ _ _ (ap not f) ∙ when _ _ _ (ap not g)) ((refl, refl, refl), refl)
+  -- rows 1 and 2, as one function tests them
+  abbrev rows : Result Unit Refusal
+  rows = first_rows (sound (size_of state) w settings.page) (is_idle state.question)
+
+  abbrev Told : Result Unit Refusal → Type 0
+  Told (Ok u) = (sound (size_of state) w settings.page ≡ true) × (is_idle state.question ≡ true)
+  Told (Err why) = LeavesList all (turn_down why state) records stamps answers
+
+  told : Told rows
+  told =
+      by_cond Told (sound (size_of state) w settings.page) _ _
+      (λ e. by_cond Told (is_idle state.question) _ _ (λ i. (e, i)) (λ i. open_row e i)) broken-row
+
+  pub turned-down : (why : Refusal) → rows ≡ Err why → LeavesList all (turn_down why state) records stamps answers
+  turned-down why e = subst Told e told
 
   abbrev released : ListOutcome
   released = release_each ns settings pending w addresses counts
 
-  -- behind the rows the items
-  pub items-ready : sound (size_of state) w settings.page ≡ true → is_idle state.question ≡ true
-      → (eqb (length counts) (length addresses) && (eqb (length answers) (length addresses) && leb (length addresses) 32768)) ≡ true
-      → Passed records stamps state settings × (length counts ≡ length addresses) × (length answers ≡ length addresses)
-  items-ready e f g =
-      let a = and_both (eqb (length counts) (length addresses)) _ g in
-      let b = and_both (eqb (length answers) (length addresses)) _ a.1 in
-      ((e, idle-is state.question f), eqb-true (length counts) (length addresses) a.0, eqb-true (length answers) (length addresses) b.0)
+  -- behind them row 19, and the items
+  module _ (u : Unit) (e : rows ≡ Ok u) where
+    pass : (sound (size_of state) w settings.page ≡ true) × (is_idle state.question ≡ true)
+    pass = subst Told e told
 
-  pub released-row : sound (size_of state) w settings.page ≡ true → is_idle state.question ≡ true
-      → (eqb (length counts) (length addresses) && (eqb (length answers) (length addresses) && leb (length addresses) 32768)) ≡ true
-      → LeavesList all (reply Released (calm state.count state.mark)) released.whole.world.records released.whole.world.stamps released.numbers
-  unfolding release_list list_fits
-  released-row e f g =
-      comes _ _ _ _ _ (unless _ _ _ (ap not e) ∙ unless _ _ _ (ap not f) ∙ unless _ _ _ (ap not g)) (
-        (
-          ap₂ reply (sym (each-granted ns settings pending w addresses counts))
-              (sym (calm-is records state (ready records stamps state ns settings e f)) ∙ sym (each-state ns settings pending w (e, idle-is state.question f) addresses counts)),
+    abbrev fits : Bool
+    fits = eqb (length counts) (length addresses) && (eqb (length answers) (length addresses) && leb (length addresses) 32768)
+
+    pub length-row : fits ≡ false → LeavesList all (turn_down ListLength state) records stamps answers
+    unfolding release_list list_fits
+    length-row g = comes _ _ _ _ _ (unless _ _ _ (ap not pass.0) ∙ unless _ _ _ (ap not pass.1) ∙ when _ _ _ (ap not g)) ((refl, refl, refl), refl)
+
+    pub items-ready : fits ≡ true → Passed records stamps state settings × (length counts ≡ length addresses) × (length answers ≡ length addresses)
+    items-ready g =
+        let a = and_both (eqb (length counts) (length addresses)) _ g in
+        let b = and_both (eqb (length answers) (length addresses)) _ a.1 in
+        ((pass.0, idle-is state.question pass.1), eqb-true (length counts) (length addresses) a.0, eqb-true (length answers) (length addresses) b.0)
+
+    pub released-row : fits ≡ true → LeavesList all (reply Released (calm state.count state.mark)) released.whole.world.records released.whole.world.stamps released.numbers
+    unfolding release_list list_fits
+    released-row g =
+        comes _ _ _ _ _ (unless _ _ _ (ap not pass.0) ∙ unless _ _ _ (ap not pass.1) ∙ unless _ _ _ (ap not g)) (
+          (
+            ap₂ reply (sym (each-granted ns settings pending w addresses counts))
+                (sym (calm-is records state (ready records stamps state ns settings pass.0 pass.1)) ∙ sym (each-state ns settings pending w (pass.0, idle-is state.question pass.1) addresses counts)),
+            refl,
+            refl,
+          ),
           refl,
-          refl,
-        ),
-        refl,
-      )
+        )

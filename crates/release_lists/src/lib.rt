@@ -4,8 +4,7 @@
 // each item is the release's core.
 #![tactic(auto)]
 
-ghost use Rattle.std.specs.Prelude.{◌≡◌, ◌&&◌, ◌<◌, ◌≤◌, eqb, leb, length, get_or, set};
-ghost use Rattle.arena.specs.declared.Commitment.TheVariants.{Untold};
+ghost use Rattle.std.specs.Prelude.{◌≡◌, ◌&&◌, eqb, leb, length};
 ghost use Rattle.layer.specs.World.{world_of};
 ghost use Rattle.layer.specs.Listing.{items, item_number, release_item, release_each, release_list, LeavesList};
 ghost use Rattle.release_lists.specs.Passed.{Passed, LeavesItem};
@@ -14,76 +13,29 @@ use arena::{Arena, Commitment};
 use layer::{Answer, Reply, Settings, State};
 use refusals::Refusal;
 
-// The longest list.
+// The list is lent as three slices of one length, as the C side has it. This is the longest.
 const MOST: usize = 32768;
 
 // "19 when the three lengths differ or pass 32,768"
 fn fits(addresses: usize, counts: usize, answers: usize) -> bool
     ensures { result ≡ (eqb counts addresses && (eqb answers addresses && leb addresses 32768)) }
 {
-    if counts != addresses {
-        return false;
-    }
-    if answers != addresses {
-        return false;
-    }
-    addresses <= MOST
+    counts == addresses && answers == addresses && addresses <= MOST
 }
 
 // ---- one item
 
-fn address_at(addresses: &[u64], j: usize) -> u64
-    requires { j < length addresses.now }
-    ensures { result ≡ get_or addresses.now j 0 }
-{
-    addresses[j]
-}
-
-fn count_at(counts: &[u32], j: usize) -> u32
-    requires { j < length counts.now }
-    ensures { result ≡ get_or counts.now j 0 }
-{
-    counts[j]
-}
-
-fn as_number(count: u32) -> usize
-    ensures { result ≡ count }
-{
-    count as usize
-}
-
-fn put_number(answers: &mut [u32], j: usize, number: u32)
-    requires { j < length answers.old }
-    ensures { answers.new ≡ set answers.old j number }
-{
-    answers[j] = number;
-}
-
 // The number of an item's answer: 0 if it is granted.
-fn number_of(r: Reply) -> u32
-    ensures { result ≡ item_number r.answer }
+fn number_of(answer: Answer) -> u32
+    ensures { result ≡ item_number answer }
 {
-    let answer = r.answer;
     match answer {
-        Answer::Refused(why) => refusals::refusal_number(why),
-        Answer::Asks(_) => 0,
-        Answer::Registered(_) => 0,
-        Answer::Claimed { .. } => 0,
-        Answer::Released => 0,
-        Answer::Swept(_) => 0,
-        Answer::Owns(_) => 0,
-        Answer::Area { .. } => 0,
+        Answer::Refused(why) => u32::from(why),
+        _ => 0,
     }
 }
 
-// "it says nothing of commitment"
-fn untold() -> Commitment
-    ensures { result ≡ Untold }
-{
-    Commitment::Untold
-}
-
-// The item's release, not told, by the core; its number.
+// The item's release by the core, "it says nothing of commitment"; its number.
 fn release_item(
     records: &mut [Arena],
     stamps: &mut [u32],
@@ -97,12 +49,18 @@ fn release_item(
     requires { Passed records.old stamps.old state settings }
     ensures { LeavesItem (release_item ns settings «pending» (world_of records.old stamps.old state) address count) result records.new stamps.new }
 {
-    let told = untold();
-    let n = as_number(count);
     let r = releasing::release(
-        records, stamps, state, ns, settings, address, n, told, pending,
+        records,
+        stamps,
+        state,
+        ns,
+        settings,
+        address,
+        count as usize,
+        Commitment::Untold,
+        pending,
     );
-    number_of(r)
+    number_of(r.answer)
 }
 
 // ---- item after item
@@ -113,26 +71,27 @@ fn release_each(
     addresses: &[u64],
     counts: &[u32],
     answers: &mut [u32],
-    n: usize,
     state: State,
     ns: u64,
     settings: Settings,
     pending: bool,
 )
-    requires { Passed records.old stamps.old state settings × (n ≡ length addresses.now) × (length counts.now ≡ length addresses.now) × (length answers.old ≡ length addresses.now) }
+    requires { Passed records.old stamps.old state settings × (length counts.now ≡ length addresses.now) × (length answers.old ≡ length addresses.now) }
     ensures { (records.new ≡ (release_each ns settings «pending» (world_of records.old stamps.old state) addresses.now counts.now).whole.world.records)
         × (stamps.new ≡ (release_each ns settings «pending» (world_of records.old stamps.old state) addresses.now counts.now).whole.world.stamps)
         × (answers.new ≡ (release_each ns settings «pending» (world_of records.old stamps.old state) addresses.now counts.now).numbers) }
 {
-    let mut j = 0;
-    while j < n {
-        let address = address_at(addresses, j);
-        let count = count_at(counts, j);
-        let number = release_item(
-            records, stamps, state, ns, settings, address, count, pending,
+    for j in 0..addresses.len() {
+        answers[j] = release_item(
+            records,
+            stamps,
+            state,
+            ns,
+            settings,
+            addresses[j],
+            counts[j],
+            pending,
         );
-        put_number(answers, j, number);
-        j = j + 1;
     }
 }
 
@@ -152,19 +111,14 @@ pub fn chunk_release_list(
 ) -> Reply
     ensures { LeavesList (release_list (world_of records.old stamps.old state) ns settings (items addresses.now counts.now answers.old pending)) result records.new stamps.new answers.new }
 {
-    let size = state::chunk_size(state);
-    if !table::row_one(records, stamps.len(), state, settings.page, size) {
-        return state::refuse(Refusal::Broken, state);
-    }
-    if !state::is_idle(state) {
-        return state::refuse(Refusal::QuestionOpen, state);
+    if let Err(why) = table::rows_one_and_two(records, stamps.len(), state, settings.page) {
+        return state::refuse(why, state);
     }
     if !fits(addresses.len(), counts.len(), answers.len()) {
         return state::refuse(Refusal::ListLength, state);
     }
-    let n = addresses.len();
     release_each(
-        records, stamps, addresses, counts, answers, n, state, ns, settings, pending,
+        records, stamps, addresses, counts, answers, state, ns, settings, pending,
     );
     releasing::released(state)
 }

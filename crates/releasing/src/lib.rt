@@ -2,7 +2,7 @@
 // record that the address lies in.
 #![tactic(auto)]
 
-ghost use Rattle.std.specs.Prelude.{◌≡◌, cond, ◌+◌, ◌-◌, ◌*◌, ◌/◌, ◌%◌, ◌<◌, ◌≤◌, eqb, leb, length, set};
+ghost use Rattle.std.specs.Prelude.{◌≡◌, cond, ◌+◌, ◌*◌, ◌<◌, ◌≤◌, length, set};
 ghost use Rattle.clock.specs.Clock.{now_ms, delay_ms};
 ghost use Rattle.arena.specs.Releasing.{release_run, stamp_run};
 ghost use Rattle.layer.specs.declared.Answer.TheVariants.{Released};
@@ -11,65 +11,12 @@ ghost use Rattle.layer.specs.Table.{at};
 ghost use Rattle.layer.specs.Releasing.{release_of};
 ghost use Rattle.layer.specs.Step.{stays_pending, release, step, act};
 ghost use Rattle.state.specs.Ready.{Ready, Stamped};
-ghost use Rattle.releasing.specs.Told.{is_untold};
 
 use arena::{Arena, Commitment};
 use layer::{Answer, Reply, Settings, State};
 use refusals::Refusal;
-use table::heads::Head;
-
-// ---- the run
-
-// How many bytes past the arena's base the address lies.
-fn offset_of(h: Head, address: u64) -> u64
-    requires { h.base ≤ address }
-    ensures { result ≡ address - h.base }
-{
-    address - h.base
-}
-
-fn is_whole(offset: u64, chunk_size: u64) -> bool
-    requires { 0 < chunk_size }
-    ensures { result ≡ eqb (offset % chunk_size) 0 }
-{
-    offset % chunk_size == 0
-}
-
-// The chunk that the run starts with.
-fn start_of(offset: u64, chunk_size: u64) -> usize
-    requires { 0 < chunk_size }
-    ensures { result ≡ offset / chunk_size }
-{
-    (offset / chunk_size) as usize
-}
-
-// Whether the run of n from s on ends in the arena. n may be any number, so it is held against what is left.
-fn fits(h: Head, s: usize, n: usize) -> bool
-    requires { s ≤ h.chunks }
-    ensures { result ≡ leb (s + n) h.chunks }
-{
-    n <= h.chunks - s
-}
 
 // ---- the release in one record
-
-// The delay in milliseconds.
-fn delay_of(settings: Settings) -> u32
-    ensures { result ≡ delay_ms settings.delay }
-{
-    clock::delay_ms(settings.delay)
-}
-
-// Where nothing is told, to give the run back is all.
-fn is_untold(told: Commitment) -> bool
-    ensures { result ≡ is_untold told }
-{
-    match told {
-        Commitment::Untold => true,
-        Commitment::Committed => false,
-        Commitment::Uncommitted => false,
-    }
-}
 
 // Whether the run stays pending, for a later sweep to purge: not with a negative delay, which means never.
 fn stays_pending(settings: Settings, pending: bool) -> bool
@@ -85,7 +32,9 @@ pub fn released(state: State) -> Reply
     state::settled(Answer::Released, state.count, state.mark)
 }
 
-// The run of n from s on in arena i. Clock and delay are worked out only where it stays pending.
+// The run of n from s on in arena i. Clock and delay are worked out only where it stays pending. Where nothing is told, to give
+// the run back is all.
+#[tactic(auto, unfolding(arena::specs::Releasing::release_run, arena::specs::Releasing::tell_run))]
 fn release_in(
     records: &mut [Arena],
     stamps: &mut [u32],
@@ -104,25 +53,24 @@ fn release_in(
     let a = table::records::load(records, i);
     if stays_pending(settings, pending) {
         let ms = clock::now_ms(ns);
-        let delay = delay_of(settings);
-        let waiting = arena::arena_runs::release_pending(a, s, n, told, ms, delay);
-        table::records::store(records, i, waiting);
+        let delay = clock::delay_ms(settings.delay);
+        table::records::store(records, i, a.release_pending(s, n, told, ms, delay));
         arena::purge::stamp_run_of(stamps, i, s, n, ms);
         return released(state);
     }
-    if is_untold(told) {
-        let freed = arena::arena_runs::give_back_run(a, s, n);
-        table::records::store(records, i, freed);
-        return released(state);
+    match told {
+        Commitment::Untold => table::records::store(records, i, a.give_back_run(s, n)),
+        Commitment::Committed | Commitment::Uncommitted => {
+            table::records::store(records, i, a.release_run(s, n, told));
+        }
     }
-    let left = arena::arena_runs::release_run(a, s, n, told);
-    table::records::store(records, i, left);
     released(state)
 }
 
 // ---- the core
 
-// The n chunks at an address are given back, on a table that rows 1 and 2 let pass.
+// The n chunks at an address are given back, on a table that rows 1 and 2 let pass. n may be any number, so it is held against
+// what is left of the arena.
 pub fn release(
     records: &mut [Arena],
     stamps: &mut [u32],
@@ -140,19 +88,17 @@ pub fn release(
     if n == 0 {
         return state::refuse(Refusal::Zero, state);
     }
-    let size = state::chunk_size(state);
-    let f = table::find_arena(records, state.count, size, address);
-    if !table::row_parts::is_at(f) {
+    let chunk_size = state::chunk_size(state);
+    let Some(i) = table::find_arena(records, state.count, chunk_size, address) else {
         return state::refuse(Refusal::NotInside, state);
-    }
-    let i = table::row_parts::id_of(f);
-    let h = table::head_at(records, i);
-    let offset = offset_of(h, address);
-    if !is_whole(offset, size) {
+    };
+    let a = &records[i];
+    let offset = address - a.base;
+    if !chunk_size.divides(offset) {
         return state::refuse(Refusal::NotWhole, state);
     }
-    let s = start_of(offset, size);
-    if !fits(h, s, n) {
+    let s = chunk_size.chunks_in(offset) as usize;
+    if a.chunks - s < n {
         return state::refuse(Refusal::PastEnd, state);
     }
     release_in(records, stamps, state, ns, settings, i, s, n, told, pending)
@@ -174,12 +120,8 @@ pub fn chunk_release(
 ) -> Reply
     ensures { Leaves (step (world_of records.old stamps.old state) ns settings (act (release address n told pending))) result records.new stamps.new }
 {
-    let size = state::chunk_size(state);
-    if !table::row_one(records, stamps.len(), state, settings.page, size) {
-        return state::refuse(Refusal::Broken, state);
-    }
-    if !state::is_idle(state) {
-        return state::refuse(Refusal::QuestionOpen, state);
+    if let Err(why) = table::rows_one_and_two(records, stamps.len(), state, settings.page) {
+        return state::refuse(why, state);
     }
     release(
         records, stamps, state, ns, settings, address, n, told, pending,

@@ -1,11 +1,8 @@
 -- Our answer to a recorded call, as a number, and what it leaves of the slice pool. Assumes nothing.
-use Rattle.std.specs.Prelude.{Bool, cond, List, ℕ, ◌%◌, eqb, leb, length, replicate}
+use Rattle.std.specs.Prelude.{Bool, cond, List, ℕ, ◌%◌, eqb, leb, length, replicate, Result, Ok, Err}
+use Rattle.refusals.specs.declared.Refusal.{Refusal}
 use Rattle.sizes.specs.Sizes.{is_aligned_to, page_align_up}
 use Rattle.clock.specs.Clock.{armed, is_due, now_ms, delay_ms}
-use Rattle.slice_pool.specs.declared.Allocated.{Allocated}
-use Rattle.slice_pool.specs.declared.Allocated.TheVariants.{Run, NotRun}
-use Rattle.slice_pool.specs.declared.Freed.{Freed}
-use Rattle.slice_pool.specs.declared.Freed.TheVariants.{Done, NotDone}
 use Rattle.slice_pool.specs.Pool.{alloc_run, free_range}
 use Rattle.samples.specs.declared.lines.Line.{Line}
 use Rattle.samples.specs.Hash.{with_words}
@@ -21,14 +18,14 @@ of_numbers kind a b =
     (cond (eqb kind 5) (now_ms a) (delay_ms (signed_of a))))))
 
 -- the run's address; the largest number where there is none
-abbrev pub address_of : Allocated → ℕ
-address_of (Run address) = address
-address_of (NotRun why) = 18446744073709551615
+abbrev pub address_of : Result ℕ Refusal → ℕ
+address_of (Ok address) = address
+address_of (Err why) = 18446744073709551615
 
 -- 1 for done
-abbrev pub done_of : Freed → ℕ
-done_of Done = 1
-done_of (NotDone why) = 0
+abbrev pub done_of : Result Unit Refusal → ℕ
+done_of (Ok tt) = 1
+done_of (Err why) = 0
 
 -- kinds 7 to 10, on the slice pool: a run, a free, the hash of the words held against a, and all of them cleared
 unfoldable pub of_pool : ℕ → ℕ → ℕ → List ℕ → ℕ

@@ -6,13 +6,6 @@ ghost use Rattle.replay.specs.Answers.{address_of, done_of, of_numbers, of_pool,
 
 use crate::pool;
 use samples::lines::Line;
-use slice_pool::{Allocated, Freed};
-
-fn truth(yes: bool) -> u64
-    ensures { result ≡ cond yes 1 0 }
-{
-    if yes { 1 } else { 0 }
-}
 
 // The low 32 bits.
 fn low(x: u64) -> u32
@@ -34,51 +27,30 @@ fn of_numbers(kind: u64, a: u64, b: u64) -> u64
     ensures { result ≡ of_numbers kind a b }
 {
     match kind {
-        1 => truth(sizes::bins::is_aligned_to(a, b)),
+        1 => sizes::bins::is_aligned_to(a, b) as u64,
         2 => sizes::os::page_align_up(a, b),
         3 => clock::arm(low(a), low(b)) as u64,
-        4 => truth(clock::is_due(low(a), low(b))),
+        4 => clock::is_due(low(a), low(b)) as u64,
         5 => clock::now_ms(a) as u64,
         _ => delay_of(a),
     }
 }
 
-// The run's address; the largest number where there is none.
-fn address_of(got: Allocated) -> u64
-    ensures { result ≡ address_of got }
-{
-    match got {
-        Allocated::Run(at) => at,
-        Allocated::NotRun(_) => u64::MAX,
-    }
-}
-
-// 1 for done, 0 for refused.
-fn done_of(got: Freed) -> u64
-    ensures { result ≡ done_of got }
-{
-    match got {
-        Freed::Done => 1,
-        Freed::NotDone(_) => 0,
-    }
-}
-
-// Kinds 7 to 10, on the slice pool.
+// Kinds 7 to 10, on the slice pool: a run's address, the largest number where there is none; 1 for done, 0 for refused; whether the
+// hash is the recorded one; and the words cleared.
 #[tactic(auto, unfolding(crate::specs::Answers::of_pool, crate::specs::Answers::left_pool))]
 fn of_pool(kind: u64, a: u64, b: u64, words: &mut [u32]) -> u64
     ensures { (result ≡ of_pool kind a b words.old) × (words.new ≡ left_pool kind a b words.old) }
 {
-    if kind == 7 {
-        return address_of(slice_pool::alloc_run(words, a));
+    match kind {
+        7 => slice_pool::alloc_run(words, a).unwrap_or(u64::MAX),
+        8 => slice_pool::free_range(words, a, b).is_ok() as u64,
+        9 => (pool::hash(words) as u64 == a) as u64,
+        _ => {
+            words.fill(0);
+            1
+        }
     }
-    if kind == 8 {
-        return done_of(slice_pool::free_range(words, a, b));
-    }
-    if kind == 9 {
-        return truth(pool::hash(words) as u64 == a);
-    }
-    pool::clear(words);
-    1
 }
 
 // Whether our answer is the recorded one.

@@ -10,7 +10,7 @@ mod pool;
 
 ghost use Rattle.std.specs.Prelude.{◌+◌, ◌≤◌, length};
 
-use samples::lines::{Line, Parsed};
+use samples::lines::Line;
 use samples::tally::Tally;
 use std::io;
 use std::io::Read;
@@ -23,33 +23,30 @@ const LINE: usize = 53;
 // A line that says four numbers, replayed if there is such a call, and counted.
 fn replay_numbers(line: Line, words: &mut [u32], t: Tally) -> Tally {
     if known::is_known(line.kind, line.a, line.b) {
-        let same = answers::agrees(line, words);
-        return samples::tally::answered(t, same);
+        return t.answered(answers::agrees(line, words));
     }
-    samples::tally::malformed(t)
+    t.malformed()
 }
 
-// The line at `at`, replayed and counted.
-fn replay_line(text: &[u8], at: usize, words: &mut [u32], t: Tally) -> Tally
-    requires { at + 53 ≤ length text.now }
+// A line, replayed and counted.
+fn replay_line(text: &[u8], words: &mut [u32], t: Tally) -> Tally
+    requires { 53 ≤ length text.now }
 {
-    let parsed = samples::lines::parse(text, at);
-    match parsed {
-        Parsed::Whole(line) => replay_numbers(line, words, t),
-        Parsed::Malformed => samples::tally::malformed(t),
+    match samples::lines::parse(text, 0) {
+        Some(line) => replay_numbers(line, words, t),
+        None => t.malformed(),
     }
 }
 
 // Each line of a block. What is left at its end, shorter than a line, counts as a malformed one.
 fn replay_lines(text: &[u8], words: &mut [u32], start: Tally) -> Tally {
     let mut t = start;
-    let mut at: usize = 0;
-    while text.len() - at >= LINE {
-        t = replay_line(text, at, words, t);
-        at += LINE;
-    }
-    if at < text.len() {
-        t = samples::tally::malformed(t);
+    for line in text.chunks(LINE) {
+        t = if line.len() == LINE {
+            replay_line(line, words, t)
+        } else {
+            t.malformed()
+        };
     }
     t
 }
@@ -59,18 +56,19 @@ fn replay_block<R: Read>(input: &mut R, words: &mut [u32], t: Tally) -> io::Resu
     let mut buffer = [0u8; BLOCK];
     let n = samples::input::read_full(input, &mut buffer)?;
     if n < BLOCK {
-        return Ok(samples::tally::ended(replay_lines(&buffer[..n], words, t)));
+        return Ok(replay_lines(&buffer[..n], words, t).ended());
     }
     Ok(replay_lines(&buffer[..n], words, t))
 }
 
-// Nothing says that the input ends, so the blocks are counted down from a number that no run uses up.
+// Nothing says that the input ends, so the blocks are counted up to a number that no run reaches.
 fn replay_all<R: Read>(input: &mut R, words: &mut [u32]) -> io::Result<Tally> {
-    let mut t = samples::tally::none_yet();
-    let mut blocks = u64::MAX;
-    while blocks > 0 && samples::tally::goes_on(t) {
+    let mut t = Tally::none_yet();
+    for _ in 0..u64::MAX {
         t = replay_block(input, words, t)?;
-        blocks -= 1;
+        if !t.goes_on() {
+            break;
+        }
     }
     Ok(t)
 }

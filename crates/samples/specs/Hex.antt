@@ -1,24 +1,22 @@
 -- What a text in lower-case hexadecimal says. Assumes nothing.
-use Rattle.std.specs.Prelude.{cond, List, ℕ, zero, suc, ◌+◌, ◌-◌, ◌*◌, ◌<◌, ltb, get_or}
-use Rattle.samples.specs.declared.hex.Number.{Number}
-use Rattle.samples.specs.declared.hex.Number.TheVariants.{Is, NotHex}
+use Rattle.std.specs.Prelude.{cond, List, ℕ, zero, suc, ◌+◌, ◌-◌, ◌*◌, ◌<◌, ltb, get_or, Option, Some, None}
 
 -- a number is below m, if it is one
-abbrev pub Below : Number → ℕ → Type 0
-Below (Is v) m = v < m
-Below NotHex m = Unit {0}
+abbrev pub Below : Option ℕ → ℕ → Type 0
+Below (Some v) m = v < m
+Below None m = Unit {0}
 
 -- '0' to '9' are 48 to 57, and 'a' to 'f' are 97 to 102
-unfoldable pub digit_of : ℕ → Number
-digit_of b = cond (ltb b 48) NotHex (cond (ltb b 58) (Is (b - 48)) (cond (ltb b 97) NotHex (cond (ltb b 103) (Is (b - 97 + 10)) NotHex)))
+unfoldable pub digit_of : ℕ → Option ℕ
+digit_of b = cond (ltb b 48) None (cond (ltb b 58) (Some (b - 48)) (cond (ltb b 97) None (cond (ltb b 103) (Some (b - 97 + 10)) None)))
 
 -- one digit more behind a number
-abbrev pub then_digit : Number → Number → Number
-then_digit (Is v) (Is d) = Is (v * 16 + d)
-then_digit (Is v) NotHex = NotHex
-then_digit NotHex d = NotHex
+abbrev pub then_digit : Option ℕ → Option ℕ → Option ℕ
+then_digit (Some v) (Some d) = Some (v * 16 + d)
+then_digit (Some v) None = None
+then_digit None d = None
 
 -- the k digits from `at` on, the highest first
-unfoldable pub digits_at : List ℕ → ℕ → ℕ → Number
-digits_at text at zero = Is 0
+unfoldable pub digits_at : List ℕ → ℕ → ℕ → Option ℕ
+digits_at text at zero = Some 0
 digits_at text at (suc k) = then_digit (digits_at text at k) (digit_of (get_or text (at + k) 0))

@@ -27,10 +27,8 @@ pub fn with_words(h: u32, words: &[u32], at: usize, n: usize) -> u32
     ensures { result ≡ with_words h words.now at n }
 {
     let mut g = h;
-    let mut i: usize = 0;
-    while i < n {
+    for i in 0..n {
         g = with_word(g, words[at + i]);
-        i += 1;
     }
     g
 }

@@ -1,6 +1,6 @@
 // What is counted.
 ghost use Rattle.std.specs.Prelude.{◌≡◌, not};
-ghost use Rattle.samples.specs.Counting.{none, one_more, after_answer, after_malformed, after_end};
+ghost use Rattle.samples.specs.Counting.{none, after_answer, after_malformed, after_end};
 
 // The lines so far, the answers replayed, how many of them differ and the line of the first that does
 // (0: none), the malformed lines, and whether the input has ended.
@@ -14,64 +14,64 @@ pub struct Tally {
     pub over: bool,
 }
 
-pub fn none_yet() -> Tally
-    ensures { result ≡ none }
-{
-    Tally {
-        lines: 0,
-        answers: 0,
-        differences: 0,
-        first: 0,
-        malformed: 0,
-        over: false,
+impl Tally {
+    pub fn none_yet() -> Tally
+        ensures { result ≡ none }
+    {
+        Tally {
+            lines: 0,
+            answers: 0,
+            differences: 0,
+            first: 0,
+            malformed: 0,
+            over: false,
+        }
     }
-}
 
-// One more; the largest number stays as it is.
-fn one_more(n: u64) -> u64
-    ensures { result ≡ one_more n }
-{
-    if n < u64::MAX { n + 1 } else { n }
-}
-
-// A line that was replayed.
-pub fn answered(t: Tally, same: bool) -> Tally
-    ensures { result ≡ after_answer t same }
-{
-    let mut u = t;
-    u.lines = one_more(t.lines);
-    u.answers = one_more(t.answers);
-    if same {
-        return u;
+    // A line that was replayed.
+    #[tactic(auto, unfolding(crate::specs::Counting::after_answer))]
+    pub fn answered(self, same: bool) -> Tally
+        ensures { result ≡ after_answer self same }
+    {
+        let lines = self.lines.saturating_add(1);
+        let answers = self.answers.saturating_add(1);
+        if same {
+            return Tally {
+                lines,
+                answers,
+                ..self
+            };
+        }
+        Tally {
+            lines,
+            answers,
+            differences: self.differences.saturating_add(1),
+            first: if self.first == 0 { lines } else { self.first },
+            ..self
+        }
     }
-    u.differences = one_more(t.differences);
-    if t.first == 0 {
-        u.first = u.lines;
+
+    // A line that was not.
+    pub fn malformed(self) -> Tally
+        ensures { result ≡ after_malformed self }
+    {
+        Tally {
+            lines: self.lines.saturating_add(1),
+            malformed: self.malformed.saturating_add(1),
+            ..self
+        }
     }
-    u
-}
 
-// A line that was not.
-pub fn malformed(t: Tally) -> Tally
-    ensures { result ≡ after_malformed t }
-{
-    let mut u = t;
-    u.lines = one_more(t.lines);
-    u.malformed = one_more(t.malformed);
-    u
-}
+    // The input has ended.
+    pub fn ended(self) -> Tally
+        ensures { result ≡ after_end self }
+    {
+        Tally { over: true, ..self }
+    }
 
-// The input has ended.
-pub fn ended(t: Tally) -> Tally
-    ensures { result ≡ after_end t }
-{
-    let mut u = t;
-    u.over = true;
-    u
-}
-
-pub fn goes_on(t: Tally) -> bool
-    ensures { result ≡ not t.over }
-{
-    !t.over
+    pub fn goes_on(self) -> bool
+        ensures { result ≡ not self.over }
+    {
+        !self.over
+    }
 }

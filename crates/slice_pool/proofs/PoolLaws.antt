@@ -1,16 +1,13 @@
 -- The slice pool's definitions, case by case: which test decides. Assumes nothing.
-use Rattle.std.specs.Prelude.{◌≡◌, ◌&&◌, ◌+◌, ◌/◌, ◌%◌, ◌≤◌, ◌<◌}
+use Rattle.std.specs.Prelude.{◌≡◌, ◌&&◌, ◌+◌, ◌/◌, ◌%◌, ◌≤◌, ◌<◌, Option, Some, Ok}
 use Rattle.walks.proofs.Prelude.{sym, ap, ◌∙◌, subst, Bool, true, List, ℕ, eq-eqb, ne_eqb, lt-ltb, le-ltb, eqb, length}
 use Rattle.refusals.specs.declared.Refusal.TheVariants.{Broken, Zero, NotWhole, NotInside, PastEnd}
 use Rattle.bitmap.specs.Bits.{bit_at}
 use Rattle.bitmap.specs.Rows.{set_run}
 use Rattle.bitmap.proofs.words.Tests.{when, unless}
-use Rattle.bitmap.specs.declared.runs.Found.{Found}
-use Rattle.bitmap.specs.declared.runs.Found.TheVariants.{At}
 use Rattle.bitmap.specs.Lowest.{Lowest, lowest_run}
 use Rattle.bitmap.proofs.runs.LowestLaws.{lowest-says}
 use Rattle.slice_pool.specs.Pool.{not_run, alloc_found, alloc_run, not_done, free_range}
-use Rattle.slice_pool.specs.declared.Freed.TheVariants.{Done}
 
 module _ (ws : List ℕ) (n : ℕ) where
   pub alloc-broken : (length ws ≡ 2048 → ⊥) → alloc_run ws n ≡ not_run ws Broken
@@ -26,9 +23,9 @@ module _ (ws : List ℕ) (n : ℕ) where
   alloc-found l h = when _ _ _ (eq-eqb (length ws) 2048 l) ∙ unless _ _ _ (ne_eqb n 0 h)
 
   -- a run that was found lies inside the pool
-  pub found_inside : (s : ℕ) (f : Found) → f ≡ lowest_run (bit_at ws) 65536 n → f ≡ At s → s + n ≤ 65536
+  pub found_inside : (s : ℕ) (f : Option ℕ) → f ≡ lowest_run (bit_at ws) 65536 n → f ≡ Some s → s + n ≤ 65536
   found_inside s f e g =
-      let k : Lowest (bit_at ws) 65536 n (At s) = subst (Lowest (bit_at ws) 65536 n) (sym e ∙ g) (lowest-says (bit_at ws) 65536 n) in
+      let k : Lowest (bit_at ws) 65536 n (Some s) = subst (Lowest (bit_at ws) 65536 n) (sym e ∙ g) (lowest-says (bit_at ws) 65536 n) in
       k.0.room
 
 module _ (ws : List ℕ) (base size : ℕ) where
@@ -72,7 +69,7 @@ module _ (ws : List ℕ) (base size : ℕ) where
               ∙ unless _ _ _ (le-ltb base 65536 l) ∙ when _ _ _ (lt-ltb 65536 (base / 65536 + size / 65536) h)
 
           pub free-done : 65536 ≤ base → base / 65536 + size / 65536 ≤ 65536
-              → free_range ws base size ≡ record { answer = Done; words = set_run ws (base / 65536) (size / 65536) }
+              → free_range ws base size ≡ record { answer = (Ok tt); words = set_run ws (base / 65536) (size / 65536) }
           unfolding free_range
           free-done l h =
               when _ _ _ (eq-eqb (length ws) 2048 long) ∙ unless _ _ _ (ne_eqb size 0 some) ∙ when _ _ _ both

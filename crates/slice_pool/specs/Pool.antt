@@ -1,33 +1,26 @@
 -- The slice pool: what its two calls answer, and what they leave of the lent words. Document 01, "slice_pool.rs": "65,536 slices of 65,536 bytes over
 -- 2,048 lent words, bit set = free." Of refusal 1 the calls know only the length of the words. Assumes nothing.
-use Rattle.std.specs.Prelude.{cond, ◌&&◌, List, ℕ, ◌+◌, ◌*◌, ◌/◌, ◌%◌, eqb, ltb, length}
+use Rattle.std.specs.Prelude.{cond, ◌&&◌, List, ℕ, ◌+◌, ◌*◌, ◌/◌, ◌%◌, eqb, ltb, length, Option, Some, None, Result, Ok, Err}
 use Rattle.refusals.specs.declared.Refusal.{Refusal}
 use Rattle.refusals.specs.declared.Refusal.TheVariants.{Broken, Zero, NotWhole, NotInside, PastEnd, NoRun}
-use Rattle.refusals.specs.Number.{number}
 use Rattle.bitmap.specs.Bits.{bit_at}
 use Rattle.bitmap.specs.Rows.{set_run, clear_run}
-use Rattle.bitmap.specs.declared.runs.Found.{Found}
-use Rattle.bitmap.specs.declared.runs.Found.TheVariants.{At, Nothing}
 use Rattle.bitmap.specs.Lowest.{lowest_run}
-use Rattle.slice_pool.specs.declared.Allocated.{Allocated}
-use Rattle.slice_pool.specs.declared.Allocated.TheVariants.{Run, NotRun}
-use Rattle.slice_pool.specs.declared.Freed.{Freed}
-use Rattle.slice_pool.specs.declared.Freed.TheVariants.{Done, NotDone}
 
 -- ---- alloc_run
 
 pub record Alloc : Type 0 where
-  pub answer : Allocated
+  pub answer : Result ℕ Refusal
   pub words : List ℕ
 
 -- a refusal leaves every word
 abbrev pub not_run : List ℕ → Refusal → Alloc
-not_run ws why = record { answer = NotRun why; words = ws }
+not_run ws why = record { answer = Err why; words = ws }
 
 -- "`alloc_run` takes the lowest free run"; "10 answers too long a run as well"
-abbrev pub alloc_found : List ℕ → ℕ → Found → Alloc
-alloc_found ws n (At s) = record { answer = Run (s * 65536); words = clear_run ws s n }
-alloc_found ws n Nothing = not_run ws NoRun
+abbrev pub alloc_found : List ℕ → ℕ → Option ℕ → Alloc
+alloc_found ws n (Some s) = record { answer = Ok (s * 65536); words = clear_run ws s n }
+alloc_found ws n None = not_run ws NoRun
 
 -- in the order 1, 4, 10
 unfoldable pub alloc_run : List ℕ → ℕ → Alloc
@@ -37,11 +30,11 @@ alloc_run ws n =
 -- ---- free_range
 
 pub record Free : Type 0 where
-  pub answer : Freed
+  pub answer : Result Unit Refusal
   pub words : List ℕ
 
 abbrev pub not_done : List ℕ → Refusal → Free
-not_done ws why = record { answer = NotDone why; words = ws }
+not_done ws why = record { answer = Err why; words = ws }
 
 -- "Slice free: 4, 7, 8, 9", after 1. "`free_range` accepts a second free of one slice, as the release build does."
 unfoldable pub free_range : List ℕ → ℕ → ℕ → Free
@@ -51,22 +44,13 @@ free_range ws base size =
     (cond (eqb (base % 65536) 0 && eqb (size % 65536) 0)
     (cond (ltb base 65536) (not_done ws NotInside)
     (cond (ltb 65536 (base / 65536 + size / 65536)) (not_done ws PastEnd)
-    (record { answer = Done; words = set_run ws (base / 65536) (size / 65536) })))
+    (record { answer = (Ok tt); words = set_run ws (base / 65536) (size / 65536) })))
     (not_done ws NotWhole)))
     (not_done ws Broken)
 
--- ---- document 01's number and values for each case
-
--- 0 for a grant, else the refusal's number
-abbrev pub alloc_number : Allocated → ℕ
-alloc_number (Run address) = 0
-alloc_number (NotRun why) = number why
+-- ---- document 01's value for each case; the number is `refusals`' number_in
 
 -- the run's address; 0 with a refusal
-abbrev pub alloc_address : Allocated → ℕ
-alloc_address (Run address) = address
-alloc_address (NotRun why) = 0
-
-abbrev pub free_number : Freed → ℕ
-free_number Done = 0
-free_number (NotDone why) = number why
+abbrev pub alloc_address : Result ℕ Refusal → ℕ
+alloc_address (Ok address) = address
+alloc_address (Err why) = 0

@@ -1,6 +1,6 @@
 -- Rows 1 and 2 of every call, and what they say of the table that they let pass. Assumes nothing.
-use Rattle.std.specs.Prelude.{◌≡◌, ◌<◌, ◌≤◌}
-use Rattle.layer.proofs.Prelude.{sym, ap, subst, ◌∙◌, true, false, not, List, ℕ, arith, eqb-true, leb-true, eqb, leb, length, Broken, QuestionOpen, when, unless, all, all-free-of, and_both, page_size_sound, Arena, sound_arena, SoundArena, arena-facts, Outcome, state_with, world_of, after, turn_down, calm, at, apart, sound_table, sound_lent, Act, Call, act, act_on, step_on, rules, step}
+use Rattle.std.specs.Prelude.{◌≡◌, ◌<◌, ◌≤◌, Result, Ok, Err}
+use Rattle.layer.proofs.Prelude.{sym, ap, subst, ◌∙◌, true, false, not, List, ℕ, arith, eqb-true, leb-true, eqb, leb, length, Broken, QuestionOpen, when, unless, all, all-free-of, and_both, by_cond, cond, page_size_sound, Refusal, Arena, sound_arena, SoundArena, arena-facts, Outcome, state_with, world_of, after, turn_down, calm, at, apart, sound_table, sound_lent, Act, Call, act, act_on, step_on, rules, step}
 use Rattle.layer.specs.declared.Settings.{Settings}
 use Rattle.layer.specs.declared.State.{State}
 use Rattle.layer.specs.declared.Reply.{Reply}
@@ -86,3 +86,39 @@ module _ (l : List Arena) (stamps : List ℕ) (state : State) (ns : ℕ) (settin
       let d = and_both (leb state.count 32) _ c.1 in
       let f = and_both (all (λ i. sound_arena (size_of state) (at l i)) 0 state.count) _ d.1 in
       record { standing = standing e; stamped = stamps-lent e; question = (and_both (apart (size_of state) l state.count) _ f.1).1 }
+
+  -- ---- both rows, as one function tests them
+  abbrev rows : Result Unit Refusal
+  rows =
+      cond (sound_lent (size_of state) l (length stamps) state settings.page)
+      (cond (is_idle state.question) (Ok tt) (Err QuestionOpen))
+      (Err Broken)
+
+  abbrev Told : Result Unit Refusal → Type 0
+  Told (Ok u) = Passes × (is_idle state.question ≡ true)
+  Told (Err why) = (a : Act) → Leaves (step (world_of l stamps state) ns settings (act a)) (turn_down why state) l stamps
+
+  told : Told rows
+  told =
+      by_cond Told (sound_lent (size_of state) l (length stamps) state settings.page) _ _
+      (λ e. by_cond Told (is_idle state.question) _ _ (λ i. (e, i)) (λ i a. open_row e i a))
+      (λ e a. broken-row e (act a))
+
+  -- a row that holds turns every act down
+  pub turned-down : (why : Refusal) → rows ≡ Err why → (a : Act)
+      → Leaves (step (world_of l stamps state) ns settings (act a)) (turn_down why state) l stamps
+  turned-down why e = subst Told e told
+
+  module _ (u : Unit) (e : rows ≡ Ok u) where
+    let-pass : Passes × (is_idle state.question ≡ true)
+    let-pass = subst Told e told
+
+    -- else the core is handed a table that is sound and idle
+    pub handed : Ready l state × Stamped stamps
+    handed = (ready let-pass.0 let-pass.1, stamps-lent let-pass.0)
+
+    -- and what it leaves is what the call leaves
+    pub let-act : (a : Act) (r : Reply) (m : List Arena) (t : List ℕ)
+        → Leaves (act_on (size_of state) l stamps state.count state.mark state.question ns settings a) r m t
+        → Leaves (step (world_of l stamps state) ns settings (act a)) r m t
+    let-act a r m t = acted let-pass.0 let-pass.1 a r m t

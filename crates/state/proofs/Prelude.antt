@@ -22,8 +22,7 @@ pub use Rattle.bitmap.proofs.runs.SearchLaws.{and_both, same}
 pub use Rattle.bitmap.proofs.words.Tests.{by_cond, unless, when}
 unfoldable pub use Rattle.bitmap.specs.Bits.{bit_at}
 unfoldable pub use Rattle.bitmap.specs.Lowest.{all, least, lowest_run}
-pub use Rattle.bitmap.specs.declared.runs.Found.{Found}
-pub use Rattle.bitmap.specs.declared.runs.Found.TheVariants.{At, Nothing}
+pub use Rattle.std.specs.Prelude.{Option, Some, None, is_some, unwrap_or}
 pub use Rattle.arena.proofs.Changes.{found_inside}
 pub use Rattle.arena.proofs.PlaceLaws.{inside-facts}
 pub use Rattle.arena.proofs.SoundLaws.{SoundArena, never, range-facts}
@@ -49,7 +48,7 @@ pub use Rattle.layer.specs.Step.{Act, Call, Query, act, act_on, answer, claim, q
 unfoldable pub use Rattle.layer.specs.Step.{rules}
 pub use Rattle.layer.specs.Sweeping.{visit_at}
 unfoldable pub use Rattle.layer.specs.Sweeping.{purge_reply, sweep_from, swept_reply, visit}
-pub use Rattle.layer.specs.Table.{asked_id, at, id_found, is_at, sound}
+pub use Rattle.layer.specs.Table.{asked_id, at, sound}
 unfoldable pub use Rattle.layer.specs.Table.{bad_range, find_arena, meets, overlaps, sound_lent, sound_question}
 pub use Rattle.layer.specs.World.{Leaves, Outcome, World, after, blank, calm, reply, reply_in, size_of, state_with, turn_down, world_of}
 pub use Rattle.layer.specs.declared.Answer.{Answer}

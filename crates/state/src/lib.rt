@@ -6,37 +6,24 @@ ghost use Rattle.std.specs.Prelude.{◌≡◌};
 ghost use Rattle.layer.specs.World.{size_of, state_with, reply, turn_down, calm};
 ghost use Rattle.layer.specs.Answering.{is_idle};
 
+use arena::chunk_size::ChunkSize;
 use layer::{Answer, CHUNK, Question, Reply, State};
 use refusals::Refusal;
 
 // ---- what is read
 
 // S, the bytes of a chunk of this table.
-pub fn chunk_size(state: State) -> u64
-    ensures { result ≡ size_of state }
+pub fn chunk_size(state: State) -> ChunkSize
+    ensures { result.bytes ≡ size_of state }
 {
-    CHUNK
-}
-
-// The question that is open.
-pub fn question_of(state: State) -> Question
-    ensures { result ≡ state.question }
-{
-    state.question
+    ChunkSize { bytes: CHUNK }
 }
 
 // Whether no question is open.
 pub fn is_idle(state: State) -> bool
     ensures { result ≡ is_idle state.question }
 {
-    let q = state.question;
-    match q {
-        Question::Idle => true,
-        Question::Committing { .. } => false,
-        Question::Purging { .. } => false,
-        Question::Reserving { .. } => false,
-        Question::GivingBack { .. } => false,
-    }
+    matches!(state.question, Question::Idle)
 }
 
 // ---- replies

@@ -50,6 +50,11 @@ unfolding rules
 query-leaves w ns settings c =
     by-not (λ (o : Outcome). o.world.state ≡ w.state) (sound (size_of w.state) w settings.page) _ _ (λ _. refl) (λ _. refl)
 
+-- and so the numbers that came
+pub query_numbers : (l : List Arena) (stamps : List ℕ) (f : StateNumbers) (ns : ℕ) (settings : Settings) (c : Query) → is_state f ≡ true
+    → numbers_of (step (world_of l stamps (state_of f)) ns settings (query c)).world.state ≡ f
+query_numbers l stamps f ns settings c e = ap numbers_of (query-leaves (world_of l stamps (state_of f)) ns settings c) ∙ state-written f e
+
 module _ (l : List Arena) (stamps : List ℕ) (f : StateNumbers) (ns : ℕ) (s : SettingsNumbers) (c : Query) where
   abbrev asked : Outcome
   asked = stepped l stamps f ns s (query c)

@@ -1,13 +1,11 @@
 -- Demand 3 of the exported calls: read back, they answer and leave what the rules say. Assumes nothing.
-use Rattle.std.specs.Prelude.{◌≡◌, ◌+◌, ◌-◌, ◌&&◌}
+use Rattle.std.specs.Prelude.{◌≡◌, ◌+◌, ◌-◌, ◌&&◌, Result, Ok, Err}
 use Rattle.state.proofs.Prelude.{refl, sym, ap, ap₂, ◌∙◌, subst, Bool, true, false, List, ℕ, suc, arith, eqb, ltb, pos, negsuc, by_cond, when, unless, Refusal, Broken, QuestionOpen, NoSuchQuestion, Zero, ArenasOff, Range, NotWhole, NotInside, PastEnd, NoRun, CommitRefused, ChunkCount, TableFull, MemoryRefused, NoWholeChunk, HostRefused, Arena, Settings, State, Question, Idle, Committing, Purging, Reserving, GivingBack, Waiting, Reserve, Claim, Kind, AskCommit, AskPurge, AskMemory, Answer, Asks, Registered, Claimed, Released, Area, World, Outcome, size_of, world_of, after, sound, ask_memory, with_record, with_stamps, is_for, counted, fail_reply, resume, answer_to, answer_of as answer_on, Act, claim, release, sweep, Query, Call, act, query, answer, stays_pending, sweep_of, sweeps_none, act_on, query_on, rules, step}
 use Rattle.refusals.specs.declared.Refusal.TheVariants.{TablesOverlap, TooManyArenas, ListLength}
 use Rattle.refusals.specs.Number.{number}
 use Rattle.arena.proofs.FlagLaws.{flag-read}
 use Rattle.layer.specs.declared.Ask.TheVariants.{AskGiveBack}
 use Rattle.layer.specs.declared.Answer.TheVariants.{Refused, Swept, Owns}
-use Rattle.layer.specs.declared.JoinAnswer.{JoinAnswer}
-use Rattle.layer.specs.declared.JoinAnswer.TheVariants.{NotJoined, Joined}
 use Rattle.layer.specs.World.{outcome}
 use Rattle.layer.specs.Step.{reserve, manage, adopt, owns, area, step_on}
 use Rattle.layer.specs.Listing.{Items, ListOutcome, list_outcome, release_list}
@@ -164,18 +162,18 @@ reply-state (Swept count) st = refl
 reply-state (Owns whether) st = refl
 reply-state (Area base bytes) st = refl
 
-join-answer-read : (r : JoinAnswer) (f g : StateNumbers) → join_answer_of (join_answer_numbers r f g) ≡ r
-join-answer-read (NotJoined why) f g = let n : IsRefusal why = is-refusal why in unless (eqb (number why) 0) _ _ n.0 ∙ ap NotJoined n.2
-join-answer-read (Joined rise) f g = refl
+join-answer-read : (r : Result ℕ Refusal) (f g : StateNumbers) → join_answer_of (join_answer_numbers r f g) ≡ r
+join-answer-read (Err why) f g = let n : IsRefusal why = is-refusal why in unless (eqb (number why) 0) _ _ n.0 ∙ ap Err n.2
+join-answer-read (Ok rise) f g = refl
 
 -- and a join's has those of both
-first-state : (r : JoinAnswer) (f g : StateNumbers) → (join_answer_numbers r f g).first ≡ f
-first-state (NotJoined why) f g = refl
-first-state (Joined rise) f g = refl
+first-state : (r : Result ℕ Refusal) (f g : StateNumbers) → (join_answer_numbers r f g).first ≡ f
+first-state (Err why) f g = refl
+first-state (Ok rise) f g = refl
 
-second-state : (r : JoinAnswer) (f g : StateNumbers) → (join_answer_numbers r f g).second ≡ g
-second-state (NotJoined why) f g = refl
-second-state (Joined rise) f g = refl
+second-state : (r : Result ℕ Refusal) (f g : StateNumbers) → (join_answer_numbers r f g).second ≡ g
+second-state (Err why) f g = refl
+second-state (Ok rise) f g = refl
 
 settings-read : (s : Settings) → settings_of (settings_numbers s) ≡ s
 unfolding settings_of

@@ -1,6 +1,6 @@
 -- The test of numbers field by field says whether they are a state's. Assumes nothing.
 use Rattle.std.specs.Prelude.{◌≡◌, ◌&&◌, ◌||◌, ◌<◌, ◌≤◌}
-use Rattle.state.proofs.Prelude.{refl, sym, ap, ap₂, ◌∙◌, subst, Bool, true, false, cond, true≢false, ℕ, arith, eqb-true, leb-true, leb-false, eq-eqb, ne_eqb, le-leb, lt-leb, eqb, leb, when, unless, by_cond, same, and_both, as_flag, State, Question, Idle, Committing, Purging, Reserving, GivingBack, Waiting, Reserve, Claim, Unusable, Count, Misaligned, Full}
+use Rattle.state.proofs.Prelude.{refl, sym, ap, ap₂, ◌∙◌, subst, Bool, true, false, cond, true≢false, ℕ, arith, eqb-true, leb-true, leb-false, eqb, leb, by_cond, same, and_both, as_flag, State, Question, Idle, Committing, Purging, Reserving, GivingBack, Waiting, Reserve, Claim, Unusable, Count, Misaligned, Full}
 use borrow.Author.Tests.{eqb-false}
 use Rattle.layer.specs.World.{state_with}
 use Rattle.surface.specs.declared.StateNumbers.{StateNumbers}
@@ -199,18 +199,5 @@ module _ (f : StateNumbers) where
       asks-passes p.0 (leb-false f.question 2 g) (leb-true f.question 4 q.0) q.1))
       p.1
 
-  says : fieldwise f ≡ is_state f
-  says = same (fieldwise f) (is_state f) passes (λ e. subst (λ (g : StateNumbers). fieldwise g ≡ true) (state-written f e) (state-passes (state_of f)))
-
-  -- ---- by the question
-
-  pub calm-says : f.question ≡ 0 → leb f.mark 1 && is_calm f ≡ is_state f
-  calm-says e = ap (◌&&◌ (leb f.mark 1)) (sym (when (eqb f.question 0) _ _ (eq-eqb f.question 0 e))) ∙ says
-
-  pub placed-says : (f.question ≡ 0 → ⊥) → f.question ≤ 2 → leb f.mark 1 && is_placed f ≡ is_state f
-  placed-says n l =
-      ap (◌&&◌ (leb f.mark 1)) (sym (unless (eqb f.question 0) _ _ (ne_eqb f.question 0 n) ∙ when (leb f.question 2) _ _ (le-leb f.question 2 l))) ∙ says
-
-  pub asks-says : (f.question ≡ 0 → ⊥) → 2 < f.question → leb f.mark 1 && (leb f.question 4 && is_of_memory f) ≡ is_state f
-  asks-says n l =
-      ap (◌&&◌ (leb f.mark 1)) (sym (unless (eqb f.question 0) _ _ (ne_eqb f.question 0 n) ∙ unless (leb f.question 2) _ _ (lt-leb f.question 2 l))) ∙ says
+  pub state_by_fields : is_state f ≡ fieldwise f
+  state_by_fields = same (is_state f) (fieldwise f) (λ e. subst (λ (g : StateNumbers). fieldwise g ≡ true) (state-written f e) (state-passes (state_of f))) passes

@@ -1,6 +1,6 @@
 -- The exported calls as a layer: the state and the settings are written in numbers, the call is made as include/sirqobal.h declares it, and its reply is read back. So
 -- demand 3 is stated of what people link. Assumes nothing.
-use Rattle.std.specs.Prelude.{cond, ℕ, eqb}
+use Rattle.std.specs.Prelude.{cond, ℕ, eqb, Result, Ok, Err}
 use Rattle.refusals.specs.declared.Refusal.{Refusal}
 use Rattle.refusals.specs.declared.Refusal.TheVariants.{Broken, QuestionOpen, NoSuchQuestion, Zero, ArenasOff, Range, NotWhole, NotInside, PastEnd, NoRun, CommitRefused, ChunkCount, TableFull, MemoryRefused, NoWholeChunk, HostRefused, TablesOverlap, TooManyArenas, ListLength}
 use Rattle.arena.specs.Flags.{as_flag}
@@ -13,8 +13,6 @@ use Rattle.layer.specs.declared.Ask.{Ask}
 use Rattle.layer.specs.declared.Ask.TheVariants.{AskCommit, AskPurge, AskMemory, AskGiveBack}
 use Rattle.layer.specs.declared.Answer.{Answer}
 use Rattle.layer.specs.declared.Answer.TheVariants.{Refused, Asks, Registered, Claimed, Released, Swept, Owns, Area}
-use Rattle.layer.specs.declared.JoinAnswer.{JoinAnswer}
-use Rattle.layer.specs.declared.JoinAnswer.TheVariants.{NotJoined, Joined}
 use Rattle.layer.specs.World.{World, Outcome, outcome, world_of}
 use Rattle.layer.specs.Step.{Act, reserve, manage, adopt, claim, release, sweep, Query, owns, area, Call, act, query, answer}
 use Rattle.layer.specs.Listing.{ListOutcome, list_outcome}
@@ -114,8 +112,8 @@ abbrev pub answer_of : Grant → ReplyNumbers → Answer
 answer_of g r = cond (eqb r.number 0) (granting g r) (cond (eqb r.number 255) (Asks (ask_of r)) (Refused (refusal_of r.number)))
 
 -- of a join: 0 joined, else the refusal
-abbrev pub join_answer_of : JoinNumbers → JoinAnswer
-join_answer_of r = cond (eqb r.number 0) (Joined r.rise) (NotJoined (refusal_of r.number))
+abbrev pub join_answer_of : JoinNumbers → Result ℕ Refusal
+join_answer_of r = cond (eqb r.number 0) (Ok r.rise) (Err (refusal_of r.number))
 
 -- ---- the layer
 

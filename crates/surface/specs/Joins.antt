@@ -1,10 +1,9 @@
 -- A join of two tables in numbers, as include/sirqobal.h declares it. Assumes nothing.
-use Rattle.std.specs.Prelude.{◌≡◌, cond, ◌&&◌, List, ℕ}
+use Rattle.std.specs.Prelude.{◌≡◌, cond, ◌&&◌, List, ℕ, Result, Ok, Err}
+use Rattle.refusals.specs.declared.Refusal.{Refusal}
 use Rattle.refusals.specs.declared.Refusal.TheVariants.{Broken}
 use Rattle.refusals.specs.Number.{number}
 use Rattle.arena.specs.declared.Arena.{Arena}
-use Rattle.layer.specs.declared.JoinAnswer.{JoinAnswer}
-use Rattle.layer.specs.declared.JoinAnswer.TheVariants.{NotJoined, Joined}
 use Rattle.layer.specs.declared.JoinReply.{JoinReply}
 use Rattle.layer.specs.World.{world_of}
 use Rattle.layer.specs.Joining.{JoinOutcome, join}
@@ -17,13 +16,13 @@ use Rattle.surface.specs.declared.joins.JoinNumbers.{JoinNumbers}
 -- ---- the answer
 
 -- 0 and the rise, or the refusal's number and 0; the states of the two tables
-abbrev pub join_answer_numbers : JoinAnswer → StateNumbers → StateNumbers → JoinNumbers
-join_answer_numbers (NotJoined why) f g = record { number = number why; spare = 0; rise = 0; first = f; second = g }
-join_answer_numbers (Joined rise) f g = record { number = 0; spare = 0; rise = rise; first = f; second = g }
+abbrev pub join_answer_numbers : Result ℕ Refusal → StateNumbers → StateNumbers → JoinNumbers
+join_answer_numbers (Err why) f g = record { number = number why; spare = 0; rise = 0; first = f; second = g }
+join_answer_numbers (Ok rise) f g = record { number = 0; spare = 0; rise = rise; first = f; second = g }
 
 -- row 1, with all as it came
 abbrev pub broken_join : StateNumbers → StateNumbers → JoinNumbers
-broken_join = join_answer_numbers (NotJoined Broken)
+broken_join = join_answer_numbers (Err Broken)
 
 unfoldable pub join_reply_of : JoinReply → JoinNumbers
 join_reply_of r = join_answer_numbers r.answer (numbers_of r.first) (numbers_of r.second)

@@ -3,7 +3,7 @@ ghost use Rattle.std.specs.Prelude.{◌≡◌};
 ghost use Rattle.surface.specs.Joins.{join_answer_numbers, broken_join, join_reply_of};
 
 use crate::StateNumbers;
-use layer::{JoinAnswer, JoinReply};
+use layer::JoinReply;
 use refusals::Refusal;
 
 // The answer, with the states that are left of the two tables: 0 and by how much the second's ids rise, or the
@@ -19,18 +19,22 @@ pub struct JoinNumbers {
     pub second: StateNumbers,
 }
 
-fn join_answer_numbers(answer: JoinAnswer, first: StateNumbers, second: StateNumbers) -> JoinNumbers
+fn join_answer_numbers(
+    answer: Result<usize, Refusal>,
+    first: StateNumbers,
+    second: StateNumbers,
+) -> JoinNumbers
     ensures { result ≡ join_answer_numbers answer first second }
 {
     match answer {
-        JoinAnswer::NotJoined(why) => JoinNumbers {
-            number: refusals::refusal_number(why),
+        Err(why) => JoinNumbers {
+            number: u32::from(why),
             spare: 0,
             rise: 0,
             first,
             second,
         },
-        JoinAnswer::Joined(rise) => JoinNumbers {
+        Ok(rise) => JoinNumbers {
             number: 0,
             spare: 0,
             rise,
@@ -44,17 +48,16 @@ fn join_answer_numbers(answer: JoinAnswer, first: StateNumbers, second: StateNum
 pub fn no_join(f: StateNumbers, g: StateNumbers) -> JoinNumbers
     ensures { result ≡ broken_join f g }
 {
-    join_answer_numbers(JoinAnswer::NotJoined(Refusal::Broken), f, g)
+    join_answer_numbers(Err(Refusal::Broken), f, g)
 }
 
-#[tactic(auto, unfolding(crate::specs::Joins::join_reply_of))]
-pub fn join_reply_of(r: JoinReply) -> JoinNumbers
-    ensures { result ≡ join_reply_of r }
-{
-    let s = r.first;
-    let f = crate::numbers_of(s);
-    let t = r.second;
-    let g = crate::numbers_of(t);
-    let a = r.answer;
-    join_answer_numbers(a, f, g)
+impl From<JoinReply> for JoinNumbers {
+    ghost from_gives = { λ r n. n ≡ join_reply_of r };
+
+    #[tactic(auto, unfolding(crate::specs::Joins::join_reply_of))]
+    fn from(r: JoinReply) -> JoinNumbers {
+        let first = StateNumbers::from(r.first);
+        let second = StateNumbers::from(r.second);
+        join_answer_numbers(r.answer, first, second)
+    }
 }

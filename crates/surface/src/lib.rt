@@ -6,13 +6,13 @@ pub mod joins;
 pub mod reply;
 pub mod told;
 
-ghost use Rattle.std.specs.Prelude.{◌≡◌};
-ghost use Rattle.layer.specs.declared.Question.TheVariants.{Purging};
-ghost use Rattle.arena.specs.Flags.{as_flag};
-ghost use Rattle.surface.specs.Numbers.{sweep_in, waiting_of, cause_of, question_of, state_of, state_numbers, waiting_number, waiting_chunks, waiting_commits, cause_number, question_numbers, numbers_of, is_state};
+ghost use Rattle.std.specs.Prelude.{◌≡◌, cond, Ok, Err};
+ghost use Rattle.refusals.specs.declared.Refusal.TheVariants.{Broken};
+ghost use Rattle.surface.specs.Numbers.{sweep_in, waiting_of, cause_of, question_of, state_of, waiting_number, waiting_chunks, waiting_commits, cause_number, numbers_of, is_state};
 ghost use Rattle.surface.specs.Fields.{no_place, no_memory, no_waiting, no_sweep, is_waiting, is_cause, is_calm, is_placed, is_of_memory};
 
 use layer::{Question, State, Sweep, Unusable, Waiting};
+use refusals::Refusal;
 
 // The state. A flag is 0 or 1; a field that the open question does not use is 0.
 #[repr(C)]
@@ -40,6 +40,28 @@ pub struct StateNumbers {
     pub purged: usize,
 }
 
+// A state of which nothing is said: no arena, no mark and no question.
+const ZEROS: StateNumbers = StateNumbers {
+    count: 0,
+    mark: 0,
+    question: 0,
+    id: 0,
+    start: 0,
+    n: 0,
+    chunks: 0,
+    bytes: 0,
+    commit: 0,
+    exclusive: 0,
+    waiting: 0,
+    commits: 0,
+    cause: 0,
+    force: 0,
+    now: 0,
+    delay: 0,
+    decommit: 0,
+    purged: 0,
+};
+
 // ---- the state, read from numbers
 
 fn sweep_of(f: StateNumbers) -> Sweep
@@ -57,106 +79,81 @@ fn sweep_of(f: StateNumbers) -> Sweep
 fn waiting_of(f: StateNumbers) -> Waiting
     ensures { result ≡ waiting_of f }
 {
-    let waiting = f.waiting;
-    if waiting == 1 {
-        let commits = f.commits == 1;
-        return Waiting::Claim { n: f.n, commits };
+    match f.waiting {
+        1 => Waiting::Claim {
+            n: f.n,
+            commits: f.commits == 1,
+        },
+        _ => Waiting::Reserve,
     }
-    Waiting::Reserve
 }
 
 fn cause_of(cause: u32) -> Unusable
     ensures { result ≡ cause_of cause }
 {
-    if cause == 12 {
-        return Unusable::Count;
+    match cause {
+        12 => Unusable::Count,
+        7 => Unusable::Misaligned,
+        _ => Unusable::Full,
     }
-    if cause == 7 {
-        return Unusable::Misaligned;
-    }
-    Unusable::Full
 }
 
 fn question_of(f: StateNumbers) -> Question
     ensures { result ≡ question_of f }
 {
-    let kind = f.question;
-    if kind == 1 {
-        return Question::Committing {
+    match f.question {
+        1 => Question::Committing {
             id: f.id,
             start: f.start,
             n: f.n,
-        };
-    }
-    if kind == 2 {
-        let sweep = sweep_of(f);
-        return Question::Purging {
+        },
+        2 => Question::Purging {
             id: f.id,
             chunk: f.start,
-            sweep,
-        };
-    }
-    if kind == 3 {
-        let commit = f.commit == 1;
-        let exclusive = f.exclusive == 1;
-        let waiting = waiting_of(f);
-        return Question::Reserving {
+            sweep: sweep_of(f),
+        },
+        3 => Question::Reserving {
             chunks: f.chunks,
             bytes: f.bytes,
-            commit,
-            exclusive,
-            waiting,
-        };
+            commit: f.commit == 1,
+            exclusive: f.exclusive == 1,
+            waiting: waiting_of(f),
+        },
+        4 => Question::GivingBack {
+            cause: cause_of(f.cause),
+            waiting: waiting_of(f),
+        },
+        _ => Question::Idle,
     }
-    if kind == 4 {
-        let cause = cause_of(f.cause);
-        let waiting = waiting_of(f);
-        return Question::GivingBack { cause, waiting };
-    }
-    Question::Idle
 }
 
+// Of numbers that are no state's too.
 #[tactic(auto, unfolding(crate::specs::Numbers::state_of))]
 pub fn state_of(f: StateNumbers) -> State
     ensures { result ≡ state_of f }
 {
-    let mark = f.mark == 1;
-    let question = question_of(f);
     State {
         count: f.count,
-        mark,
-        question,
+        mark: f.mark == 1,
+        question: question_of(f),
+    }
+}
+
+// Numbers that are no state's are a broken table's.
+impl TryFrom<StateNumbers> for State {
+    type Error = Refusal;
+
+    ghost try_from_gives = { λ f r. r ≡ cond (is_state f) (Ok (state_of f)) (Err Broken) };
+
+    fn try_from(f: StateNumbers) -> Result<State, Refusal> {
+        if !is_state(f) {
+            return Err(Refusal::Broken);
+        }
+        Ok(state_of(f))
     }
 }
 
 // ---- the state, written in numbers
-
-fn waits(w: Waiting) -> u32
-    ensures { result ≡ waiting_number w }
-{
-    match w {
-        Waiting::Reserve => 0,
-        Waiting::Claim { .. } => 1,
-    }
-}
-
-fn waiting_chunks(w: Waiting) -> usize
-    ensures { result ≡ waiting_chunks w }
-{
-    match w {
-        Waiting::Reserve => 0,
-        Waiting::Claim { n, .. } => n,
-    }
-}
-
-fn waiting_commits(w: Waiting) -> u32
-    ensures { result ≡ waiting_commits w }
-{
-    match w {
-        Waiting::Reserve => 0,
-        Waiting::Claim { commits, .. } => arena::as_flag(commits),
-    }
-}
 
 // 12, 7 or 13.
 fn cause_number(cause: Unusable) -> u32
@@ -169,132 +166,83 @@ fn cause_number(cause: Unusable) -> u32
     }
 }
 
-// No question, or one about chunks of an arena.
-fn place_numbers(
-    count: usize,
-    mark: u32,
-    question: u32,
-    id: usize,
-    start: usize,
-    n: usize,
-) -> StateNumbers
-    ensures { result ≡ state_numbers count mark question id start n 0 0 0 0 0 0 0 0 0 0 0 0 }
+// With who waits for memory.
+fn with_waiting(f: StateNumbers, w: Waiting) -> StateNumbers
+    ensures { result ≡ record f { n = waiting_chunks w; waiting = waiting_number w; commits = waiting_commits w } }
 {
-    StateNumbers {
-        count,
-        mark,
-        question,
-        id,
-        start,
-        n,
-        chunks: 0,
-        bytes: 0,
-        commit: 0,
-        exclusive: 0,
-        waiting: 0,
-        commits: 0,
-        cause: 0,
-        force: 0,
-        now: 0,
-        delay: 0,
-        decommit: 0,
-        purged: 0,
+    match w {
+        Waiting::Reserve => StateNumbers {
+            n: 0,
+            waiting: 0,
+            commits: 0,
+            ..f
+        },
+        Waiting::Claim { n, commits } => StateNumbers {
+            n,
+            waiting: 1,
+            commits: arena::as_flag(commits),
+            ..f
+        },
     }
 }
 
-// A question that a sweep put.
-fn sweep_numbers(count: usize, mark: u32, id: usize, chunk: usize, w: Sweep) -> StateNumbers
-    ensures { result ≡ question_numbers count mark (Purging id chunk w) }
-{
-    StateNumbers {
-        count,
-        mark,
-        question: 2,
-        id,
-        start: chunk,
-        n: 0,
-        chunks: 0,
-        bytes: 0,
-        commit: 0,
-        exclusive: 0,
-        waiting: 0,
-        commits: 0,
-        cause: 0,
-        force: w.force as u32,
-        now: w.now,
-        delay: w.delay,
-        decommit: w.decommit as u32,
-        purged: w.purged,
-    }
-}
+impl From<State> for StateNumbers {
+    ghost from_gives = { λ s f. f ≡ numbers_of s };
 
-// A question about memory, for which somebody waits.
-fn memory_numbers(
-    count: usize,
-    mark: u32,
-    question: u32,
-    chunks: u64,
-    bytes: u64,
-    commit: bool,
-    exclusive: bool,
-    waiting: Waiting,
-    cause: u32,
-) -> StateNumbers
-    ensures { result ≡ state_numbers count mark question 0 0 (waiting_chunks waiting) chunks bytes (as_flag commit) (as_flag exclusive) (waiting_number waiting) (waiting_commits waiting) cause 0 0 0 0 0 }
-{
-    let n = waiting_chunks(waiting);
-    let w = waits(waiting);
-    let commits = waiting_commits(waiting);
-    StateNumbers {
-        count,
-        mark,
-        question,
-        id: 0,
-        start: 0,
-        n,
-        chunks,
-        bytes,
-        commit: commit as u32,
-        exclusive: exclusive as u32,
-        waiting: w,
-        commits,
-        cause,
-        force: 0,
-        now: 0,
-        delay: 0,
-        decommit: 0,
-        purged: 0,
-    }
-}
-
-fn question_numbers(count: usize, mark: u32, q: Question) -> StateNumbers
-    ensures { result ≡ question_numbers count mark q }
-{
-    match q {
-        Question::Idle => place_numbers(count, mark, 0, 0, 0, 0),
-        Question::Committing { id, start, n } => place_numbers(count, mark, 1, id, start, n),
-        Question::Purging { id, chunk, sweep } => sweep_numbers(count, mark, id, chunk, sweep),
-        Question::Reserving {
-            chunks,
-            bytes,
-            commit,
-            exclusive,
-            waiting,
-        } => memory_numbers(count, mark, 3, chunks, bytes, commit, exclusive, waiting, 0),
-        Question::GivingBack { cause, waiting } => {
-            let why = cause_number(cause);
-            memory_numbers(count, mark, 4, 0, 0, false, false, waiting, why)
+    #[tactic(auto, unfolding(crate::specs::Numbers::numbers_of))]
+    fn from(s: State) -> StateNumbers {
+        let calm = StateNumbers {
+            count: s.count,
+            mark: arena::as_flag(s.mark),
+            ..ZEROS
+        };
+        match s.question {
+            Question::Idle => calm,
+            Question::Committing { id, start, n } => StateNumbers {
+                question: 1,
+                id,
+                start,
+                n,
+                ..calm
+            },
+            Question::Purging { id, chunk, sweep } => StateNumbers {
+                question: 2,
+                id,
+                start: chunk,
+                force: arena::as_flag(sweep.force),
+                now: sweep.now,
+                delay: sweep.delay,
+                decommit: arena::as_flag(sweep.decommit),
+                purged: sweep.purged,
+                ..calm
+            },
+            Question::Reserving {
+                chunks,
+                bytes,
+                commit,
+                exclusive,
+                waiting,
+            } => {
+                let asks = StateNumbers {
+                    question: 3,
+                    chunks,
+                    bytes,
+                    commit: arena::as_flag(commit),
+                    exclusive: arena::as_flag(exclusive),
+                    ..calm
+                };
+                with_waiting(asks, waiting)
+            }
+            Question::GivingBack { cause, waiting } => {
+                let gives_back = StateNumbers {
+                    question: 4,
+                    cause: cause_number(cause),
+                    ..calm
+                };
+                with_waiting(gives_back, waiting)
+            }
         }
     }
-}
-
-#[tactic(auto, unfolding(crate::specs::Numbers::numbers_of))]
-pub fn numbers_of(s: State) -> StateNumbers
-    ensures { result ≡ numbers_of s }
-{
-    let mark = s.mark as u32;
-    let q = s.question;
-    question_numbers(s.count, mark, q)
 }
 
 // ---- whether numbers are a state's: by the question, the fields that it uses are in order and the rest are 0
@@ -384,6 +332,7 @@ fn is_of_memory(f: StateNumbers) -> bool
     others & memory & cause
 }
 
+#[tactic(auto, using(crate::proofs::FieldLaws::state_by_fields))]
 pub fn is_state(f: StateNumbers) -> bool
     ensures { result ≡ is_state f }
 {

@@ -1,6 +1,6 @@
 // The layer's answers in numbers: what the C surface hands out. include/sirqobal.h declares the struct.
-ghost use Rattle.std.specs.Prelude.{◌≡◌, false};
-ghost use Rattle.surface.specs.Replies.{reply_numbers, ask_numbers, answer_numbers, broken_numbers, reply_of};
+ghost use Rattle.std.specs.Prelude.{◌≡◌};
+ghost use Rattle.surface.specs.Replies.{ask_numbers, answer_numbers, broken_numbers, reply_of};
 
 use crate::StateNumbers;
 use layer::{Answer, Ask, Reply};
@@ -28,130 +28,102 @@ pub struct ReplyNumbers {
     pub state: StateNumbers,
 }
 
-fn refused(number: u32, state: StateNumbers) -> ReplyNumbers
-    ensures { result ≡ reply_numbers number 0 0 0 0 0 0 false false false false false false state }
-{
-    ReplyNumbers {
-        number,
-        kind: 0,
-        address: 0,
-        bytes: 0,
-        align: 0,
-        id: 0,
-        count: 0,
-        fresh: false,
-        committed: false,
-        owns: false,
-        decommit: false,
-        commit: false,
-        large: false,
-        spare: 0,
-        state,
-    }
-}
-
-fn asked(
-    kind: u32,
-    address: u64,
-    bytes: u64,
-    align: u64,
-    decommit: bool,
-    commit: bool,
-    large: bool,
-    state: StateNumbers,
-) -> ReplyNumbers
-    ensures { result ≡ reply_numbers 255 kind address bytes align 0 0 false false false decommit commit large state }
-{
-    ReplyNumbers {
-        number: 255,
-        kind,
-        address,
-        bytes,
-        align,
-        id: 0,
-        count: 0,
-        fresh: false,
-        committed: false,
-        owns: false,
-        decommit,
-        commit,
-        large,
-        spare: 0,
-        state,
-    }
-}
-
-fn granted(
-    address: u64,
-    bytes: u64,
-    id: usize,
-    count: usize,
-    fresh: bool,
-    committed: bool,
-    owns: bool,
-    state: StateNumbers,
-) -> ReplyNumbers
-    ensures { result ≡ reply_numbers 0 0 address bytes 0 id count fresh committed owns false false false state }
-{
-    ReplyNumbers {
-        number: 0,
-        kind: 0,
-        address,
-        bytes,
-        align: 0,
-        id,
-        count,
-        fresh,
-        committed,
-        owns,
-        decommit: false,
-        commit: false,
-        large: false,
-        spare: 0,
-        state,
-    }
-}
+// A grant of nothing, on the state of which nothing is said.
+const NOTHING: ReplyNumbers = ReplyNumbers {
+    number: 0,
+    kind: 0,
+    address: 0,
+    bytes: 0,
+    align: 0,
+    id: 0,
+    count: 0,
+    fresh: false,
+    committed: false,
+    owns: false,
+    decommit: false,
+    commit: false,
+    large: false,
+    spare: 0,
+    state: crate::ZEROS,
+};
 
 fn ask_numbers(ask: Ask, state: StateNumbers) -> ReplyNumbers
     ensures { result ≡ ask_numbers ask state }
 {
+    let asks = ReplyNumbers {
+        number: 255,
+        state,
+        ..NOTHING
+    };
     match ask {
-        Ask::AskCommit { address, bytes } => asked(
-            1, address, bytes, 0, false, false, false, state,
-        ),
+        Ask::AskCommit { address, bytes } => ReplyNumbers {
+            kind: 1,
+            address,
+            bytes,
+            ..asks
+        },
         Ask::AskPurge {
             address,
             bytes,
             decommit,
-        } => asked(2, address, bytes, 0, decommit, false, false, state),
+        } => ReplyNumbers {
+            kind: 2,
+            address,
+            bytes,
+            decommit,
+            ..asks
+        },
         Ask::AskMemory {
             bytes,
             align,
             commit,
             large,
-        } => asked(3, 0, bytes, align, false, commit, large, state),
-        Ask::AskGiveBack { address, bytes } => asked(
-            4, address, bytes, 0, false, false, false, state,
-        ),
+        } => ReplyNumbers {
+            kind: 3,
+            bytes,
+            align,
+            commit,
+            large,
+            ..asks
+        },
+        Ask::AskGiveBack { address, bytes } => ReplyNumbers {
+            kind: 4,
+            address,
+            bytes,
+            ..asks
+        },
     }
 }
 
 fn answer_numbers(answer: Answer, state: StateNumbers) -> ReplyNumbers
     ensures { result ≡ answer_numbers answer state }
 {
+    let done = ReplyNumbers { state, ..NOTHING };
     match answer {
-        Answer::Refused(why) => refused(refusals::refusal_number(why), state),
+        Answer::Refused(why) => ReplyNumbers {
+            number: u32::from(why),
+            ..done
+        },
         Answer::Asks(ask) => ask_numbers(ask, state),
-        Answer::Registered(id) => granted(0, 0, id, 0, false, false, false, state),
+        Answer::Registered(id) => ReplyNumbers { id, ..done },
         Answer::Claimed {
             address,
             fresh,
             committed,
-        } => granted(address, 0, 0, 0, fresh, committed, false, state),
-        Answer::Released => granted(0, 0, 0, 0, false, false, false, state),
-        Answer::Swept(count) => granted(0, 0, 0, count, false, false, false, state),
-        Answer::Owns(owns) => granted(0, 0, 0, 0, false, false, owns, state),
-        Answer::Area { base, bytes } => granted(base, bytes, 0, 0, false, false, false, state),
+        } => ReplyNumbers {
+            address,
+            fresh,
+            committed,
+            ..done
+        },
+        Answer::Released => done,
+        Answer::Swept(count) => ReplyNumbers { count, ..done },
+        Answer::Owns(owns) => ReplyNumbers { owns, ..done },
+        Answer::Area { base, bytes } => ReplyNumbers {
+            address: base,
+            bytes,
+            ..done
+        },
     }
 }
 
@@ -166,16 +138,14 @@ pub fn no_state(f: StateNumbers) -> ReplyNumbers
 pub fn answered(r: Reply, f: StateNumbers) -> ReplyNumbers
     ensures { result ≡ answer_numbers r.answer f }
 {
-    let a = r.answer;
-    answer_numbers(a, f)
+    answer_numbers(r.answer, f)
 }
 
-#[tactic(auto, unfolding(crate::specs::Replies::reply_of))]
-pub fn reply_of(r: Reply) -> ReplyNumbers
-    ensures { result ≡ reply_of r }
-{
-    let s = r.state;
-    let g = crate::numbers_of(s);
-    let a = r.answer;
-    answer_numbers(a, g)
+impl From<Reply> for ReplyNumbers {
+    ghost from_gives = { λ r n. n ≡ reply_of r };
+
+    #[tactic(auto, unfolding(crate::specs::Replies::reply_of))]
+    fn from(r: Reply) -> ReplyNumbers {
+        answer_numbers(r.answer, StateNumbers::from(r.state))
+    }
 }

@@ -17,20 +17,22 @@ pub struct SettingsNumbers {
     pub page: u64,
 }
 
-#[tactic(auto, unfolding(crate::specs::Told::settings_of))]
-pub fn settings_of(s: SettingsNumbers) -> Settings
-    ensures { result ≡ settings_of s }
-{
-    let decommits = arena::is_on(s.decommits);
-    let off = arena::is_on(s.off);
-    Settings {
-        delay: s.delay,
-        decommits,
-        off,
-        reserve: s.reserve,
-        page: s.page,
+impl From<SettingsNumbers> for Settings {
+    ghost from_gives = { λ s t. t ≡ settings_of s };
+
+    #[tactic(auto, unfolding(crate::specs::Told::settings_of))]
+    fn from(s: SettingsNumbers) -> Settings {
+        Settings {
+            delay: s.delay,
+            decommits: arena::is_on(s.decommits),
+            off: arena::is_on(s.off),
+            reserve: s.reserve,
+            page: s.page,
+        }
     }
 }
+
+// The next two are no `From`: neither of their types is of this crate.
 
 // Negative: nothing is said of the run's commitment; 0: it is not committed; positive: it is.
 pub fn told_of(told: i32) -> Commitment
@@ -48,17 +50,11 @@ pub fn told_of(told: i32) -> Commitment
 pub fn kind_of(kind: u32) -> Kind
     ensures { result ≡ kind_of kind }
 {
-    if kind == 1 {
-        return Kind::ForCommit;
+    match kind {
+        1 => Kind::ForCommit,
+        2 => Kind::ForPurge,
+        3 => Kind::ForMemory,
+        4 => Kind::ForGiveBack,
+        _ => Kind::ForNone,
     }
-    if kind == 2 {
-        return Kind::ForPurge;
-    }
-    if kind == 3 {
-        return Kind::ForMemory;
-    }
-    if kind == 4 {
-        return Kind::ForGiveBack;
-    }
-    Kind::ForNone
 }

@@ -1,6 +1,6 @@
 -- The answer to a purge question: what it is handed, and its two ways. Assumes nothing.
 use Rattle.std.specs.Prelude.{◌≡◌, ◌+◌, ◌-◌, ◌*◌, ◌^◌, ◌<◌, ◌≤◌}
-use Rattle.state.proofs.Prelude.{sym, ap, ◌∙◌, subst, Bool, true, false, List, ℕ, arith, leb-true, ltb-true, ltb, length, set, length-set, bit_at, Found, At, Nothing, and_both, Arena, with_deadline, borrow_chunk, stamps_of, next_deadline, SoundArena, State, Sweep, Reply, Question, Purging, Outcome, size_of, after, Leaves, at, is_at, asked_id, sound_question, purge_reply, visit_at, visit, sweep_from, counted, answer_purge}
+use Rattle.state.proofs.Prelude.{sym, ap, ◌∙◌, subst, Bool, true, List, ℕ, arith, leb-true, ltb-true, ltb, length, set, length-set, bit_at, Option, Some, None, and_both, Arena, with_deadline, borrow_chunk, stamps_of, next_deadline, SoundArena, State, Sweep, Reply, Question, Purging, Outcome, size_of, after, Leaves, at, asked_id, sound_question, purge_reply, visit_at, visit, sweep_from, counted, answer_purge}
 use Rattle.bitmap.specs.Rows.{clear_run}
 use Rattle.arena.specs.Sweeping.{return_chunk}
 use Rattle.arena.proofs.purge.MapLaws.{next-returned, rearm-returned}
@@ -8,8 +8,8 @@ use Rattle.layer.proofs.Tools.{at_same}
 use Rattle.layer.proofs.Kept.{borrow-range, return-range}
 use Rattle.state.specs.Ready.{Asked}
 use Rattle.state.proofs.Entry.{stands, comes}
-use Rattle.sweeping.specs.Visit.{chunk_of, Sweepable, Borrowed}
-use Rattle.sweeping.proofs.VisitLaws.{found-is, none_is, next, next-inside, chunk-room}
+use Rattle.sweeping.specs.Visit.{Sweepable, Borrowed}
+use Rattle.sweeping.proofs.VisitLaws.{next, next-inside, chunk-room}
 use Rattle.sweeping.proofs.SweepLaws.{sweepable, ranged-put, purge-base}
 
 -- what row 1 says of an open purge question is what its answer needs
@@ -46,9 +46,6 @@ module _ (l : List Arena) (stamps : List ℕ) (state : State) (id chunk : ℕ) (
   pub id-low : id < 32
   id-low = omega (arith, need.registered, need.standing.few)
 
-  pub id-small : id < 1024
-  id-small = omega (arith, id-low)
-
   pub id-lent : id < length l
   id-lent = omega (arith, id-low, need.standing.lent)
 
@@ -66,13 +63,13 @@ module _ (l : List Arena) (stamps : List ℕ) (state : State) (id chunk : ℕ) (
     abbrev back : Arena
     back = return_chunk a chunk granted w.decommit
 
-    abbrev f : Found
+    abbrev f : Option ℕ
     f = next v a own (chunk + 1)
 
     abbrev out : Outcome
     out = answer_purge (size_of state) l stamps state.count state.mark id chunk w granted
 
-    goes : (x : Found) → f ≡ x → out ≡ visit_at (size_of state) stamps state.count state.mark v l id back (sweep_from (size_of state) stamps state.count state.mark v (state.count - (id + 1)) (id + 1)) x
+    goes : (x : Option ℕ) → f ≡ x → out ≡ visit_at (size_of state) stamps state.count state.mark v l id back (sweep_from (size_of state) stamps state.count state.mark v (state.count - (id + 1)) (id + 1)) x
     unfolding visit
     goes x e =
         ap (visit_at (size_of state) stamps state.count state.mark v l id back (sweep_from (size_of state) stamps state.count state.mark v (state.count - (id + 1)) (id + 1)))
@@ -80,31 +77,31 @@ module _ (l : List Arena) (stamps : List ℕ) (state : State) (id chunk : ℕ) (
 
     -- ---- there is a next chunk
 
-    module _ (e : is_at f ≡ true) where
+    module _ (j : ℕ) (e : f ≡ Some j) where
       abbrev b : Arena
-      b = borrow_chunk back (chunk_of f)
+      b = borrow_chunk back j
 
       base_stays : (at (set l id b) id).base ≡ a.base
-      base_stays = ap (λ (x : Arena). x.base) (at_same l id b id-lent) ∙ (borrow-range back (chunk_of f)).0 ∙ (return-range a chunk granted w.decommit).0
+      base_stays = ap (λ (x : Arena). x.base) (at_same l id b id-lent) ∙ (borrow-range back j).0 ∙ (return-range a chunk granted w.decommit).0
 
-      pub next_low : (chunk < 1024) × (chunk_of f < 1024)
-      next_low = (chunk-low, omega (arith, next-inside v a own (chunk + 1) e, chunks-few))
+      pub next_low : (chunk < 1024) × (j < 1024)
+      next_low = (chunk-low, omega (arith, next-inside v a own (chunk + 1) j e, chunks-few))
 
-      pub next_fits : (id < length (set l id b)) × ((at (set l id b) id).base + chunk_of f * size_of state < 2 ^ 64)
+      pub next_fits : (id < length (set l id b)) × ((at (set l id b) id).base + j * size_of state < 2 ^ 64)
       next_fits = (
         subst (λ (n : ℕ). id < n) (sym (length-set l id b)) id-lent,
-        subst (λ (x : ℕ). x + chunk_of f * size_of state < 2 ^ 64) (sym base_stays) (chunk-room (size_of state) a (chunk_of f) (next-inside v a own (chunk + 1) e) arena.range.ends),
+        subst (λ (x : ℕ). x + j * size_of state < 2 ^ 64) (sym base_stays) (chunk-room (size_of state) a j (next-inside v a own (chunk + 1) j e) arena.range.ends),
       )
 
-      pub asks-next : Leaves out (purge_reply (size_of state) state.count state.mark v id (at (set l id b) id) (chunk_of f)) (set l id b) stamps
+      pub asks-next : Leaves out (purge_reply (size_of state) state.count state.mark v id (at (set l id b) id) j) (set l id b) stamps
       asks-next =
           comes out _ (set l id b) stamps
-          (goes (At (chunk_of f)) (found-is f e)
-          ∙ ap (λ (r : Reply). after r (set l id b) stamps) (purge-base (size_of state) state.count state.mark v id back (at (set l id b) id) (chunk_of f) ((return-range a chunk granted w.decommit).0 ∙ sym base_stays)))
+          (goes (Some j) e
+          ∙ ap (λ (r : Reply). after r (set l id b) stamps) (purge-base (size_of state) state.count state.mark v id back (at (set l id b) id) j ((return-range a chunk granted w.decommit).0 ∙ sym base_stays)))
 
     -- ---- there is none
 
-    module _ (e : is_at f ≡ false) where
+    module _ (e : f ≡ None) where
       abbrev c : Arena
       c = with_deadline back (next_deadline a.deadline (clear_run a.pending chunk 1) a.chunks own w.force w.now w.delay)
 
@@ -120,5 +117,5 @@ module _ (l : List Arena) (stamps : List ℕ) (state : State) (id chunk : ℕ) (
       goes_on r m ts =
           subst (λ (o : Outcome). Leaves o r m ts)
           (sym
-          (goes Nothing (none_is f e)
+          (goes None e
           ∙ ap (λ (x : Arena). sweep_from (size_of state) stamps state.count state.mark v (state.count - (id + 1)) (id + 1) (set l id x)) (sym (rearm-returned a chunk own w.force w.now w.delay granted w.decommit))))

@@ -1,8 +1,5 @@
 -- A sweep at one arena as the code makes it, and what its cores are handed. Assumes nothing.
-use Rattle.std.specs.Prelude.{Bool, cond, not, ◌&&◌, ◌||◌, List, ℕ, ◌+◌, ◌*◌, ◌^◌, ◌<◌, ◌≤◌, eqb, length}
-use Rattle.bitmap.specs.declared.runs.Found.{Found}
-use Rattle.bitmap.specs.declared.runs.Found.TheVariants.{At, Nothing}
-use Rattle.clock.specs.Clock.{is_due}
+use Rattle.std.specs.Prelude.{cond, List, ℕ, ◌+◌, ◌*◌, ◌^◌, ◌<◌, ◌≤◌, length, Option, Some, None}
 use Rattle.arena.specs.declared.Arena.{Arena}
 use Rattle.arena.specs.Sweeping.{sweep_due, disarm, next_asked, borrow_chunk, rearm}
 use Rattle.layer.specs.declared.State.{State}
@@ -11,23 +8,14 @@ use Rattle.layer.specs.World.{size_of}
 use Rattle.layer.specs.Table.{at}
 use Rattle.state.specs.Ready.{Standing, Stamped}
 
--- `arena`'s sweep_due, by the deadline alone
-unfoldable pub comes_due : ℕ → Sweep → Bool
-comes_due deadline w = not (eqb deadline 0) && (w.force || is_due deadline w.now)
-
--- of a chunk that was found
-abbrev pub chunk_of : Found → ℕ
-chunk_of (At j) = j
-chunk_of Nothing = 0
-
 -- the chunk of arena a that a sweep asks about as it comes to it; `stamps` are the arena's own
-unfoldable pub asked_at : Sweep → Arena → List ℕ → Found
-asked_at w a stamps = cond (sweep_due a w.force w.now) (next_asked (disarm a) stamps w.force w.now w.delay 0) Nothing
+unfoldable pub asked_at : Sweep → Arena → List ℕ → Option ℕ
+asked_at w a stamps = cond (sweep_due a w.force w.now) (next_asked (disarm a) stamps w.force w.now w.delay 0) None
 
 -- the record a, whose chunk is asked about or none
-abbrev pub left_by : Sweep → Arena → List ℕ → Found → Arena
-left_by w a stamps (At j) = borrow_chunk a j
-left_by w a stamps Nothing = rearm a stamps w.force w.now w.delay
+abbrev pub left_by : Sweep → Arena → List ℕ → Option ℕ → Arena
+left_by w a stamps (Some j) = borrow_chunk a j
+left_by w a stamps None = rearm a stamps w.force w.now w.delay
 
 -- and as the sweep leaves it
 unfoldable pub visited : Sweep → Arena → List ℕ → Arena

@@ -1,3 +1,4 @@
 -- The laws that answers of several functions cite.
 pub mod TurnLaws
 pub mod TableLaws
+pub mod SearchLaws

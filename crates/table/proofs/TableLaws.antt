@@ -1,118 +1,43 @@
 -- The searches over the table and row 1, by what their loops know. S is the size of a chunk. Assumes nothing.
 use Rattle.std.specs.Prelude.{◌≡◌, ◌&&◌, ◌||◌, ◌+◌, ◌*◌, ◌<◌, ◌≤◌}
-use Rattle.state.proofs.Prelude.{refl, sym, ap, ap₂, subst, ◌∙◌, Bool, true, false, not, List, ℕ, arith, ltb-true, ltb-false, leb-true, eqb-true, eqb, leb, ltb, length, bit_at, Found, At, Nothing, all, all-free-of, least-none, and_both, page_size_sound, Arena, bytes_of, end_of, is_inside, clear_past_all, sound_arena, range-facts, State, Question, at, is_at, meets, overlaps, find_arena, asked_id, sound_question, sound_lent, grows, growing}
+use Rattle.state.proofs.Prelude.{refl, sym, ap, ap₂, subst, ◌∙◌, Bool, true, false, not, List, ℕ, arith, ltb-true, ltb-false, leb-true, eqb-true, eqb, leb, ltb, length, Option, all, all-free-of, least-none, and_both, page_size_sound, Arena, bytes_of, end_of, sound_arena, range-facts, State, at, is_some, meets, overlaps, asked_id, sound_question, sound_lent}
 use Rattle.arena.specs.Soundness.{sound_range}
-use Rattle.arena.proofs.SoundLaws.{full-clear, sound-range}
 use Rattle.layer.specs.Table.{apart, sound_table}
 use Rattle.state.specs.Ready.{SoundArenas}
-use Rattle.table.specs.declared.heads.Head.{Head}
+use Rattle.table.specs.declared.ranges.Range.{Range}
 use Rattle.table.specs.declared.spans.Span.{Span}
-use Rattle.table.specs.Heads.{head_of, headed}
-use Rattle.table.specs.Questions.{about_none, first_asked, length_asked, sound_count}
 use Rattle.table.specs.Spans.{outside, CoversAll}
 use Rattle.table.proofs.ranges.RangeLaws.{no-meeting}
-use Rattle.table.proofs.open_question.QuestionLaws.{asks-sound}
-use Rattle.table.proofs.row_parts.FourLaws.{and-1, and-2, and-3, and-4}
-use Rattle.table.proofs.TurnLaws.{Passed, found_at, found_none, all-passed, one-fails}
+use Rattle.table.proofs.TurnLaws.{Passed, all-passed, one-fails}
 
 -- an id below the count is one of the lent records
 pub is-lent : (l : List Arena) (k i : ℕ) → k ≤ length l → i < k → i < length l
 is-lent l k i m h = omega (arith, m, h)
 
+-- the range of a sound record
+pub range-in : (S : ℕ) (a : Arena) → sound_arena S a ≡ true → sound_range S a.base a.chunks ≡ true
+unfolding sound_arena
+range-in S a e = (and_both (sound_range S a.base a.chunks) _ e).0
+
+-- a range that is an arena's
+abbrev pub IsOf : ℕ → Range → Arena → Type 0
+IsOf S r a = (r.base ≡ a.base) × (r.bytes ≡ bytes_of S a)
+
 module _ (S : ℕ) (l : List Arena) where
   abbrev pub sound : ℕ → Bool
   sound i = sound_arena S (at l i)
-
-  -- the range of a sound record
-  pub range-of : (i : ℕ) → sound i ≡ true → sound_range S (at l i).base (at l i).chunks ≡ true
-  unfolding sound_arena
-  range-of i e = (and_both (sound_range S (at l i).base (at l i).chunks) _ e).0
-
-  pub range-by-head : (i : ℕ) (h : Head) → h ≡ head_of (at l i) → sound i ≡ true → sound_range S h.base h.chunks ≡ true
-  range-by-head i h same e = subst (λ (x : Head). sound_range S x.base x.chunks ≡ true) (sym same) (range-of i e)
 
   one-sound : (k : ℕ) → SoundArenas S l k → (i : ℕ) → i < k → sound i ≡ true
   one-sound k arenas i h = all-free-of sound 0 k arenas.1 i (omega arith) (omega (arith, h))
 
   pub range_at : (k : ℕ) → SoundArenas S l k → (i : ℕ) → i < k → sound_range S (at l i).base (at l i).chunks ≡ true
-  range_at k arenas i h = range-of i (one-sound k arenas i h)
+  range_at k arenas i h = range-in S (at l i) (one-sound k arenas i h)
 
-  pub head-range : (k : ℕ) → SoundArenas S l k → (i : ℕ) → i < k → (h : Head) → h ≡ head_of (at l i) → sound_range S h.base h.chunks ≡ true
-  head-range k arenas i lt h same = range-by-head i h same (one-sound k arenas i lt)
+  pub range-there : (k : ℕ) → SoundArenas S l k → (i : ℕ) → i < k → (x : Arena) → x ≡ at l i → sound_range S x.base x.chunks ≡ true
+  range-there k arenas i h x e = subst (λ (a : Arena). sound_range S a.base a.chunks ≡ true) (sym e) (range_at k arenas i h)
 
   pub few-at : (k : ℕ) → all sound 0 k ≡ true → (i : ℕ) → i < k → (at l i).chunks ≤ 1024
-  few-at k e i h = (range-facts S (at l i).base (at l i).chunks (range-of i (all-free-of sound 0 k e i (omega arith) (omega (arith, h))))).few
-
-  -- ---- the searches: an arena's head decides
-
-  module _ (address : ℕ) where
-    abbrev pub inside : ℕ → Bool
-    inside i = is_inside S (at l i) address
-
-    pub inside-by-head : (i : ℕ) (h : Head) (b : Bool) → h ≡ head_of (at l i) → b ≡ is_inside S (headed h) address → inside i ≡ b
-    unfolding is_inside end_of bytes_of
-    inside-by-head i h b same e = subst (λ (x : Head). is_inside S (headed x) address ≡ b) same (sym e)
-
-    pub arena-at : (k i : ℕ) → i < k → Passed false inside i → inside i ≡ true → At i ≡ find_arena S l k address
-    unfolding find_arena
-    arena-at k i h p e = found_at inside k i h p e
-
-    pub no-arena : (k : ℕ) → Passed false inside k → Nothing ≡ find_arena S l k address
-    unfolding find_arena
-    no-arena k p = found_none inside k p
-
-  module _ (base bytes : ℕ) where
-    abbrev pub met : ℕ → Bool
-    met i = meets S (at l i) base bytes
-
-    pub met-by-head : (i : ℕ) (h : Head) (b : Bool) → h ≡ head_of (at l i) → b ≡ meets S (headed h) base bytes → met i ≡ b
-    unfolding meets end_of bytes_of
-    met-by-head i h b same e = subst (λ (x : Head). meets S (headed x) base bytes ≡ b) same (sym e)
-
-    pub overlap-at : (k i : ℕ) → i < k → Passed false met i → met i ≡ true → true ≡ overlaps S l k base bytes
-    unfolding overlaps
-    overlap-at k i h p e = ap is_at (found_at met k i h p e)
-
-    pub no-overlap : (k : ℕ) → Passed false met k → false ≡ overlaps S l k base bytes
-    unfolding overlaps
-    no-overlap k p = ap is_at (found_none met k p)
-
-  module _ (address n : ℕ) where
-    abbrev pub continued : ℕ → Bool
-    continued i = grows S (at l i) address n
-
-    pub continued-by-head : (i : ℕ) (h : Head) (b : Bool) → h ≡ head_of (at l i) → b ≡ grows S (headed h) address n → continued i ≡ b
-    unfolding grows end_of bytes_of
-    continued-by-head i h b same e = subst (λ (x : Head). grows S (headed x) address n ≡ b) same (sym e)
-
-    pub growing-at : (k i : ℕ) → i < k → Passed false continued i → continued i ≡ true → At i ≡ growing S l k address n
-    growing-at k i h p e = found_at continued k i h p e
-
-    pub none-growing : (k : ℕ) → Passed false continued k → Nothing ≡ growing S l k address n
-    none-growing k p = found_none continued k p
-
-  -- ---- one record
-
-  module _ (i : ℕ) (h : Head) (same : h ≡ head_of (at l i)) where
-    range-too : (b : Bool) → sound_range S h.base h.chunks ≡ b → sound_range S (at l i).base (at l i).chunks ≡ b
-    range-too b e = subst (λ (x : Head). sound_range S x.base x.chunks ≡ b) same e
-
-    pub chunks-too : h.chunks ≡ (at l i).chunks
-    chunks-too = ap (λ (x : Head). x.chunks) same
-
-    pub no-range : sound_range S h.base h.chunks ≡ false → false ≡ sound i
-    unfolding sound_arena
-    no-range e = sym (ap (λ (b : Bool). b && clear_past_all (at l i)) (range-too false e))
-
-    pub tails-decide : sound_range S h.base h.chunks ≡ true → clear_past_all (at l i) ≡ sound i
-    tails-decide e = sound-range S (at l i) (range-too true e)
-
-    pub full-sound : sound_range S h.base h.chunks ≡ true → leb 1024 h.chunks ≡ true → true ≡ sound i
-    full-sound e f =
-        let most : 1024 ≤ h.chunks = leb-true 1024 h.chunks f in
-        let few : (at l i).chunks ≤ 1024 = (range-facts S (at l i).base (at l i).chunks (range-too true e)).few in
-        let both : h.chunks ≡ (at l i).chunks = chunks-too in
-        sym (full-clear (at l i) (omega (arith, most, few, both))) ∙ tails-decide e
+  few-at k e i h = (range-facts S (at l i).base (at l i).chunks (range-in S (at l i) (all-free-of sound 0 k e i (omega arith) (omega (arith, h))))).few
 
   -- ---- apart
 
@@ -120,20 +45,29 @@ module _ (S : ℕ) (l : List Arena) where
   abbrev pub alone : ℕ → Bool
   alone j = not (overlaps S l j (at l j).base ((at l j).chunks * S))
 
-  pub alone-by-head : (j : ℕ) (h : Head) (b : Bool) → h ≡ head_of (at l j) → b ≡ not (overlaps S l j h.base (h.chunks * S)) → alone j ≡ b
-  alone-by-head j h b same e = subst (λ (x : Head). not (overlaps S l j x.base (x.chunks * S)) ≡ b) same (sym e)
-
   apart-is : (k : ℕ) → all alone 0 k ≡ apart S l k
   unfolding apart bytes_of
   apart-is k = refl
 
+  -- the same of a range that is its own, where the record is read as a
+  pub alone-by : (j : ℕ) (a : Arena) → a ≡ at l j → (r : Range) → IsOf S r a → alone j ≡ not (overlaps S l j r.base r.bytes)
+  unfolding bytes_of
+  alone-by j a same r own =
+      let base_is : r.base ≡ (at l j).base = own.0 ∙ ap (λ (x : Arena). x.base) same in
+      let bytes_are : r.bytes ≡ (at l j).chunks * S = own.1 ∙ ap (bytes_of S) same in
+      sym (ap₂ (λ (x y : ℕ). not (overlaps S l j x y)) base_is bytes_are)
+
   -- one arena more, in a span that covers the others and it
-  pub covers_more : (s r : Span) (j : ℕ) (head : Head) → head ≡ head_of (at l j) → CoversAll S s l j → (r.lo ≤ s.lo) × (s.hi ≤ r.hi) × (r.lo ≤ head.base) × (head.base + head.chunks * S ≤ r.hi) → CoversAll S r l (j + 1)
+  pub covers_more : (s r : Span) (j : ℕ) → CoversAll S s l j → (a : Arena) → a ≡ at l j → (range : Range) → IsOf S range a
+      → (r.lo ≤ s.lo) × (s.hi ≤ r.hi) × (r.lo ≤ range.base) × (range.base + range.bytes ≤ r.hi) → CoversAll S r l (j + 1)
   unfolding end_of bytes_of
-  covers_more s r j head is c e i h = go (ltb i j) refl
+  covers_more s r j c a read range own e i h = go (ltb i j) refl
     where
       here : (r.lo ≤ (at l j).base) × ((at l j).base + (at l j).chunks * S ≤ r.hi)
-      here = subst (λ (x : Head). (r.lo ≤ x.base) × (x.base + x.chunks * S ≤ r.hi)) is (e.2, e.3)
+      here =
+          let base_is : range.base ≡ (at l j).base = own.0 ∙ ap (λ (x : Arena). x.base) read in
+          let bytes_are : range.bytes ≡ (at l j).chunks * S = own.1 ∙ ap (bytes_of S) read in
+          (omega (arith, e.2, base_is), omega (arith, e.3, base_is, bytes_are))
 
       go : (b : Bool) → ltb i j ≡ b → (r.lo ≤ (at l i).base) × ((at l i).base + (at l i).chunks * S ≤ r.hi)
       go true t = let d = c i (ltb-true i j t) in (omega (arith, d.0, e.0), omega (arith, d.1, e.1))
@@ -142,17 +76,17 @@ module _ (S : ℕ) (l : List Arena) where
           subst (λ (m : ℕ). (r.lo ≤ (at l m).base) × ((at l m).base + (at l m).chunks * S ≤ r.hi)) (sym same) here
 
   -- a range outside the span meets none of them
-  pub outside_alone : (s : Span) (h : Head) (j : ℕ) → CoversAll S s l j → outside S s h ≡ true → true ≡ not (overlaps S l j h.base (h.chunks * S))
+  pub outside_alone : (s : Span) (r : Range) (j : ℕ) → CoversAll S s l j → outside s r ≡ true → true ≡ not (overlaps S l j r.base r.bytes)
   unfolding overlaps outside end_of bytes_of
-  outside_alone s h j c e =
-      sym (ap (λ (f : Found). not (is_at f)) (least-none (λ i. meets S (at l i) h.base (h.chunks * S)) 0 j
-      (λ i _ k. sym (no-meeting S (at l i) h.base (h.chunks * S) (λ m. apart-there i (c i (omega (arith, k))) m.before m.after (leb s.hi h.base) refl)))))
+  outside_alone s r j c e =
+      sym (ap (λ (f : Option ℕ). not (is_some f)) (least-none (λ i. meets S (at l i) r.base r.bytes) 0 j
+      (λ i _ k. no-meeting S (at l i) r.base r.bytes (λ m n. apart-there i (c i (omega (arith, k))) m n (leb s.hi r.base) refl))))
     where
-      apart-there : (i : ℕ) → (s.lo ≤ (at l i).base) × ((at l i).base + (at l i).chunks * S ≤ s.hi) → h.base < (at l i).base + (at l i).chunks * S → (at l i).base < h.base + h.chunks * S
-          → (b : Bool) → leb s.hi h.base ≡ b → ⊥
-      apart-there i d m₁ m₂ true t = omega (arith, d.1, m₁, leb-true s.hi h.base t)
+      apart-there : (i : ℕ) → (s.lo ≤ (at l i).base) × ((at l i).base + (at l i).chunks * S ≤ s.hi) → r.base < (at l i).base + (at l i).chunks * S → (at l i).base < r.base + r.bytes
+          → (b : Bool) → leb s.hi r.base ≡ b → ⊥
+      apart-there i d m₁ m₂ true t = omega (arith, d.1, m₁, leb-true s.hi r.base t)
       apart-there i d m₁ m₂ false t =
-          let below = leb-true (h.base + h.chunks * S) s.lo (sym (ap (λ (b : Bool). b || leb (h.base + h.chunks * S) s.lo) t) ∙ e) in
+          let below = leb-true (r.base + r.bytes) s.lo (sym (ap (λ (b : Bool). b || leb (r.base + r.bytes) s.lo) t) ∙ e) in
           omega (arith, d.0, m₂, below)
 
   -- ---- the arenas, one after the other
@@ -174,34 +108,6 @@ module _ (S : ℕ) (l : List Arena) where
 
     pub all_sound : Passed true sound k → Passed true alone k → true ≡ all sound 0 k && apart S l k
     all_sound p q = sym (ap₂ ◌&&◌ (all-passed sound k p) (sym (apart-is k) ∙ all-passed alone k q))
-
--- ---- the open question
-
-module _ (l : List Arena) (k : ℕ) (q : Question) where
-  abbrev asked : Arena
-  asked = at l (asked_id q)
-
-  abbrev there : Bool
-  there = ltb (asked_id q) k
-
-  abbrev within : Bool
-  within = leb (first_asked q + length_asked q) asked.chunks
-
-  abbrev used : Bool
-  used = all (bit_at asked.used) (first_asked q) (length_asked q)
-
-  module _ (some : about_none q ≡ false) where
-    pub not-registered : there ≡ false → false ≡ sound_question asked k q
-    not-registered a = and-1 there within used (sound_count q) a ∙ asks-sound asked k q some
-
-    pub not_within : there ≡ true → within ≡ false → false ≡ sound_question asked k q
-    not_within a b = and-2 there within used (sound_count q) a b ∙ asks-sound asked k q some
-
-    pub not-used : there ≡ true → within ≡ true → used ≡ false → false ≡ sound_question asked k q
-    not-used a b c = and-3 there within used (sound_count q) a b c ∙ asks-sound asked k q some
-
-    pub count-decides : there ≡ true → within ≡ true → used ≡ true → sound_count q ≡ sound_question asked k q
-    count-decides a b c = and-4 there within used (sound_count q) a b c ∙ asks-sound asked k q some
 
 -- ---- row 1
 

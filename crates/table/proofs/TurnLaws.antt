@@ -1,6 +1,6 @@
 -- A loop that looks at place after place: what it knows before each turn, and what that says once it ends. Assumes nothing.
 use Rattle.std.specs.Prelude.{◌≡◌, ◌+◌, ◌<◌, ◌≤◌}
-use Rattle.state.proofs.Prelude.{sym, subst, ◌∙◌, Bool, true, false, true≢false, ⊎_elim, ℕ, arith, not-suc-le-zero, At, Nothing, all, least, least-none, all-free-of, free_all, never}
+use Rattle.state.proofs.Prelude.{sym, subst, ◌∙◌, Bool, true, false, true≢false, ⊎_elim, ℕ, arith, not-suc-le-zero, Some, None, all, least, least-none, all-free-of, free_all, never}
 use Rattle.bitmap.proofs.words.RowLaws.{lt-or-le}
 use Rattle.bitmap.proofs.runs.LowestLaws.{least_at}
 
@@ -17,10 +17,10 @@ passed-more b p i h e j l =
 
 module _ (p : ℕ → Bool) (k : ℕ) where
   -- a search: no place before has p
-  pub found_at : (i : ℕ) → i < k → Passed false p i → p i ≡ true → At i ≡ least p 0 k
+  pub found_at : (i : ℕ) → i < k → Passed false p i → p i ≡ true → Some i ≡ least p 0 k
   found_at i l h e = sym (least_at p 0 k i (omega arith) (omega (arith, l)) e (λ j _ m. h j m))
 
-  pub found_none : Passed false p k → Nothing ≡ least p 0 k
+  pub found_none : Passed false p k → None ≡ least p 0 k
   found_none h = sym (least-none p 0 k (λ j _ m. h j (omega (arith, m))))
 
   -- a test: each place before has p

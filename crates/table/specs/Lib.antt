@@ -1,3 +1,4 @@
-pub mod Heads
 pub mod Questions
 pub mod Spans
+pub mod FirstRows
+pub mod Search

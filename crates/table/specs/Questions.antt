@@ -1,34 +1,20 @@
--- What a question is about: an arena's chunks, or none. Assumes nothing.
-use Rattle.std.specs.Prelude.{Bool, true, false, ℕ, ◌+◌, ◌*◌, leb}
+-- What a question is about: a run of an arena's chunks, or none. Assumes nothing.
+use Rattle.std.specs.Prelude.{Bool, true, ◌+◌, ◌*◌, leb, Option, Some, None}
 use Rattle.layer.specs.declared.Question.{Question}
 use Rattle.layer.specs.declared.Question.TheVariants.{Idle, Committing, Purging, Reserving, GivingBack}
+use Rattle.table.specs.declared.open_question.AskedRun.{AskedRun}
 
-abbrev pub about_none : Question → Bool
-about_none Idle = true
-about_none (Committing id start n) = false
-about_none (Purging id chunk sweep) = false
-about_none (Reserving chunks bytes commit exclusive waiting) = true
-about_none (GivingBack cause waiting) = true
-
--- the first of the chunks, and how many they are
-abbrev pub first_asked : Question → ℕ
-first_asked Idle = 0
-first_asked (Committing id start n) = start
-first_asked (Purging id chunk sweep) = chunk
-first_asked (Reserving chunks bytes commit exclusive waiting) = 0
-first_asked (GivingBack cause waiting) = 0
-
-abbrev pub length_asked : Question → ℕ
-length_asked Idle = 0
-length_asked (Committing id start n) = n
-length_asked (Purging id chunk sweep) = 1
-length_asked (Reserving chunks bytes commit exclusive waiting) = 0
-length_asked (GivingBack cause waiting) = 0
+abbrev pub asked_run : Question → Option AskedRun
+asked_run Idle = None
+asked_run (Committing id start n) = Some (record { id = id; start = start; n = n })
+asked_run (Purging id chunk sweep) = Some (record { id = id; start = chunk; n = 1 })
+asked_run (Reserving chunks bytes commit exclusive waiting) = None
+asked_run (GivingBack cause waiting) = None
 
 -- broken is "an open sweep whose count is above 1,024 × the asked arena's id + the asked chunk"
-abbrev pub sound_count : Question → Bool
-sound_count Idle = true
-sound_count (Committing id start n) = true
-sound_count (Purging id chunk sweep) = leb sweep.purged (1024 * id + chunk)
-sound_count (Reserving chunks bytes commit exclusive waiting) = true
-sound_count (GivingBack cause waiting) = true
+abbrev pub sound_count : Question → AskedRun → Bool
+sound_count Idle run = true
+sound_count (Committing id start n) run = true
+sound_count (Purging id chunk sweep) run = leb sweep.purged (1024 * run.id + run.start)
+sound_count (Reserving chunks bytes commit exclusive waiting) run = true
+sound_count (GivingBack cause waiting) run = true

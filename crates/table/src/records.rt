@@ -28,8 +28,7 @@ pub fn load(records: &[Arena], i: usize) -> Arena
     requires { i < length records.now }
     ensures { result ≡ get_or records.now i blank }
 {
-    let at = i;
-    records[at]
+    records[i]
 }
 
 // The record at an id of the table is written.
@@ -37,8 +36,7 @@ pub fn store(records: &mut [Arena], id: usize, v: Arena)
     requires { id < length records.old }
     ensures { records.new ≡ set records.old id v }
 {
-    let at = id;
-    records[at] = v;
+    records[id] = v;
 }
 
 // The record at an id; a blank one past the end.

@@ -15,11 +15,12 @@ use arena::{Arena, Commitment};
 use calls::kinds::{ActCall, Call, ClaimCall, FreeCall, MemoryCall, QueryCall};
 use layer::{Answer, Kind, Question, Reply, Settings, State, Sweep, Waiting};
 use std::io;
+use surface::reply::ReplyNumbers;
 use worked_parts::joins::{Seen, Side};
-use worked_parts::lists::{Listed, Numbers};
+use worked_parts::lists::Listed;
 use worked_parts::never::Left;
 use worked_parts::tally::Tally;
-use worked_parts::{joins, lists, never, numbers, picture, tally};
+use worked_parts::{joins, lists, never, numbers, picture};
 
 // The columns of a case's name and of a number.
 const NAME_WIDTH: usize = 58;
@@ -78,10 +79,7 @@ fn heading(rt: &impl Print, paper: &[u8]) -> io::Result<()> {
 }
 
 fn total(rt: &impl Print, t: Tally) -> io::Result<()> {
-    print!(rt; "{}", t.cases)?;
-    say(rt, b" cases, ")?;
-    print!(rt; "{}", t.differ)?;
-    say(rt, b" differ\n")
+    println!(rt; "{} cases, {} differ", t.cases, t.differ)
 }
 
 // The end of a case's line, and the case counted.
@@ -91,7 +89,7 @@ fn verdict(rt: &impl Print, t: Tally, same: bool) -> io::Result<Tally> {
     } else {
         say(rt, b"  DIFFERS\n")?;
     }
-    Ok(tally::count(t, same))
+    Ok(t.count(same))
 }
 
 // A case whose answer is a number.
@@ -207,7 +205,7 @@ fn alignment(rt: &impl Print, t: Tally) -> io::Result<Tally> {
 
 fn run_taken(rt: &impl Print, t: Tally) -> io::Result<Tally> {
     let mut pool = [0u32; 2048];
-    let a = numbers::free_refusal(slice_pool::free_range(&mut pool, 65536, 131072));
+    let a = numbers::refusal_in(slice_pool::free_range(&mut pool, 65536, 131072));
     let t1 = number(
         rt,
         t,
@@ -221,12 +219,12 @@ fn run_taken(rt: &impl Print, t: Tally) -> io::Result<Tally> {
 
 fn runs_refused(rt: &impl Print, t: Tally) -> io::Result<Tally> {
     let mut short = [0u32; 2047];
-    let a = numbers::run_refusal(slice_pool::alloc_run(&mut short, 1));
+    let a = numbers::refusal_in(slice_pool::alloc_run(&mut short, 1));
     let t1 = number(rt, t, b"slices: a run over 2047 words: refusal", a, 1)?;
     let mut pool = [0u32; 2048];
-    let b = numbers::run_refusal(slice_pool::alloc_run(&mut pool, 0));
+    let b = numbers::refusal_in(slice_pool::alloc_run(&mut pool, 0));
     let t2 = number(rt, t1, b"slices: a run of 0: refusal", b, 4)?;
-    let c = numbers::run_refusal(slice_pool::alloc_run(&mut pool, 1));
+    let c = numbers::refusal_in(slice_pool::alloc_run(&mut pool, 1));
     let t3 = number(
         rt,
         t2,
@@ -235,7 +233,7 @@ fn runs_refused(rt: &impl Print, t: Tally) -> io::Result<Tally> {
         10,
     )?;
     let mut full = [4294967295u32; 2048];
-    let d = numbers::run_refusal(slice_pool::alloc_run(&mut full, 65537));
+    let d = numbers::refusal_in(slice_pool::alloc_run(&mut full, 65537));
     number(
         rt,
         t3,
@@ -247,16 +245,16 @@ fn runs_refused(rt: &impl Print, t: Tally) -> io::Result<Tally> {
 
 fn frees_refused(rt: &impl Print, t: Tally) -> io::Result<Tally> {
     let mut short = [0u32; 2047];
-    let a = numbers::free_refusal(slice_pool::free_range(&mut short, 65536, 65536));
+    let a = numbers::refusal_in(slice_pool::free_range(&mut short, 65536, 65536));
     let t1 = number(rt, t, b"slices: a free over 2047 words: refusal", a, 1)?;
     let mut pool = [0u32; 2048];
-    let b = numbers::free_refusal(slice_pool::free_range(&mut pool, 65536, 0));
+    let b = numbers::refusal_in(slice_pool::free_range(&mut pool, 65536, 0));
     let t2 = number(rt, t1, b"slices: a free of size 0: refusal", b, 4)?;
-    let c = numbers::free_refusal(slice_pool::free_range(&mut pool, 1, 65536));
+    let c = numbers::refusal_in(slice_pool::free_range(&mut pool, 1, 65536));
     let t3 = number(rt, t2, b"slices: a free at 1: refusal", c, 7)?;
-    let d = numbers::free_refusal(slice_pool::free_range(&mut pool, 0, 65536));
+    let d = numbers::refusal_in(slice_pool::free_range(&mut pool, 0, 65536));
     let t4 = number(rt, t3, b"slices: a free at 0: refusal", d, 8)?;
-    let e = numbers::free_refusal(slice_pool::free_range(&mut pool, 4294967296, 65536));
+    let e = numbers::refusal_in(slice_pool::free_range(&mut pool, 4294967296, 65536));
     number(rt, t4, b"slices: a free at 2^32: refusal", e, 9)
 }
 
@@ -273,7 +271,7 @@ struct Case {
 
 // Arena 0: owned, not exclusive, 4 chunks, all free, uncommitted.
 fn example() -> Arena {
-    arena::reserved_arena(1073741824, 4, false, false)
+    Arena::reserved(1073741824, 4, false, false)
 }
 
 // One arena stands, and no question is open. No call has answered yet.
@@ -289,26 +287,14 @@ fn idle() -> Reply {
     }
 }
 
-fn state_of(r: Reply) -> State {
-    r.state
-}
-
-fn calls_of(c: Case) -> u32 {
-    c.calls
-}
-
 // The call that so many are left with, itself counted.
 fn call_at(c: Case, left: u32) -> Call {
-    if left == 1 {
-        return c.last;
+    match left {
+        1 => c.last,
+        2 => c.before,
+        3 => c.earlier,
+        _ => block(left),
     }
-    if left == 2 {
-        return c.before;
-    }
-    if left == 3 {
-        return c.earlier;
-    }
-    block(left)
 }
 
 // What the last call of a case answers. Past the example's one arena the table may hold anything.
@@ -316,12 +302,9 @@ fn answered(e: Settings, c: Case) -> Reply {
     let mut records = [example(); 32];
     let mut stamps = [0u32; 32768];
     let mut r = idle();
-    let mut left = calls_of(c);
-    while left > 0 {
-        let state = state_of(r);
+    for left in (1..=c.calls).rev() {
         let a = call_at(c, left);
-        r = calls::call(&mut records, &mut stamps, state, 0, e, a);
-        left -= 1;
+        r = calls::call(&mut records, &mut stamps, r.state, 0, e, a);
     }
     r
 }
@@ -330,8 +313,7 @@ fn answered(e: Settings, c: Case) -> Reply {
 fn answered_short(e: Settings, a: Call) -> Reply {
     let mut records = [example(); 32];
     let mut stamps = [0u32; 32767];
-    let state = state_of(idle());
-    calls::call(&mut records, &mut stamps, state, 0, e, a)
+    calls::call(&mut records, &mut stamps, idle().state, 0, e, a)
 }
 
 // No reserve.
@@ -427,15 +409,15 @@ fn answer(kind: Kind, yes: bool) -> Call {
 
 // The number of the refusal; 0 for what is granted, 255 for a question.
 fn refusal(r: Reply) -> u64 {
-    surface::reply::reply_of(r).number as u64
+    ReplyNumbers::from(r).number as u64
 }
 
 fn area_base(r: Reply) -> u64 {
-    surface::reply::reply_of(r).address
+    ReplyNumbers::from(r).address
 }
 
 fn area_chunks(r: Reply) -> u64 {
-    surface::reply::reply_of(r).bytes / layer::CHUNK
+    ReplyNumbers::from(r).bytes / layer::CHUNK
 }
 
 // A case whose last call is refused.
@@ -559,7 +541,7 @@ fn memory_refused(rt: &impl Print, t: Tally) -> io::Result<Tally> {
 
 fn table(rt: &impl Print) -> io::Result<()> {
     heading(rt, b"document 01")?;
-    let mut t = tally::none_yet();
+    let mut t = Tally::none_yet();
     t = masks(rt, t)?;
     t = lowest_runs(rt, t)?;
     t = arming(rt, t)?;
@@ -669,7 +651,7 @@ fn idle_side(count: usize, mark: bool) -> Side {
 
 // Four chunks, exclusive, all free.
 fn free_arena(base: u64) -> Arena {
-    arena::reserved_arena(base, 4, false, true)
+    Arena::reserved(base, 4, false, true)
 }
 
 // Four chunks: 0 and 2 are held, 1 is pending; the deadline is at 20 ms.
@@ -757,24 +739,19 @@ fn block_table(base: u64, blocks: usize, from: u32) -> Lent {
 }
 
 fn join_refusal(s: Seen) -> u64 {
-    let r = s.joined;
-    let a = r.answer;
-    numbers::join_refusal(a)
+    numbers::refusal_in(s.joined.answer)
 }
 
 fn join_rise(s: Seen) -> u64 {
-    let r = s.joined;
-    let a = r.answer;
-    numbers::rise_of(a)
+    numbers::rise_of(s.joined.answer)
 }
 
 fn join_mark(s: Seen) -> bool {
-    let r = s.joined;
-    r.first.mark
+    s.joined.first.mark
 }
 
 fn second_owns(s: Seen) -> bool {
-    surface::reply::reply_of(s.owned).owns
+    ReplyNumbers::from(s.owned).owns
 }
 
 // A join that is granted, by what the joined table has at the second's first new id.
@@ -853,7 +830,7 @@ fn one_and_one(rt: &impl Print, t: Tally) -> io::Result<Tally> {
         claimed,
         2181038080,
     )?;
-    let fresh = surface::reply::reply_of(found.claimed).fresh;
+    let fresh = ReplyNumbers::from(found.claimed).fresh;
     let t4 = yes_or_no(rt, t3, b"   is it fresh", fresh, false)?;
     let later = joined_at(first, second, 1, 50, 4096);
     let asks = later.first;
@@ -1237,7 +1214,7 @@ fn forced_sweeps(rt: &impl Print, t: Tally) -> io::Result<Tally> {
         refusal(g.swept),
         255,
     )?;
-    let ended = surface::reply::reply_of(g.answered).count;
+    let ended = ReplyNumbers::from(g.answered).count;
     number(rt, t5, b"   a yes ends it: chunks purged", ended as u64, 1)
 }
 
@@ -1408,34 +1385,8 @@ fn uneven(address_count: usize, count_count: usize, answer_count: usize) -> List
     }
 }
 
-fn numbers_of(at_0: u32, at_1: u32, at_2: u32, at_3: u32, at_4: u32) -> Numbers {
-    Numbers {
-        at_0,
-        at_1,
-        at_2,
-        at_3,
-        at_4,
-    }
-}
-
-fn two_numbers(at_0: u32, at_1: u32) -> Numbers {
-    numbers_of(at_0, at_1, 0, 0, 0)
-}
-
-fn same_numbers(a: Numbers, b: Numbers) -> bool {
-    if a.at_0 != b.at_0 {
-        return false;
-    }
-    if a.at_1 != b.at_1 {
-        return false;
-    }
-    if a.at_2 != b.at_2 {
-        return false;
-    }
-    if a.at_3 != b.at_3 {
-        return false;
-    }
-    a.at_4 == b.at_4
+fn two_numbers(first: u32, second: u32) -> [u32; 5] {
+    [first, second, 0, 0, 0]
 }
 
 // A number of one digit; a dash past the end of the list.
@@ -1446,18 +1397,11 @@ fn digit(n: u32, there: bool) -> u8 {
     if n < 10 { b'0' + n as u8 } else { b'?' }
 }
 
-fn right_numbers(rt: &impl Print, n: Numbers, places: usize) -> io::Result<()> {
-    let text = [
-        digit(n.at_0, 0 < places),
-        b' ',
-        digit(n.at_1, 1 < places),
-        b' ',
-        digit(n.at_2, 2 < places),
-        b' ',
-        digit(n.at_3, 3 < places),
-        b' ',
-        digit(n.at_4, 4 < places),
-    ];
+fn right_numbers(rt: &impl Print, n: [u32; 5], places: usize) -> io::Result<()> {
+    let mut text = [b' '; 9];
+    for (i, x) in n.iter().enumerate() {
+        text[2 * i] = digit(*x, i < places);
+    }
     right(rt, &text)
 }
 
@@ -1467,12 +1411,12 @@ fn numbers_then(
     t: Tally,
     l: Listed,
     places: usize,
-    want: Numbers,
+    want: [u32; 5],
 ) -> io::Result<Tally> {
     left(rt, b"   the list of answers (0: granted, 6: as lent)")?;
     right_numbers(rt, l.numbers, places)?;
     right_numbers(rt, want, places)?;
-    verdict(rt, t, same_numbers(l.numbers, want))
+    verdict(rt, t, l.numbers == want)
 }
 
 fn used_then(rt: &impl Print, t: Tally, l: Listed, want: u64) -> io::Result<Tally> {
@@ -1487,7 +1431,7 @@ fn listed_all(
     name: &[u8],
     l: Listed,
     places: usize,
-    want: Numbers,
+    want: [u32; 5],
     used: u64,
 ) -> io::Result<Tally> {
     let t1 = number(rt, t, name, refusal(l.reply), 0)?;
@@ -1503,7 +1447,7 @@ fn listed_none(
     l: Listed,
     why: u64,
     places: usize,
-    want: Numbers,
+    want: [u32; 5],
 ) -> io::Result<Tally> {
     let t1 = number(rt, t, name, refusal(l.reply), why)?;
     let t2 = numbers_then(rt, t1, l, places, want)?;
@@ -1552,7 +1496,7 @@ fn items_refused(rt: &impl Print, t: Tally) -> io::Result<Tally> {
     let past = lists_of([1073741824, 1207959552, 1140850688, 0, 0], [1; 5], 3);
     let a = listed_at(older_table(), 40, past, false);
     let one = b"list: chunk 0, past the arena, chunk 2: refusal";
-    let t1 = listed_all(rt, t, one, a, 3, numbers_of(0, 8, 0, 0, 0), 0)?;
+    let t1 = listed_all(rt, t, one, a, 3, [0, 8, 0, 0, 0], 0)?;
     let each = lists_of(
         [1207959553, 1207959553, 1073741825, 1073741824, 1073741824],
         [0, 5, 5, 5, 1],
@@ -1560,7 +1504,7 @@ fn items_refused(rt: &impl Print, t: Tally) -> io::Result<Tally> {
     );
     let b = listed_at(older_table(), 40, each, false);
     let rows = b"list: each row of a release, then chunk 0: refusal";
-    listed_all(rt, t1, rows, b, 5, numbers_of(4, 8, 7, 9, 0), 4)
+    listed_all(rt, t1, rows, b, 5, [4, 8, 7, 9, 0], 4)
 }
 
 fn items_meet(rt: &impl Print, t: Tally) -> io::Result<Tally> {
@@ -1578,7 +1522,7 @@ fn items_meet(rt: &impl Print, t: Tally) -> io::Result<Tally> {
 fn two_arenas(rt: &impl Print, t: Tally) -> io::Result<Tally> {
     let l = listed_at(older_table(), 40, chunks(3), true);
     let name = b"list: chunks 0 and 2 and the block, pending: refusal";
-    let t1 = listed_all(rt, t, name, l, 3, numbers_of(0, 0, 0, 0, 0), 0)?;
+    let t1 = listed_all(rt, t, name, l, 3, [0, 0, 0, 0, 0], 0)?;
     let t2 = waits_then(rt, t1, l, 7, 50, 20)?;
     let b = l.second;
     let t3 = number(
@@ -1653,7 +1597,7 @@ fn lengths_differ(rt: &impl Print, t: Tally) -> io::Result<Tally> {
 
 fn wishes_table(rt: &impl Print) -> io::Result<()> {
     heading(rt, b"document 02")?;
-    let mut t = tally::none_yet();
+    let mut t = Tally::none_yet();
     t = one_and_one(rt, t)?;
     t = ids_by_table(rt, t)?;
     t = empty_sides(rt, t)?;
@@ -1687,19 +1631,15 @@ fn row(rt: &impl Print, pool: &[u32]) -> io::Result<()>
 
 // Takes a run of so many slices, and says where.
 fn take(rt: &impl Print, pool: &mut [u32], slices: u64) -> io::Result<()> {
-    say(rt, b"a run of ")?;
-    print!(rt; "{}", slices)?;
     let at = numbers::address_of(slice_pool::alloc_run(pool, slices));
-    say(rt, b": slice ")?;
-    print!(rt; "{}", at / 65536)?;
-    say(rt, b"\n")
+    println!(rt; "a run of {slices}: slice {}", at / 65536)
 }
 
 // A pool at work: runs taken, one freed, and a shorter one taken from where it was.
 fn show(rt: &impl Print) -> io::Result<()> {
     let mut pool = [0u32; 2048];
     say(rt, b"96 slices free, from slice 1 on\n")?;
-    slice_pool::free_range(&mut pool, 65536, 6291456);
+    let _ = slice_pool::free_range(&mut pool, 65536, 6291456);
     row(rt, &pool)?;
     take(rt, &mut pool, 3)?;
     row(rt, &pool)?;
@@ -1708,7 +1648,7 @@ fn show(rt: &impl Print) -> io::Result<()> {
     take(rt, &mut pool, 40)?;
     row(rt, &pool)?;
     say(rt, b"the run of 5 freed\n")?;
-    slice_pool::free_range(&mut pool, 262144, 327680);
+    let _ = slice_pool::free_range(&mut pool, 262144, 327680);
     row(rt, &pool)?;
     take(rt, &mut pool, 4)?;
     row(rt, &pool)

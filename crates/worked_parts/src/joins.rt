@@ -31,50 +31,6 @@ pub struct Seen {
     pub owned: Reply,
 }
 
-fn state_of(side: Side) -> State
-    ensures { result ≡ side.state }
-{
-    side.state
-}
-
-pub fn state_after(r: Reply) -> State
-    ensures { result ≡ r.state }
-{
-    r.state
-}
-
-fn state_of_first(r: JoinReply) -> State
-    ensures { result ≡ r.first }
-{
-    r.first
-}
-
-fn state_of_second(r: JoinReply) -> State
-    ensures { result ≡ r.second }
-{
-    r.second
-}
-
-fn found_with(range: Reply, swept: Reply, claimed: Reply) -> Found
-    ensures { result ≡ found_of range swept claimed }
-{
-    Found {
-        range,
-        swept,
-        claimed,
-    }
-}
-
-fn seen_with(joined: JoinReply, first: Found, owned: Reply) -> Seen
-    ensures { result ≡ seen_of joined first owned }
-{
-    Seen {
-        joined,
-        first,
-        owned,
-    }
-}
-
 // With these settings blocks are adopted.
 fn no_options() -> Settings
     ensures { result ≡ no_options }
@@ -92,7 +48,7 @@ fn no_options() -> Settings
 fn blocks_of(side: Side) -> usize
     ensures { result ≡ blocks_in side }
 {
-    if side.blocks < 32 { side.blocks } else { 32 }
+    side.blocks.min(32)
 }
 
 // Between two blocks lies another chunk, so that no arena grows.
@@ -109,23 +65,19 @@ fn adopt_blocks(records: &mut [Arena], stamps: &mut [u32], side: Side) -> State
         × (records.new ≡ (adopted (world_of records.old stamps.old side.state) side (blocks_in side)).records)
         × (stamps.new ≡ (adopted (world_of records.old stamps.old side.state) side (blocks_in side)).stamps) }
 {
-    let mut state = state_of(side);
-    let settings = no_options();
-    let n = blocks_of(side);
-    let mut i = 0;
-    while i < n {
+    let mut state = side.state;
+    for i in 0..blocks_of(side) {
         let address = block_at(side, i);
         let r = registering::adopt_os_block(
             records,
             stamps,
             state,
             0,
-            settings,
+            no_options(),
             address,
             layer::CHUNK,
         );
-        state = state_after(r);
-        i = i + 1;
+        state = r.state;
     }
     state
 }
@@ -170,9 +122,12 @@ fn look(
 {
     let range = queries::arena_area(records, stamps, state, ns, settings, id);
     let swept = sweeping::purge_due(records, stamps, state, ns, settings, false);
-    let then = state_after(swept);
-    let claimed = claiming::chunk_claim(records, stamps, then, ns, settings, id);
-    found_with(range, swept, claimed)
+    let claimed = claiming::chunk_claim(records, stamps, swept.state, ns, settings, id);
+    Found {
+        range,
+        swept,
+        claimed,
+    }
 }
 
 // The sides joined, then the joined table looked at, and the second asked for an address.
@@ -200,9 +155,12 @@ pub fn join_and_look(
         ns,
         settings,
     );
-    let state = state_of_first(joined);
-    let first = look(records, stamps, state, ns, settings, id);
-    let second = state_of_second(joined);
+    let first = look(records, stamps, joined.first, ns, settings, id);
+    let second = joined.second;
     let owned = queries::owns(second_records, second_stamps, second, ns, settings, address);
-    seen_with(joined, first, owned)
+    Seen {
+        joined,
+        first,
+        owned,
+    }
 }

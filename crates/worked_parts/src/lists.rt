@@ -4,20 +4,10 @@ ghost use Rattle.std.specs.Prelude.{◌≡◌, get_or};
 ghost use Rattle.layer.specs.World.{world_of};
 ghost use Rattle.layer.specs.Table.{at};
 ghost use Rattle.layer.specs.Listing.{items};
-ghost use Rattle.worked_parts.specs.Lists.{list_in, numbers_in, listed_with, listed_after};
+ghost use Rattle.worked_parts.specs.Lists.{list_in, numbers_in, listed_after};
 
 use arena::Arena;
 use layer::{Reply, Settings, State};
-
-// The first places of a list of answers.
-#[derive(Clone, Copy)]
-pub struct Numbers {
-    pub at_0: u32,
-    pub at_1: u32,
-    pub at_2: u32,
-    pub at_3: u32,
-    pub at_4: u32,
-}
 
 // What the list answers as a whole, and what stands in arenas 0 and 1, at a stamp and in the list of answers then.
 #[derive(Clone, Copy)]
@@ -26,19 +16,7 @@ pub struct Listed {
     pub first: Arena,
     pub second: Arena,
     pub stamp: u32,
-    pub numbers: Numbers,
-}
-
-fn listed_with(reply: Reply, first: Arena, second: Arena, stamp: u32, numbers: Numbers) -> Listed
-    ensures { result ≡ listed_with reply first second stamp numbers }
-{
-    Listed {
-        reply,
-        first,
-        second,
-        stamp,
-        numbers,
-    }
+    pub numbers: [u32; 5],
 }
 
 // The arena at an id; a blank one past the end.
@@ -52,22 +30,20 @@ pub fn arena_at(records: &[Arena], id: usize) -> Arena
 pub fn place_of(list: &[u32], i: usize) -> u32
     ensures { result ≡ get_or list.now i 0 }
 {
-    if i < list.len() {
-        return list[i];
-    }
-    0
+    if i < list.len() { list[i] } else { 0 }
 }
 
-fn numbers_in(answers: &[u32]) -> Numbers
+// The first places of a list of answers.
+fn numbers_in(answers: &[u32]) -> [u32; 5]
     ensures { result ≡ numbers_in answers.now }
 {
-    Numbers {
-        at_0: place_of(answers, 0),
-        at_1: place_of(answers, 1),
-        at_2: place_of(answers, 2),
-        at_3: place_of(answers, 3),
-        at_4: place_of(answers, 4),
-    }
+    [
+        place_of(answers, 0),
+        place_of(answers, 1),
+        place_of(answers, 2),
+        place_of(answers, 3),
+        place_of(answers, 4),
+    ]
 }
 
 // All calls are made at one clock and with one set of settings.
@@ -95,13 +71,22 @@ pub fn list_and_look(
         block,
         layer::CHUNK,
     );
-    let then = crate::joins::state_after(adopted);
     let reply = release_lists::chunk_release_list(
-        records, stamps, addresses, counts, answers, then, ns, settings, pending,
+        records,
+        stamps,
+        addresses,
+        counts,
+        answers,
+        adopted.state,
+        ns,
+        settings,
+        pending,
     );
-    let first = arena_at(records, 0);
-    let second = arena_at(records, 1);
-    let stamp = place_of(stamps, chunk);
-    let numbers = numbers_in(answers);
-    listed_with(reply, first, second, stamp, numbers)
+    Listed {
+        reply,
+        first: arena_at(records, 0),
+        second: arena_at(records, 1),
+        stamp: place_of(stamps, chunk),
+        numbers: numbers_in(answers),
+    }
 }

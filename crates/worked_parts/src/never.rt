@@ -19,26 +19,6 @@ pub struct Left {
     pub answered: Reply,
 }
 
-fn left_with(
-    released: Reply,
-    arena: Arena,
-    stamp: u32,
-    swept: Reply,
-    kept: Arena,
-    answered: Reply,
-) -> Left
-    ensures { result ≡ left_with released arena stamp swept kept answered }
-{
-    Left {
-        released,
-        arena,
-        stamp,
-        swept,
-        kept,
-        answered,
-    }
-}
-
 // All calls are made at one clock and with one set of settings.
 pub fn release_and_sweep(
     records: &mut [Arena],
@@ -58,19 +38,24 @@ pub fn release_and_sweep(
     );
     let arena = crate::lists::arena_at(records, 0);
     let stamp = crate::lists::place_of(stamps, chunk);
-    let then = crate::joins::state_after(released);
-    let swept = sweeping::purge_due(records, stamps, then, ns, settings, force);
+    let swept = sweeping::purge_due(records, stamps, released.state, ns, settings, force);
     let kept = crate::lists::arena_at(records, 0);
-    let asked = crate::joins::state_after(swept);
     let answered = answering::answer(
         records,
         stamps,
-        asked,
+        swept.state,
         ns,
         settings,
         Kind::ForPurge,
         true,
         0,
     );
-    left_with(released, arena, stamp, swept, kept, answered)
+    Left {
+        released,
+        arena,
+        stamp,
+        swept,
+        kept,
+        answered,
+    }
 }

@@ -21,10 +21,8 @@ pub fn draw(pool: &[u32]) -> [u8; 128]
     ensures { (128 ≡ length result) × Shows pool.now 128 result }
 {
     let mut text = [b'#'; 128];
-    let mut j: usize = 0;
-    while j < 128 {
+    for j in 0..128 {
         text[j] = mark(pool, j);
-        j += 1;
     }
     text
 }

@@ -1,12 +1,11 @@
 -- Wrong joins that demand 3 rules out, each on a short history. Most on the switch-over of document_cases: program 7 holds chunk 0 of its arena, the tables are joined, and its next claim, at the new
 -- id, is told what the share book does not say. Assumes nothing.
-use Rattle.std.specs.Prelude.{◌≡◌, ◌∷◌, ◌+◌}
+use Rattle.std.specs.Prelude.{◌≡◌, ◌∷◌, ◌+◌, Ok, Err}
 use Rattle.layer.proofs.Prelude.{refl, sym, ap, ◌∙◌, Bool, true, false, true≢false, List, [], ℕ, arith, lit<, pos, negsuc, replicate, World, blank, state_with, world_of, outcome, step, manage, claim, act, JoinOutcome, join_outcome, joined_world, join, lowest, claims, Say, refused, granted, released, say_all, Marked, MarkedJoin, of_first, of_second, begin, next, joining, is_sound, both_sound, is_broken, is_broken_join, said, start, Place, entries, hears, OpensAt, book_of, sound, Demand3, NoRun, Range, enter, in_range, bit, bit_at, within, as_number, pack, write_run, all, least, lowest_run, or_one, now_ms, delay_ms, never_purges, keeps, armed, is_due, arena_allowed, page_size_sound, new_arena, reserved_arena, managed_arena, adopted_arena, grown_arena, find_run, run_committed, run_fresh, take_run, give_back_run, commit_run, dirty_run, finish_grant, tell_run, pend_run, release_run, stamp_run, sweep_due, disarm, young, to_ask, next_asked, borrow_chunk, unpend_chunk, return_chunk, rearm, bytes_of, end_of, is_inside, sound_range, clear_past, clear_past_all, sound_arena, empty, meets, overlaps, bad_range, find_arena, apart, sound_question, sound_table, sound_lent, chunks_for, too_large, bytes_asked, ask_memory, reserve_reply, bad_count, no_whole_chunk, grows, reserve_of, manage_of, adopt_of, eligible, serves, asks_commit, grant_arena, grant_reply, miss_reply, search_of, claim_of, release_of, purge_reply, swept_reply, visit, sweep_from, is_for, answer_of, rules, overwritten, tables_overlap, join_on, join_rules}
 use Rattle.refusals.specs.declared.Refusal.TheVariants.{TablesOverlap, TooManyArenas}
 use Rattle.layer.specs.declared.Question.TheVariants.{Idle}
 use Rattle.layer.specs.declared.Answer.{Answer}
 use Rattle.layer.specs.declared.Answer.TheVariants.{Refused, Registered, Claimed}
-use Rattle.layer.specs.declared.JoinAnswer.TheVariants.{NotJoined, Joined}
 use Rattle.layer_laws.specs.joined.Join.{Join}
 use Rattle.document_cases.specs.Example.{S, base, elsewhere, plain, row, own as held, shared, one as alone, w₂, c₂, by, arena}
 use Rattle.document_cases.specs.SwitchOver.{v₁, d₁, in_second, united, u₀, u₁, moved}
@@ -47,11 +46,11 @@ record Leads (J : Join) (o : JoinOutcome) (r : Answer) : Type 0 where
   answered : (step o.first 0 plain (claims_on u₀).call).answer ≡ r
 
 record Facts : Type 0 where
-  free : Leads comes_free (join_outcome (Joined 1) (united (shared 1) (held 0 1 0 0 0)) empty) (Claimed base false false)
-  dirty : Leads comes_dirty (join_outcome (Joined 1) (united (shared 1) (held 1 7 0 0 0)) empty) (Claimed (base + S) false false)
-  behind : Leads second_before (join_outcome (Joined 1) (united (held 1 1 0 0 0) (shared 1)) empty) (Claimed (elsewhere + S) false true)
-  by-base : Leads ids_by_base (join_outcome (Joined 1) (united (held 1 1 0 0 0) (shared 1)) empty) (Claimed (elsewhere + S) false true)
-  turned_down : Leads seventeen_always (join_outcome (NotJoined TablesOverlap) v₁ w₂) (Refused NoRun)
+  free : Leads comes_free (join_outcome (Ok 1) (united (shared 1) (held 0 1 0 0 0)) empty) (Claimed base false false)
+  dirty : Leads comes_dirty (join_outcome (Ok 1) (united (shared 1) (held 1 7 0 0 0)) empty) (Claimed (base + S) false false)
+  behind : Leads second_before (join_outcome (Ok 1) (united (held 1 1 0 0 0) (shared 1)) empty) (Claimed (elsewhere + S) false true)
+  by-base : Leads ids_by_base (join_outcome (Ok 1) (united (held 1 1 0 0 0) (shared 1)) empty) (Claimed (elsewhere + S) false true)
+  turned_down : Leads seventeen_always (join_outcome (Err TablesOverlap) v₁ w₂) (Refused NoRun)
   says_two : say_all (book_of moved) (claims lowest 1 ∷ claims lowest 1 ∷ []) ≡ granted base true ∷ granted (base + S) true ∷ []
 
 facts : Facts
@@ -99,18 +98,18 @@ twice = record { first = w₂; second = w₂; ns = 0; settings = plain }
 
 record Emptied : Type 0 where
   sound-parting : both_sound parting ≡ true
-  parted : join empty w₂ 0 plain ≡ join_outcome (Joined 0) (joined_world empty w₂) empty
-  left_there : stays_behind empty w₂ 0 plain ≡ join_outcome (Joined 0) (joined_world empty w₂) w₂
+  parted : join empty w₂ 0 plain ≡ join_outcome (Ok 0) (joined_world empty w₂) empty
+  left_there : stays_behind empty w₂ 0 plain ≡ join_outcome (Ok 0) (joined_world empty w₂) w₂
   sound-behind : is_sound anew ≡ true
   registered : step empty 0 plain anew.call ≡ outcome (Registered 0) (near 0)
   turned_down : step w₂ 0 plain anew.call ≡ outcome (Refused Range) w₂
   claimed : step (near 0) 0 plain (own w₂).call ≡ outcome (Claimed base false true) (near 1)
   says-near : say_all (book_of at-near) (claims lowest 1 ∷ []) ≡ granted base false ∷ []
   sound-twice : both_sound twice ≡ true
-  overlapping : join w₂ w₂ 0 plain ≡ join_outcome (NotJoined TablesOverlap) w₂ w₂
+  overlapping : join w₂ w₂ 0 plain ≡ join_outcome (Err TablesOverlap) w₂ w₂
   next-there : step w₂ 0 plain (own w₂).call ≡ outcome (Claimed (base + S) true false) (alone (held 3 3 0 0 0) 0 Idle)
   none-there : step empty 0 plain (own w₂).call ≡ outcome (Refused NoRun) empty
-  both-there : no_seventeen w₂ w₂ 0 plain ≡ join_outcome (Joined 1) (united (held 1 1 0 0 0) (held 1 1 0 0 0)) empty
+  both-there : no_seventeen w₂ w₂ 0 plain ≡ join_outcome (Ok 1) (united (held 1 1 0 0 0) (held 1 1 0 0 0)) empty
   broken : sound S (united (held 1 1 0 0 0) (held 1 1 0 0 0)) 4096 ≡ false
 
 emptied : Emptied
@@ -157,8 +156,8 @@ overfull = record { first = table 32; second = lone; ns = 0; settings = plain }
 record Overfull : Type 0 where
   shared-one : step empty 0 plain shares.call ≡ outcome (Registered 0) lone
   sound-both : both_sound overfull ≡ true
-  refused-18 : join (table 32) lone 0 plain ≡ join_outcome (NotJoined TooManyArenas) (table 32) lone
-  joined-33 : no_eighteen (table 32) lone 0 plain ≡ join_outcome (Joined 32) (joined_world (table 32) lone) empty
+  refused-18 : join (table 32) lone 0 plain ≡ join_outcome (Err TooManyArenas) (table 32) lone
+  joined-33 : no_eighteen (table 32) lone 0 plain ≡ join_outcome (Ok 32) (joined_world (table 32) lone) empty
   broken-33 : sound S (joined_world (table 32) lone) 4096 ≡ false
 
 overfull-facts : Overfull
@@ -187,7 +186,7 @@ stays-behind : Demand3 (but_joins stays_behind) → ⊥
 unfolding in_range empty near-opens
 stays-behind d =
     let L = but_joins stays_behind in
-    let b₁ = before-join L of_second begin in_second start (stand w₂ 7 c₂) empty w₂ (at-start L) (begun stays_behind example-calls).stands parting (join_outcome (Joined 0) (joined_world empty w₂) empty) (join_outcome (Joined 0) (joined_world empty w₂) w₂)
+    let b₁ = before-join L of_second begin in_second start (stand w₂ 7 c₂) empty w₂ (at-start L) (begun stays_behind example-calls).stands parting (join_outcome (Ok 0) (joined_world empty w₂) empty) (join_outcome (Ok 0) (joined_world empty w₂) w₂)
     (record { sound = emptied.sound-parting; by-rules = emptied.parted; by-layer = emptied.left_there; passed = refl }) refl refl in
     let r = open_made L 7 _ (stand empty 7 c₂) w₂ b₁ anew (outcome (Registered 0) (near 0)) (outcome (Refused Range) w₂) near-opens
     (record { sound = emptied.sound-behind; by-rules = emptied.registered; by-layer = emptied.turned_down; passed = refl }) refl in
@@ -203,7 +202,7 @@ unfolding in_range
 empties-always d =
     let L = but_joins empties_always in
     let k = begun empties_always example-calls in
-    let r = after-refusal L 7 arena in_second in_second (stand w₂ 7 c₂) (stand w₂ 7 c₂) w₂ w₂ _ _ k.stands k twice (join_outcome (NotJoined TablesOverlap) w₂ w₂) (join_outcome (NotJoined TablesOverlap) w₂ empty)
+    let r = after-refusal L 7 arena in_second in_second (stand w₂ 7 c₂) (stand w₂ 7 c₂) w₂ w₂ _ _ k.stands k twice (join_outcome (Err TablesOverlap) w₂ w₂) (join_outcome (Err TablesOverlap) w₂ empty)
     (record { sound = emptied.sound-twice; by-rules = emptied.overlapping; by-layer = ap (λ (o : JoinOutcome). join_outcome o.answer o.first empty) emptied.overlapping; passed = refl }) refl refl refl in
     let q = after-made L 7 arena _ (stand w₂ 7 c₂) empty _ _ r (own empty) (outcome (Claimed (base + S) true false) (alone (held 3 3 0 0 0) 0 Idle)) (outcome (Refused NoRun) empty) (claims lowest 1 ∷ []) (refused 10 ∷ [])
     (record { sound = ground.sound_empty; by-rules = emptied.next-there; by-layer = emptied.none-there; passed = refl }) refl (own-call 7 arena (stand w₂ 7 c₂) (own empty) refl refl refl) refl refl in
@@ -217,7 +216,7 @@ unfolding page_size_sound
 no-seventeen d =
     let L = but_joins no_seventeen in
     let k = (begun no_seventeen example-calls).stands in
-    let b = before-join L of_first in_second in_second (stand w₂ 7 c₂) (stand w₂ 7 c₂) w₂ w₂ k k twice (join_outcome (NotJoined TablesOverlap) w₂ w₂) (join_outcome (Joined 1) (united (held 1 1 0 0 0) (held 1 1 0 0 0)) empty)
+    let b = before-join L of_first in_second in_second (stand w₂ 7 c₂) (stand w₂ 7 c₂) w₂ w₂ k k twice (join_outcome (Err TablesOverlap) w₂ w₂) (join_outcome (Ok 1) (united (held 1 1 0 0 0) (held 1 1 0 0 0)) empty)
     (record { sound = emptied.sound-twice; by-rules = emptied.overlapping; by-layer = emptied.both-there; passed = refl }) refl refl in
     true≢false (sym (ap (λ (w : World). sound S w 4096) (sym b.left_is) ∙ d.stays-sound (joining of_first in_second in_second twice) b.lent 4096 refl) ∙ emptied.broken)
 
@@ -227,7 +226,7 @@ no-eighteen d =
     let L = but_joins no_eighteen in
     let b₁ = before-made L begin start empty (at-start L) shares (outcome (Registered 0) lone) (outcome (Registered 0) lone)
     (record { sound = ground.sound_empty; by-rules = overfull-facts.shared-one; by-layer = overfull-facts.shared-one; passed = refl }) refl in
-    let b = before-join L of_first (filling 32) (next begin shares) (filled 32) (stand lone 9 shares) (table 32) lone (fills no_eighteen 32 (omega arith)) b₁ overfull (join_outcome (NotJoined TooManyArenas) (table 32) lone) (join_outcome (Joined 32) (joined_world (table 32) lone) empty)
+    let b = before-join L of_first (filling 32) (next begin shares) (filled 32) (stand lone 9 shares) (table 32) lone (fills no_eighteen 32 (omega arith)) b₁ overfull (join_outcome (Err TooManyArenas) (table 32) lone) (join_outcome (Ok 32) (joined_world (table 32) lone) empty)
     (record { sound = overfull-facts.sound-both; by-rules = overfull-facts.refused-18; by-layer = overfull-facts.joined-33; passed = refl }) refl refl in
     true≢false (sym (ap (λ (w : World). sound S w 4096) (sym b.left_is) ∙ d.stays-sound (joining of_first (filling 32) (next begin shares) overfull) b.lent 4096 refl) ∙ overfull-facts.broken-33)
 

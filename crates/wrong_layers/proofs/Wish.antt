@@ -1,12 +1,11 @@
 -- Wrong joins that a sentence of wish 1 rules out, each on two tables with which it does not do what the sentence says. Assumes nothing.
-use Rattle.std.specs.Prelude.{◌≡◌, ◌∷◌, ◌+◌, ◌*◌, ◌≤◌, ◌<◌}
+use Rattle.std.specs.Prelude.{◌≡◌, ◌∷◌, ◌+◌, ◌*◌, ◌≤◌, ◌<◌, Result, Ok, Err}
+use Rattle.refusals.specs.declared.Refusal.{Refusal}
 use Rattle.layer.proofs.Prelude.{refl, sym, ap, ◌∙◌, Bool, true, false, true≢false, List, [], ℕ, zero, suc, arith, negsuc, replicate, stamps_of, Arena, World, blank, state_with, world_of, at, sound, join, is_idle, enter, in_range, bit, bit_at, within, as_number, pack, write_run, all, least, lowest_run, or_one, now_ms, delay_ms, never_purges, keeps, armed, is_due, arena_allowed, page_size_sound, new_arena, reserved_arena, managed_arena, adopted_arena, grown_arena, find_run, run_committed, run_fresh, take_run, give_back_run, commit_run, dirty_run, finish_grant, tell_run, pend_run, release_run, stamp_run, sweep_due, disarm, young, to_ask, next_asked, borrow_chunk, unpend_chunk, return_chunk, rearm, bytes_of, end_of, is_inside, sound_range, clear_past, clear_past_all, sound_arena, empty, meets, overlaps, bad_range, find_arena, apart, sound_question, sound_table, sound_lent, chunks_for, too_large, bytes_asked, ask_memory, reserve_reply, bad_count, no_whole_chunk, grows, reserve_of, manage_of, adopt_of, eligible, serves, asks_commit, grant_arena, grant_reply, miss_reply, search_of, claim_of, release_of, purge_reply, swept_reply, visit, sweep_from, is_for, answer_of, rules, overwritten, tables_overlap, join_on, join_rules}
 use Rattle.refusals.specs.Number.{number}
 use Rattle.refusals.specs.declared.Refusal.TheVariants.{QuestionOpen, TablesOverlap, TooManyArenas}
 use Rattle.layer.specs.declared.Settings.{Settings}
 use Rattle.layer.specs.declared.Question.TheVariants.{Idle}
-use Rattle.layer.specs.declared.JoinAnswer.{JoinAnswer}
-use Rattle.layer.specs.declared.JoinAnswer.TheVariants.{NotJoined, Joined}
 use Rattle.layer.specs.History.{Covers}
 use Rattle.layer_laws.specs.joined.Join.{Overlap, ByTheWish}
 use Rattle.document_cases.specs.Example.{S, base, plain, row, own, one, short, w₀}
@@ -36,13 +35,13 @@ between = one (chunk_at 2) 0 Idle
 -- ---- what comes of them
 
 -- the answer in numbers: the refusal's, or 0 and the rise
-abbrev number_of : JoinAnswer → ℕ
-number_of (NotJoined why) = number why
-number_of (Joined rise) = 0
+abbrev number_of : Result ℕ Refusal → ℕ
+number_of (Err why) = number why
+number_of (Ok rise) = 0
 
-abbrev rise_of : JoinAnswer → ℕ
-rise_of (NotJoined why) = 0
-rise_of (Joined rise) = rise
+abbrev rise_of : Result ℕ Refusal → ℕ
+rise_of (Err why) = 0
+rise_of (Ok rise) = rise
 
 abbrev front : List ℕ → ℕ
 front [] = 0
@@ -57,26 +56,26 @@ record Facts : Type 0 where
   sound-between : sound S between 4096 ≡ true
   sound-full : sound S (table 32) 4096 ≡ true
   sound-one : sound S (table 1) 4096 ≡ true
-  stamps-joined : (stamps_stay (bare false) due 0 plain).answer ≡ Joined 0
+  stamps-joined : (stamps_stay (bare false) due 0 plain).answer ≡ Ok 0
   stamp-left : front (stamps_of (stamps_stay (bare false) due 0 plain).first.stamps 0) ≡ 0
   stamp-there : front (stamps_of due.stamps 0) ≡ 5
-  deadlines-joined : (deadlines_stay (bare false) due 0 plain).answer ≡ Joined 0
+  deadlines-joined : (deadlines_stay (bare false) due 0 plain).answer ≡ Ok 0
   deadline-left : (at (deadlines_stay (bare false) due 0 plain).first.records 0).deadline ≡ 0
-  marks-joined : (either_mark (bare true) (bare false) 0 plain).answer ≡ Joined 0
+  marks-joined : (either_mark (bare true) (bare false) 0 plain).answer ≡ Ok 0
   mark-left : (either_mark (bare true) (bare false) 0 plain).first.state.mark ≡ true
-  zero-joined : (behind_zero (bare false) due 0 plain).answer ≡ Joined 0
+  zero-joined : (behind_zero (bare false) due 0 plain).answer ≡ Ok 0
   base-behind : (at (behind_zero (bare false) due 0 plain).second.records 0).base ≡ base
   none-empty : (at empty.records 0).base ≡ 0
-  rise : (rise_of_second due (bare false) 0 plain).answer ≡ Joined 0
-  first_passes : (one_of_first (bare false) short 0 plain).answer ≡ Joined 0
-  second-passes : (one_of_second short (bare false) 0 plain).answer ≡ Joined 0
-  first-calm : (two_of_first (bare false) w₀ 0 plain).answer ≡ Joined 0
-  second-calm : (two_of_second w₀ (bare false) 0 plain).answer ≡ Joined 0
-  two-before-one : (table_by_table w₀ short 0 plain).answer ≡ NotJoined QuestionOpen
-  spans : (spans_only outer between 0 plain).answer ≡ NotJoined TablesOverlap
-  neighbours : (neighbours_too outer between 0 plain).answer ≡ NotJoined TablesOverlap
-  eighteen-before : (eighteen_first (table 32) (table 1) 0 plain).answer ≡ NotJoined TooManyArenas
-  full : (eighteen_at32 (table 32) (bare false) 0 plain).answer ≡ NotJoined TooManyArenas
+  rise : (rise_of_second due (bare false) 0 plain).answer ≡ Ok 0
+  first_passes : (one_of_first (bare false) short 0 plain).answer ≡ Ok 0
+  second-passes : (one_of_second short (bare false) 0 plain).answer ≡ Ok 0
+  first-calm : (two_of_first (bare false) w₀ 0 plain).answer ≡ Ok 0
+  second-calm : (two_of_second w₀ (bare false) 0 plain).answer ≡ Ok 0
+  two-before-one : (table_by_table w₀ short 0 plain).answer ≡ Err QuestionOpen
+  spans : (spans_only outer between 0 plain).answer ≡ Err TablesOverlap
+  neighbours : (neighbours_too outer between 0 plain).answer ≡ Err TablesOverlap
+  eighteen-before : (eighteen_first (table 32) (table 1) 0 plain).answer ≡ Err TooManyArenas
+  full : (eighteen_at32 (table 32) (bare false) 0 plain).answer ≡ Err TooManyArenas
 
 facts : Facts
 unfolding enter in_range bit bit_at within as_number pack write_run all least lowest_run or_one now_ms delay_ms never_purges keeps armed is_due arena_allowed page_size_sound new_arena reserved_arena managed_arena adopted_arena grown_arena find_run run_committed run_fresh take_run give_back_run commit_run dirty_run finish_grant tell_run pend_run release_run stamp_run sweep_due disarm young to_ask next_asked borrow_chunk unpend_chunk return_chunk rearm bytes_of end_of is_inside sound_range clear_past clear_past_all sound_arena empty meets overlaps bad_range find_arena apart sound_question sound_table sound_lent chunks_for too_large bytes_asked ask_memory reserve_reply bad_count no_whole_chunk grows reserve_of manage_of adopt_of eligible serves asks_commit grant_arena grant_reply miss_reply search_of claim_of release_of purge_reply swept_reply visit sweep_from is_for answer_of rules overwritten tables_overlap join_on join_rules stamps_of

@@ -1,6 +1,6 @@
 -- Wrong joins, each as what it makes of two tables, and the statement that each fails: demand 3 of the layer that joins so and calls by the rules, or, where that lets it pass, a sentence of wish 1. Most
 -- do as the rules do but for one row, or for one thing that a granted join leaves. Assumes nothing.
-use Rattle.std.specs.Prelude.{◌≡◌, Bool, true, false, cond, not, ◌&&◌, ◌||◌, List, [], ◌∷◌, ◌++◌, map, ℕ, zero, suc, ◌+◌, ◌-◌, ◌^◌, min, max, leb, ltb, take, drop}
+use Rattle.std.specs.Prelude.{◌≡◌, Bool, true, false, cond, not, ◌&&◌, ◌||◌, List, [], ◌∷◌, ◌++◌, map, ℕ, zero, suc, ◌+◌, ◌-◌, ◌^◌, min, max, leb, ltb, take, drop, Ok, is_some}
 use Rattle.refusals.specs.declared.Refusal.TheVariants.{Broken, QuestionOpen, TablesOverlap, TooManyArenas}
 use Rattle.bitmap.specs.Lowest.{least}
 use Rattle.arena.specs.declared.Arena.{Arena}
@@ -8,9 +8,8 @@ use Rattle.arena.specs.Place.{bytes_of, end_of}
 use Rattle.arena.specs.Registering.{no_bits, each_bit}
 use Rattle.arena.specs.Record.{with_used, with_dirty, with_deadline}
 use Rattle.layer.specs.declared.Settings.{Settings}
-use Rattle.layer.specs.declared.JoinAnswer.TheVariants.{Joined}
 use Rattle.layer.specs.World.{World, world_of, calm, size_of, Row, first_of, empty}
-use Rattle.layer.specs.Table.{at, is_at, overlaps, sound}
+use Rattle.layer.specs.Table.{at, overlaps, sound}
 use Rattle.layer.specs.Answering.{is_idle}
 use Rattle.layer.specs.Step.{step}
 use Rattle.layer.specs.Listing.{release_list}
@@ -58,7 +57,7 @@ right_rows w v settings = one_and_two w v settings (seventeen w v ∷ eighteen w
 
 -- the rules' grant, and one that leaves another first table
 abbrev pub leaves_first : (World → World → World) → World → World → JoinOutcome
-leaves_first makes w v = join_outcome (Joined w.state.count) (makes w v) empty
+leaves_first makes w v = join_outcome (Ok w.state.count) (makes w v) empty
 
 abbrev pub right_grant : World → World → JoinOutcome
 right_grant = leaves_first joined_world
@@ -109,10 +108,10 @@ either_mark =
 
 -- against "The second is left empty": it stays as it was; its records stay behind a count of 0
 abbrev pub stays_behind : Join
-stays_behind = by_rows right_rows (λ w v. join_outcome (Joined w.state.count) (joined_world w v) v)
+stays_behind = by_rows right_rows (λ w v. join_outcome (Ok w.state.count) (joined_world w v) v)
 
 abbrev pub behind_zero : Join
-behind_zero = by_rows right_rows (λ w v. join_outcome (Joined w.state.count) (joined_world w v) (world_of v.records v.stamps (calm 0 false)))
+behind_zero = by_rows right_rows (λ w v. join_outcome (Ok w.state.count) (joined_world w v) (world_of v.records v.stamps (calm 0 false)))
 
 -- a refusal empties it too
 abbrev pub empties_always : Join
@@ -120,7 +119,7 @@ empties_always w v ns settings = join_outcome (join w v ns settings).answer (joi
 
 -- the rise that is answered is the second's count
 abbrev pub rise_of_second : Join
-rise_of_second = by_rows right_rows (λ w v. join_outcome (Joined v.state.count) (joined_world w v) empty)
+rise_of_second = by_rows right_rows (λ w v. join_outcome (Ok v.state.count) (joined_world w v) empty)
 
 -- ---- rows 1 and 2
 
@@ -172,7 +171,7 @@ spans_only = by_rows (λ w v settings. one_and_two w v settings (refuse_join w v
 abbrev pub touches : World → World → Bool
 touches w v =
     let S = size_of w.state in
-    is_at (least (λ j. overlaps S w.records w.state.count ((at v.records j).base - 1) (bytes_of S (at v.records j) + 2)) 0 v.state.count)
+    is_some (least (λ j. overlaps S w.records w.state.count ((at v.records j).base - 1) (bytes_of S (at v.records j) + 2)) 0 v.state.count)
 
 abbrev pub neighbours_too : Join
 neighbours_too = by_rows (λ w v settings. one_and_two w v settings (refuse_join w v TablesOverlap (touches w v) ∷ eighteen w v ∷ [])) right_grant

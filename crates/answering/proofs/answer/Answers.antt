@@ -14,12 +14,12 @@ returns-then-not-row_one c =
     let broken : sound_lent (size_of a.state) a.records.now (length a.stamps.now) a.state a.settings.page ≡ false = cc in
     rw c.refuse.ensures (broken-row a.records.now a.stamps.now a.state a.ns a.settings broken (answer a.kind a.granted a.base))
 
-pub returns-then-not-is_answered : goal.returns-then-not-is_answered
-returns-then-not-is_answered c =
+pub returns-then-not-is_for : goal.returns-then-not-is_for
+returns-then-not-is_for c =
     let a = c.args in
     let passes : Passes a.records.now a.stamps.now a.state a.ns a.settings = cc in
     let other : is_for a.state.question a.kind ≡ false = cc in
-    rw c.refuse-then-not-is_answered.ensures (other_row a.records.now a.stamps.now a.state a.ns a.settings a.kind a.granted a.base passes other)
+    rw c.refuse-then-not-is_for.ensures (other_row a.records.now a.stamps.now a.state a.ns a.settings a.kind a.granted a.base passes other)
 
 pub answer_open-requires : goal.answer_open-requires
 answer_open-requires c =

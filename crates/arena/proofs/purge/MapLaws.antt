@@ -1,22 +1,18 @@
 -- What a sweep looks for in a record is what it looks for in its maps; and of a record whose chunk j came back. Assumes nothing.
 use Rattle.std.specs.Prelude.{◌≡◌, ◌&&◌, ◌+◌, ◌-◌, ◌*◌, ◌<◌, ◌≤◌}
-use Rattle.arena.proofs.Prelude.{refl, sym, ap, ap₂, ◌∙◌, subst, Bool, true, false, cond, not, List, ⊎_elim, ℕ, zero, suc, arith, length, bit_at, write_run, clear_run, lt-or-le, within-after, write_run-length, Found, At, Nothing, least, Arena, with_deadline, give_back_run, tell_run, young, next_wait, rearm_at, rearm, disarm, unpend_chunk, return_chunk, next_in, wait_in, armed_for, next_deadline}
+use Rattle.arena.proofs.Prelude.{refl, sym, ap, ap₂, ◌∙◌, subst, Bool, true, false, cond, not, List, ⊎_elim, ℕ, zero, suc, arith, length, bit_at, write_run, clear_run, lt-or-le, within-after, write_run-length, Option, Some, None, least, Arena, with_deadline, give_back_run, tell_run, young, next_wait, rearm_at, rearm, disarm, unpend_chunk, return_chunk, wait_in, armed_for, next_deadline}
 use Rattle.bitmap.proofs.words.RowLaws.{pack-bit, past_the_end}
 use Rattle.arena.specs.Sweeping.{to_ask, next_asked}
 
 module _ (a : Arena) (stamps : List ℕ) (force : Bool) (now delay : ℕ) where
-  pub next-in : (from : ℕ) → next_in a.pending a.used a.chunks stamps force now delay from ≡ next_asked a stamps force now delay from
-  unfolding next_in next_asked to_ask
-  next-in from = refl
-
   -- a disarmed arena has the same chunks to ask about
   pub next-disarmed : (from : ℕ) → next_asked (disarm a) stamps force now delay from ≡ next_asked a stamps force now delay from
   unfolding next_asked to_ask disarm
   next-disarmed from = refl
 
-  armed-at : (f : Found) → with_deadline a (armed_for a.deadline now f) ≡ rearm_at a now f
-  armed-at (At w) = refl
-  armed-at Nothing = refl
+  armed-at : (f : Option ℕ) → with_deadline a (armed_for a.deadline now f) ≡ rearm_at a now f
+  armed-at (Some w) = refl
+  armed-at None = refl
 
   waits : wait_in a.pending a.chunks stamps now delay ≡ next_wait a stamps now delay
   unfolding wait_in next_wait
@@ -52,22 +48,22 @@ least-same : (p q : ℕ → Bool) (s k : ℕ) → ((t : ℕ) → s ≤ t → p t
 unfolding least
 least-same p q s zero h = refl
 least-same p q s (suc k) h =
-    ap₂ (λ (b : Bool) (r : Found). cond b (At s) r) (h s (omega arith)) (least-same p q (suc s) k (λ t l. h t (omega arith)))
+    ap₂ (λ (b : Bool) (r : Option ℕ). cond b (Some s) r) (h s (omega arith)) (least-same p q (suc s) k (λ t l. h t (omega arith)))
 
 module _ (a : Arena) (j : ℕ) (stamps : List ℕ) (force : Bool) (now delay : ℕ) where
-  behind : next_in (clear_run a.pending j 1) (clear_run a.used j 1) a.chunks stamps force now delay (j + 1)
+  behind : least (λ t. bit_at (clear_run a.pending j 1) t && (not (young stamps force now delay t) && not (bit_at (clear_run a.used j 1) t))) (j + 1) (a.chunks - (j + 1))
       ≡ next_asked a stamps force now delay (j + 1)
-  unfolding next_in next_asked to_ask
+  unfolding next_asked to_ask
   behind =
       least-same _ _ (j + 1) (a.chunks - (j + 1))
       (λ t l. ap₂ (λ (p u : Bool). p && (not (young stamps force now delay t) && not u)) (clear-past a.pending j t (omega arith)) (clear-past a.used j t (omega arith)))
 
   -- what is to be asked about behind it is what was
   pub next-returned : (granted decommit : Bool) → next_asked (return_chunk a j granted decommit) stamps force now delay (j + 1) ≡ next_asked a stamps force now delay (j + 1)
-  unfolding return_chunk tell_run give_back_run unpend_chunk
-  next-returned true true = sym (next-in _ stamps force now delay (j + 1)) ∙ behind
-  next-returned true false = sym (next-in _ stamps force now delay (j + 1)) ∙ behind
-  next-returned false decommit = sym (next-in _ stamps force now delay (j + 1)) ∙ behind
+  unfolding return_chunk tell_run give_back_run unpend_chunk next_asked to_ask
+  next-returned true true = behind
+  next-returned true false = behind
+  next-returned false decommit = behind
 
   -- its own wait is over
   pub rearm-returned : (granted decommit : Bool)

@@ -1,11 +1,9 @@
 -- The law of the lowest run: an answer that is right is the one that `lowest_run` computes, and the other way round. And the law of a scan: what is known
 -- of the places passed, and how a stretch of free or of taken places moves it. Over any test of a place. Assumes nothing.
-use Rattle.std.specs.Prelude.{◌≡◌, ◌&&◌, ◌+◌, ◌≤◌, ◌<◌}
+use Rattle.std.specs.Prelude.{◌≡◌, ◌&&◌, ◌+◌, ◌≤◌, ◌<◌, Option, Some, None}
 use Rattle.walks.proofs.Prelude.{refl, sym, ap, ap₂, ◌∙◌, subst, Bool, true, false, cond, true≢false, ⊎_elim, ℕ, zero, suc, max, eq-or-lt_of_le, arith, le-leb, leb-true, leb}
 use mathlib.Core.Logic.{◌↔◌}
 use native.Mathlib.Nat.{le_refl}
-use Rattle.bitmap.specs.declared.runs.Found.{Found}
-use Rattle.bitmap.specs.declared.runs.Found.TheVariants.{At, Nothing}
 use Rattle.bitmap.proofs.words.RowLaws.{lt-or-le}
 use Rattle.bitmap.specs.Lowest.{Free, Starts, Lowest, all, least, lowest_run}
 
@@ -31,39 +29,39 @@ free_all p s (suc n) h =
 
 -- ---- `least`
 
-pub least-none : (p : ℕ → Bool) (s k : ℕ) → ((t : ℕ) → s ≤ t → t < s + k → p t ≡ false) → least p s k ≡ Nothing
+pub least-none : (p : ℕ → Bool) (s k : ℕ) → ((t : ℕ) → s ≤ t → t < s + k → p t ≡ false) → least p s k ≡ None
 unfolding least
 least-none p s zero h = refl
 least-none p s (suc k) h =
-    ap (λ (b : Bool). cond b (At s) (least p (suc s) k)) (h s (le_refl s) (omega arith))
+    ap (λ (b : Bool). cond b (Some s) (least p (suc s) k)) (h s (le_refl s) (omega arith))
     ∙ least-none p (suc s) k (λ t l m. h t (omega arith) (omega arith))
 
-pub least_at : (p : ℕ → Bool) (s k x : ℕ) → s ≤ x → x < s + k → p x ≡ true → ((t : ℕ) → s ≤ t → t < x → p t ≡ false) → least p s k ≡ At x
+pub least_at : (p : ℕ → Bool) (s k x : ℕ) → s ≤ x → x < s + k → p x ≡ true → ((t : ℕ) → s ≤ t → t < x → p t ≡ false) → least p s k ≡ Some x
 unfolding least
 least_at p s zero x l m e h = absurd (omega arith)
 least_at p s (suc k) x l m e h =
     ⊎_elim
-    (λ (i : s ≡ x). ap (λ (b : Bool). cond b (At s) (least p (suc s) k)) (subst (λ (y : ℕ). p y ≡ true) (sym i) e) ∙ ap At i)
+    (λ (i : s ≡ x). ap (λ (b : Bool). cond b (Some s) (least p (suc s) k)) (subst (λ (y : ℕ). p y ≡ true) (sym i) e) ∙ ap Some i)
     (λ (i : s < x).
-    ap (λ (b : Bool). cond b (At s) (least p (suc s) k)) (h s (le_refl s) i)
+    ap (λ (b : Bool). cond b (Some s) (least p (suc s) k)) (h s (le_refl s) i)
     ∙ least_at p (suc s) k x i (omega arith) e (λ t u v. h t (omega arith) v))
     (eq-or-lt_of_le l)
 
 -- what an answer says: the first place at which p holds, or that there is none
-abbrev pub First : (ℕ → Bool) → ℕ → ℕ → Found → Type 0
-First p s k (At x) = (s ≤ x) × (x < s + k) × (p x ≡ true) × ((t : ℕ) → s ≤ t → t < x → p t ≡ false)
-First p s k Nothing = (t : ℕ) → s ≤ t → t < s + k → p t ≡ false
+abbrev pub First : (ℕ → Bool) → ℕ → ℕ → Option ℕ → Type 0
+First p s k (Some x) = (s ≤ x) × (x < s + k) × (p x ≡ true) × ((t : ℕ) → s ≤ t → t < x → p t ≡ false)
+First p s k None = (t : ℕ) → s ≤ t → t < s + k → p t ≡ false
 
 pub first_says : (p : ℕ → Bool) (s k : ℕ) → First p s k (least p s k)
 unfolding least
 first_says p s zero = λ t u v. absurd (omega arith)
 first_says p s (suc k) = go (p s) refl (least p (suc s) k) (first_says p (suc s) k)
   where
-    go : (b : Bool) → p s ≡ b → (r : Found) → First p (suc s) k r → First p s (suc k) (cond b (At s) r)
+    go : (b : Bool) → p s ≡ b → (r : Option ℕ) → First p (suc s) k r → First p s (suc k) (cond b (Some s) r)
     go true e r h = (le_refl s, omega arith, e, λ t u v. absurd (omega arith))
-    go false e (At x) h =
+    go false e (Some x) h =
         (omega arith, omega arith, h.2, λ t u v. ⊎_elim (λ (q : s < t). h.3 t q v) (λ (q : t ≤ s). ap p (let z : t ≡ s = omega arith in z) ∙ e) (lt-or-le s t))
-    go false e Nothing h = λ t u v. ⊎_elim (λ (q : s < t). h t q (omega arith)) (λ (q : t ≤ s). ap p (let z : t ≡ s = omega arith in z) ∙ e) (lt-or-le s t)
+    go false e None h = λ t u v. ⊎_elim (λ (q : s < t). h t q (omega arith)) (λ (q : t ≤ s). ap p (let z : t ≡ s = omega arith in z) ∙ e) (lt-or-le s t)
 
 -- ---- the answer that is right is the one that is computed
 
@@ -84,10 +82,10 @@ module _ (free : ℕ → Bool) (places n : ℕ) where
       go true p false q = refl
       go true p true q = absurd (h (record { room = leb-true (s + n) places p; all-free = all-free-of free s n q }))
 
-  pub lowest-is : (r : Found) → Lowest free places n r → r ≡ lowest_run free places n
+  pub lowest-is : (r : Option ℕ) → Lowest free places n r → r ≡ lowest_run free places n
   unfolding can lowest_run
-  lowest-is (At s) h = sym (least_at can 0 (suc places) s (omega arith) (omega (arith, h.0.room)) (yes-can s h.0) (λ t l m. no-can t (h.1 t m)))
-  lowest-is Nothing h = sym (least-none can 0 (suc places) (λ t l m. no-can t (h t)))
+  lowest-is (Some s) h = sym (least_at can 0 (suc places) s (omega arith) (omega (arith, h.0.room)) (yes-can s h.0) (λ t l m. no-can t (h.1 t m)))
+  lowest-is None h = sym (least-none can 0 (suc places) (λ t l m. no-can t (h t)))
 
   -- and the other way round: what is computed is right
   can-starts : (s : ℕ) → can s ≡ true → Starts free places n s
@@ -105,7 +103,7 @@ module _ (free : ℕ → Bool) (places n : ℕ) where
   least-says s (suc k) h q = go (can s) refl (λ f. least-says (suc s) k f (omega arith))
     where
       go : (b : Bool) → can s ≡ b → (((t : ℕ) → t < suc s → can t ≡ false) → Lowest free places n (least can (suc s) k))
-          → Lowest free places n (cond b (At s) (least can (suc s) k))
+          → Lowest free places n (cond b (Some s) (least can (suc s) k))
       go true c rec = (can-starts s c, λ t m g. true≢false (sym (yes-can t g) ∙ h t m))
       go false c rec = rec (λ t m. ⊎_elim (λ (i : t < s). h t i) (λ (i : s ≤ t). ap can (let z : t ≡ s = omega arith in z) ∙ c) (lt-or-le t s))
 
@@ -144,19 +142,19 @@ module _ (free : ℕ → Bool) (places n : ℕ) where
   }
 
   -- the places from i up to k are free, and the run is long enough
-  pub found : (s i k : ℕ) → Scanned s i → s + n ≤ places → s + n ≤ k → ((j : ℕ) → i ≤ j → j < k → free j ≡ true) → Lowest free places n (At s)
+  pub found : (s i k : ℕ) → Scanned s i → s + n ≤ places → s + n ≤ k → ((j : ℕ) → i ≤ j → j < k → free j ≡ true) → Lowest free places n (Some s)
   found s i k c l h gap = (
     record { room = l; all-free = λ j p q. ⊎_elim (λ (m : j < i). c.gap j p m) (λ (m : i ≤ j). gap j m (omega arith)) (lt-or-le j i) },
     λ t m g. c.none t m g.all-free,
   )
 
   -- a run from s on would pass the end
-  pub nowhere : (s i : ℕ) → Scanned s i → places < s + n → Lowest free places n Nothing
+  pub nowhere : (s i : ℕ) → Scanned s i → places < s + n → Lowest free places n None
   nowhere s i c l = λ t g. ⊎_elim (λ (m : t < s). c.none t m g.all-free) (λ (m : s ≤ t). omega (arith, g.room)) (lt-or-le t s)
 
   -- ---- the definition, by what it means
-  pub at-iff : (s : ℕ) → (lowest_run free places n ≡ At s) ↔ (Starts free places n s × ((t : ℕ) → t < s → Starts free places n t → ⊥))
-  at-iff s = (λ e. subst (Lowest free places n) e lowest-says, λ h. sym (lowest-is (At s) h))
+  pub at-iff : (s : ℕ) → (lowest_run free places n ≡ Some s) ↔ (Starts free places n s × ((t : ℕ) → t < s → Starts free places n t → ⊥))
+  at-iff s = (λ e. subst (Lowest free places n) e lowest-says, λ h. sym (lowest-is (Some s) h))
 
-  pub nothing-iff : (lowest_run free places n ≡ Nothing) ↔ ((t : ℕ) → Starts free places n t → ⊥)
-  nothing-iff = (λ e. subst (Lowest free places n) e lowest-says, λ h. sym (lowest-is Nothing h))
+  pub nothing-iff : (lowest_run free places n ≡ None) ↔ ((t : ℕ) → Starts free places n t → ⊥)
+  nothing-iff = (λ e. subst (Lowest free places n) e lowest-says, λ h. sym (lowest-is None h))

@@ -1,6 +1,6 @@
 -- The laws of a search by words: the places from which n bits on are set, by shifts; the top of a word; and what a step says of the row.
 -- Assumes nothing.
-use Rattle.std.specs.Prelude.{◌≡◌, ◌&&◌, ◌+◌, ◌-◌, ◌*◌, ◌/◌, ◌%◌, ◌^◌, ◌≤◌, ◌<◌}
+use Rattle.std.specs.Prelude.{◌≡◌, ◌&&◌, ◌+◌, ◌-◌, ◌*◌, ◌/◌, ◌%◌, ◌^◌, ◌≤◌, ◌<◌, Option, Some, None}
 use Rattle.walks.proofs.Prelude.{refl, sym, ap, ap₂, ◌∙◌, subst, Bool, true, false, cond, true≢false, ⊎_elim, List, ℕ, zero, suc, pow-suc, arith, lt-ltb, le-ltb, ltb-true, ltb-false, ltb, eqb, get_or, bit_and, pow_pos, count_leading_zeros}
 use native.Mathlib.Nat.{div-lt_iff_lt-mul, eq-zero-or-pos}
 use lib.Count.{leading_top, leading_of_zero}
@@ -8,8 +8,6 @@ use Rattle.bitmap.specs.Bits.{bit, bit_at, LowestBit}
 use Rattle.bitmap.proofs.words.BitLaws.{and-bit, shr-bit, bit_high, ones_bit}
 use Rattle.bitmap.proofs.words.RowLaws.{lt-or-le}
 use Rattle.bitmap.proofs.words.WordLaws.{not-both, inverted}
-use Rattle.bitmap.specs.declared.runs.Found.{Found}
-use Rattle.bitmap.specs.declared.runs.Found.TheVariants.{At, Nothing}
 use Rattle.bitmap.specs.Lowest.{Free, Starts, Lowest, all, lowest_run, sense}
 use Rattle.bitmap.proofs.runs.LowestLaws.{all-free-of, free_all, Scanned, freed, nowhere, lowest-is}
 use Rattle.bitmap.specs.Steps.{Short, Stepped}
@@ -111,13 +109,6 @@ clear-below w r lowest i l = go (bit w i) refl
     go false e = refl
     go true e = absurd (lowest.others i l e)
 
-pub set_below : (w r : ℕ) → LowestBit false w r → (i : ℕ) → i < r → bit w i ≡ true
-set_below w r lowest i l = go (bit w i) refl
-  where
-    go : (b : Bool) → bit w i ≡ b → b ≡ true
-    go true e = refl
-    go false e = absurd (lowest.others i l e)
-
 -- ---- what the counts of a word say of a step
 
 pub in-word : (w i : ℕ) → w < 2 ^ 32 → bit w i ≡ true → i < 32
@@ -179,18 +170,12 @@ module _ (w carry n : ℕ) (small : w < 2 ^ 32) (apart : bit_and w (w / 2 ^ 1) �
       above (suc (suc x)) h f j u v = absurd (omega arith)
 
 module _ (w carry n low : ℕ) (small : w < 2 ^ 32) (room : carry < n) (lowest : LowestBit false w low) where
-  pub before-step : n ≤ carry + low → Stepped w carry n Before
-  before-step h = λ j u v. set_below w low lowest j (omega arith)
-
   short : carry + low < n → low < 32 → Short w carry n
   short h l c = not-both (bit w low) (lowest.there l) (c low (omega arith) (omega arith))
 
   pub from_step : (at : ℕ) → carry + low < n → low < 32 → at < 32 → ((i : ℕ) → i < at → all (bit w) i n ≡ false) → all (bit w) at n ≡ true → Stepped w carry n (From at)
   from_step at h m l fails holds =
       (l, short h m, all-free-of (bit w) at n holds, λ t u c. not-both (all (bit w) t n) (fails t u) (free_all (bit w) t n c))
-
-  pub whole-step : carry + low < n → low ≡ 32 → Stepped w carry n Whole
-  whole-step h l = (omega arith, λ j u v. set_below w low lowest j (omega arith))
 
   pub carry-step : (at k : ℕ) → carry + low < n → low < 32 → 32 ≤ at → ((i : ℕ) → i < at → all (bit w) i n ≡ false)
       → k ≤ 32 → ((i : ℕ) → 32 - k ≤ i → i < 32 → bit w i ≡ true) → (k < 32 → bit w (31 - k) ≡ false) → Stepped w carry n (Carry k)
@@ -208,10 +193,6 @@ pub sense-used : (w i : ℕ) (used : Bool) → used ≡ true → w < 2 ^ 32 → 
 sense-used w i true e h l = inverted w i h l
 sense-used w i false e h l = absurd (true≢false (sym e))
 
-pub sense-free : (w i : ℕ) (used : Bool) → used ≡ false → bit w i ≡ sense used (bit w i)
-sense-free w i true e = absurd (true≢false e)
-sense-free w i false e = refl
-
 and-swap : (a b : Bool) → a && b ≡ b && a
 and-swap true true = refl
 and-swap true false = refl
@@ -221,9 +202,6 @@ and-swap false false = refl
 pub first-places : (f m left i : ℕ) (b : Bool) → m ≡ 2 ^ left - 1 → bit f i ≡ b → bit (bit_and f m) i ≡ ltb i left && b
 first-places f m left i b e h =
     ap (λ (x : ℕ). bit (bit_and f x) i) e ∙ and-bit f (2 ^ left - 1) i ∙ ap₂ ◌&&◌ h (ones_bit left i) ∙ and-swap b (ltb i left)
-
-pub every-place : (f left i : ℕ) (b : Bool) → 32 ≤ left → i < 32 → bit f i ≡ b → bit f i ≡ ltb i left && b
-every-place f left i b h l e = e ∙ ap (λ (t : Bool). t && b) (sym (lt-ltb i left (omega arith)))
 
 -- ---- what a step says of the row
 
@@ -239,7 +217,7 @@ module _ (free : ℕ → Bool) (places n w base carry : ℕ) (small : w < 2 ^ 32
   room_of : (s : ℕ) → Free free s n → s + n ≤ places
   room_of s c = omega (arith, bounded (s + n - 1) (c (s + n - 1) (omega arith) (omega arith)))
 
-  pub before-law : Free (bit w) 0 (n - carry) → Lowest free places n (At (base - carry))
+  pub before-law : Free (bit w) 0 (n - carry) → Lowest free places n (Some (base - carry))
   before-law c = (record { room = room_of (base - carry) run; all-free = run }, λ t m g. scanned.none t m g.all-free)
     where
       run : Free free (base - carry) n
@@ -250,7 +228,7 @@ module _ (free : ℕ → Bool) (places n w base carry : ℕ) (small : w < 2 ^ 32
       ⊎_elim (λ (m : t < base - carry). scanned.none t m g)
       (λ (m : base - carry ≤ t). h (λ j u v. agrees j (omega arith) ∙ g (base + j) (omega arith) (omega arith))) (lt-or-le t (base - carry))
 
-  pub from-law : (i : ℕ) → Short w carry n → Free (bit w) i n → ((t : ℕ) → t < i → Free (bit w) t n → ⊥) → Lowest free places n (At (base + i))
+  pub from-law : (i : ℕ) → Short w carry n → Free (bit w) i n → ((t : ℕ) → t < i → Free (bit w) t n → ⊥) → Lowest free places n (Some (base + i))
   from-law i s c h = (record { room = room_of (base + i) (down i n c); all-free = down i n c }, lower)
     where
       lower : (t : ℕ) → t < base + i → Starts free places n t → ⊥
@@ -291,60 +269,65 @@ module _ (free : ℕ → Bool) (places n : ℕ) where
   into : (t : ℕ) → Starts free places n t → Starts (up_to places free) places n t
   into t g = record { room = g.room; all-free = λ j u v. ap₂ ◌&&◌ (lt-ltb j places (omega (arith, g.room))) (g.all-free j u v) }
 
-  pub up-to-law : (r : Found) → Lowest (up_to places free) places n r → Lowest free places n r
-  up-to-law (At s) h = (out s h.0, λ t m g. h.1 t m (into t g))
-  up-to-law Nothing h = λ t g. h t (into t g)
+  pub up-to-law : (r : Option ℕ) → Lowest (up_to places free) places n r → Lowest free places n r
+  up-to-law (Some s) h = (out s h.0, λ t m g. h.1 t m (into t g))
+  up-to-law None h = λ t g. h t (into t g)
 
--- ---- a word of the row, as far as the row has places
-pub word-agrees : (ws : List ℕ) (used : Bool) (places base v : ℕ) → base % 32 ≡ 0
-    → ((i : ℕ) → i < 32 → bit v i ≡ ltb i (places - base) && sense used (bit (get_or ws (base / 32) 0) i))
-    → (i : ℕ) → i < 32 → bit v i ≡ up_to places (λ j. sense used (bit_at ws j)) (base + i)
+-- ---- word k of the row, as far as the row has places
+pub word-agrees : (ws : List ℕ) (used : Bool) (places k v : ℕ)
+    → ((i : ℕ) → i < 32 → bit v i ≡ ltb i (places - 32 * k) && sense used (bit (get_or ws k 0) i))
+    → (i : ℕ) → i < 32 → bit v i ≡ up_to places (λ j. sense used (bit_at ws j)) (32 * k + i)
 unfolding bit_at
-word-agrees ws used places base v z h i l =
+word-agrees ws used places k v h i l =
     h i l
-    ∙ ap₂ ◌&&◌ (go (ltb (base + i) places) refl)
-    (ap₂ (λ (a b : ℕ). sense used (bit (get_or ws a 0) b)) (let q : base / 32 ≡ (base + i) / 32 = omega arith in q) (let q : i ≡ (base + i) % 32 = omega arith in q))
+    ∙ ap₂ ◌&&◌ (go (ltb (32 * k + i) places) refl)
+    (ap₂ (λ (a b : ℕ). sense used (bit (get_or ws a 0) b)) (let q : k ≡ (32 * k + i) / 32 = omega arith in q) (let q : i ≡ (32 * k + i) % 32 = omega arith in q))
   where
-    go : (t : Bool) → ltb (base + i) places ≡ t → ltb i (places - base) ≡ t
-    go true e = lt-ltb i (places - base) (omega (arith, ltb-true (base + i) places e))
-    go false e = le-ltb i (places - base) (omega (arith, ltb-false (base + i) places e))
+    go : (t : Bool) → ltb (32 * k + i) places ≡ t → ltb i (places - 32 * k) ≡ t
+    go true e = lt-ltb i (places - 32 * k) (omega (arith, ltb-true (32 * k + i) places e))
+    go false e = le-ltb i (places - 32 * k) (omega (arith, ltb-false (32 * k + i) places e))
 
--- ---- a turn of the search: the word v of the places from base on, in the row ws
+-- ---- a turn of the search: v is word k of the row ws
 
 abbrev pub free_in : List ℕ → Bool → ℕ → Bool
 free_in ws used j = sense used (bit_at ws j)
 
-module _ (ws : List ℕ) (used : Bool) (places n base carry : ℕ) where
-  -- what is known after the step r: the answer, or how far the scan is
-  abbrev pub Next : Step → Type 0
-  Next Before = At (base - carry) ≡ lowest_run (free_in ws used) places n
-  Next (From i) = (i < 32) × (At (base + i) ≡ lowest_run (free_in ws used) places n)
-  Next Whole = Scanned (up_to places (free_in ws used)) places n (base + 32 - (carry + 32)) (base + 32)
-  Next (Carry k) = (k < 32) × Scanned (up_to places (free_in ws used)) places n (base + 32 - k) (base + 32)
+module _ (ws : List ℕ) (used : Bool) (places n : ℕ) where
+  -- the scan as far as word k, with so many free places before it
+  abbrev pub Scan : ℕ → ℕ → Type 0
+  Scan k carry = Scanned (up_to places (free_in ws used)) places n (32 * k - carry) (32 * k) × (carry ≤ 32 * k)
 
-  pub turn : (v : ℕ) → v < 2 ^ 32 → carry ≤ base → 0 < n → base % 32 ≡ 0
-      → ((i : ℕ) → i < 32 → bit v i ≡ ltb i (places - base) && sense used (bit (get_or ws (base / 32) 0) i))
-      → Scanned (up_to places (free_in ws used)) places n (base - carry) base → (r : Step) → Stepped v carry n r → Next r
-  turn v small back pos whole bits scanned = go
-    where
-      agrees : (i : ℕ) → i < 32 → bit v i ≡ up_to places (free_in ws used) (base + i)
-      agrees = word-agrees ws used places base v whole bits
-
-      answer : (r : Found) → Lowest (up_to places (free_in ws used)) places n r → r ≡ lowest_run (free_in ws used) places n
-      answer r h = lowest-is (free_in ws used) places n r (up-to-law (free_in ws used) places n r h)
-
-      go : (r : Step) → Stepped v carry n r → Next r
-      go Before h = answer (At (base - carry)) (before-law (up_to places (free_in ws used)) places n v base carry small back pos agrees (bounded places (free_in ws used)) scanned h)
-      go (From i) h =
-          (h.0, answer (At (base + i)) (from-law (up_to places (free_in ws used)) places n v base carry small back pos agrees (bounded places (free_in ws used)) scanned i h.1 h.2 h.3))
-      go Whole h = whole-law (up_to places (free_in ws used)) places n v base carry small back pos agrees (bounded places (free_in ws used)) scanned h.0 h.1
-      go (Carry k) h =
-          (h.0, carry-law (up_to places (free_in ws used)) places n v base carry small back pos agrees (bounded places (free_in ws used)) scanned k h.0 h.1 h.2 h.3 h.4)
+  answer : (r : Option ℕ) → Lowest (up_to places (free_in ws used)) places n r → r ≡ lowest_run (free_in ws used) places n
+  answer r h = lowest-is (free_in ws used) places n r (up-to-law (free_in ws used) places n r h)
 
   -- the end of the row
-  pub at-end : carry ≤ base → places ≤ base → Scanned (up_to places (free_in ws used)) places n (base - carry) base
-      → Nothing ≡ lowest_run (free_in ws used) places n
-  at-end back l s =
-      lowest-is (free_in ws used) places n Nothing
-      (up-to-law (free_in ws used) places n Nothing
-      (nowhere (up_to places (free_in ws used)) places n (base - carry) base s (omega (arith, s.short))))
+  pub at-end : (k carry : ℕ) → places ≤ 32 * k → Scan k carry → None ≡ lowest_run (free_in ws used) places n
+  at-end k carry l s = answer None (nowhere (up_to places (free_in ws used)) places n (32 * k - carry) (32 * k) s.0 (omega (arith, s.0.short)))
+
+  module _ (k carry : ℕ) where
+    -- what is known after the step r: the answer, or how far the scan is
+    abbrev pub Next : Step → Type 0
+    Next Before = Some (32 * k - carry) ≡ lowest_run (free_in ws used) places n
+    Next (From i) = Some (32 * k + i) ≡ lowest_run (free_in ws used) places n
+    Next Whole = Scan (k + 1) (carry + 32)
+    Next (Carry top) = Scan (k + 1) top
+
+    pub turn : (v : ℕ) → v < 2 ^ 32 → 0 < n → ((i : ℕ) → i < 32 → bit v i ≡ ltb i (places - 32 * k) && sense used (bit (get_or ws k 0) i))
+        → Scan k carry → (r : Step) → Stepped v carry n r → Next r
+    turn v small pos bits scan = go
+      where
+        agrees : (i : ℕ) → i < 32 → bit v i ≡ up_to places (free_in ws used) (32 * k + i)
+        agrees = word-agrees ws used places k v bits
+
+        next : (c : ℕ) → Scanned (up_to places (free_in ws used)) places n (32 * k + 32 - c) (32 * k + 32)
+            → Scanned (up_to places (free_in ws used)) places n (32 * (k + 1) - c) (32 * (k + 1))
+        next c = subst (λ (e : ℕ). Scanned (up_to places (free_in ws used)) places n (e - c) e) (let z : 32 * k + 32 ≡ 32 * (k + 1) = omega arith in z)
+
+        go : (r : Step) → Stepped v carry n r → Next r
+        go Before h = answer (Some (32 * k - carry)) (before-law (up_to places (free_in ws used)) places n v (32 * k) carry small scan.1 pos agrees (bounded places (free_in ws used)) scan.0 h)
+        go (From i) h =
+            answer (Some (32 * k + i)) (from-law (up_to places (free_in ws used)) places n v (32 * k) carry small scan.1 pos agrees (bounded places (free_in ws used)) scan.0 i h.1 h.2 h.3)
+        go Whole h =
+            (next (carry + 32) (whole-law (up_to places (free_in ws used)) places n v (32 * k) carry small scan.1 pos agrees (bounded places (free_in ws used)) scan.0 h.0 h.1), omega (arith, scan.1))
+        go (Carry top) h =
+            (next top (carry-law (up_to places (free_in ws used)) places n v (32 * k) carry small scan.1 pos agrees (bounded places (free_in ws used)) scan.0 top h.0 h.1 h.2 h.3 h.4), omega (arith, h.0))

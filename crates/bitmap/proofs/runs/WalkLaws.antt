@@ -1,5 +1,5 @@
 -- The laws of a walk over the words of a row: a stretch and its parts, a run of a word by one mask, and the next set place. Assumes nothing.
-use Rattle.std.specs.Prelude.{◌≡◌, ◌&&◌, ◌+◌, ◌-◌, ◌*◌, ◌/◌, ◌%◌, ◌^◌, ◌≤◌, ◌<◌}
+use Rattle.std.specs.Prelude.{◌≡◌, ◌&&◌, ◌+◌, ◌-◌, ◌*◌, ◌/◌, ◌%◌, ◌^◌, ◌≤◌, ◌<◌, Some, None}
 use Rattle.walks.proofs.Prelude.{refl, sym, ap, ap₂, ◌∙◌, Bool, true, false, ⊎_elim, List, ℕ, arith, ltb-true, leb-true, eqb-true, eq-eqb, leb, ltb, eqb, get_or, bit_and, shl_exact, shl_lt, ones_lt}
 use native.Mathlib.Nat.{lt_of_le_of_lt}
 use lib.Bits.{and_le_r}
@@ -7,7 +7,6 @@ use Rattle.bitmap.specs.Bits.{bit, bit_at, within, LowestBit}
 use Rattle.bitmap.proofs.words.BitLaws.{and-bit, shr-bit, run-bit, bit-ext}
 use Rattle.bitmap.proofs.words.RowLaws.{lt-or-le, within-yes}
 use Rattle.bitmap.proofs.words.WordLaws.{not-both}
-use Rattle.bitmap.specs.declared.runs.Found.TheVariants.{At, Nothing}
 use Rattle.bitmap.specs.Lowest.{all, least, sense}
 use Rattle.bitmap.proofs.runs.LowestLaws.{all-free-of, free_all, least-none, least_at}
 use Rattle.bitmap.proofs.runs.SearchLaws.{same, and_both, clear-below, in-word, free_in}
@@ -117,17 +116,17 @@ module _ (ws : List ℕ) (from at z : ℕ) (small : get_or ws (at / 32) 0 < 2 ^ 
       ∙ sym (shr-bit (get_or ws (at / 32) 0) (at % 32) (t - at)) ∙ clear-below (get_or ws (at / 32) 0 / 2 ^ (at % 32)) z lowest (t - at) (omega arith))
       (lt-or-le t at)
 
-  pub next_here : (places : ℕ) → z < 32 → at + z < places → At (at + z) ≡ least (bit_at ws) from (places - from)
+  pub next_here : (places : ℕ) → z < 32 → at + z < places → Some (at + z) ≡ least (bit_at ws) from (places - from)
   next_here places l h =
       sym (least_at (bit_at ws) from (places - from) (at + z) (omega arith) (omega arith)
       (sym (word-place ws at z (inside l)) ∙ there l) (passed z (omega arith) (omega (arith, inside l))))
 
-  pub next_past : (places : ℕ) → z < 32 → places ≤ at + z → Nothing ≡ least (bit_at ws) from (places - from)
+  pub next_past : (places : ℕ) → z < 32 → places ≤ at + z → None ≡ least (bit_at ws) from (places - from)
   next_past places l h =
       sym (least-none (bit_at ws) from (places - from) (λ t u v. passed z (omega arith) (omega (arith, inside l)) t u (omega arith)))
 
   pub next_word : 32 ≤ z → (t : ℕ) → from ≤ t → t < (at / 32 + 1) * 32 → bit_at ws t ≡ false
   next_word l t u v = passed (32 - at % 32) (omega arith) (omega arith) t u (omega arith)
 
-pub next-none : (ws : List ℕ) (from at places : ℕ) → places ≤ at → ((t : ℕ) → from ≤ t → t < at → bit_at ws t ≡ false) → Nothing ≡ least (bit_at ws) from (places - from)
+pub next-none : (ws : List ℕ) (from at places : ℕ) → places ≤ at → ((t : ℕ) → from ≤ t → t < at → bit_at ws t ≡ false) → None ≡ least (bit_at ws) from (places - from)
 next-none ws from at places l clear = sym (least-none (bit_at ws) from (places - from) (λ t u v. clear t u (omega arith)))

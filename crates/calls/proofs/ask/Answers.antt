@@ -1,20 +1,26 @@
--- A query leaves the table as it came, and its reply is that of the query of the call's parts.
-use Rattle.std.proofs.Common.{ap, sym, ◌∙◌, ℕ, w32, to_z-of_z}
-use Rattle.layer.specs.World.{world_of, reply_in}
+-- A query leaves the table as it came.
+use Rattle.std.proofs.Common.{rules}
+use Rattle.state.proofs.Prelude.{◌≡◌, refl, ℕ, Settings, World, Outcome, size_of, sound, world_of, step, Query, query}
 use Rattle.layer.specs.Step as S
-use Rattle.calls.proofs.CallLaws.{kept, owns-is, area-is}
+use Rattle.layer.proofs.Tools.{by-not}
+use Rattle.calls.specs.Calls.{query_of}
 use Rattle.calls.proofs.ask.Goals as goal
 
-pub returns-then-is_owns : goal.returns-then-is_owns
-returns-then-is_owns c =
-    let a = c.args in
-    let w = world_of a.records.now a.stamps.now a.state in
-    let k = kept w a.ns a.settings _ _ (owns-is a.c (sym c.is_owns.ensures ∙ c.if-is_owns.true)) in
-    (c.owns.ensures ∙ (ap (λ (x : ℕ). reply_in (S.step w a.ns a.settings (S.query (S.owns x)))) c.asked_of-address.ensures ∙ k.0), k.1, k.2)
+abbrev Keeps : World → Outcome → Type 0
+Keeps w o = (w.records ≡ o.world.records) × (w.stamps ≡ o.world.stamps)
 
-pub returns : goal.returns
-returns c =
+keeps : (w : World) (ns : ℕ) (settings : Settings) (q : Query) → Keeps w (step w ns settings (query q))
+unfolding S.rules
+keeps w ns settings q = by-not (Keeps w) (sound (size_of w.state) w settings.page) _ _ (λ _. (refl, refl)) (λ _. (refl, refl))
+
+pub returns-in-Owns : goal.returns-in-Owns
+returns-in-Owns c =
     let a = c.args in
-    let w = world_of a.records.now a.stamps.now a.state in
-    let k = kept w a.ns a.settings _ _ (area-is a.c (sym c.is_owns.ensures ∙ c.if-is_owns.false) _ (to_z-of_z {w = w32} (record { sfits = c.area_id_of-id.type_inv }) ∙ c.area_id_of-id.ensures)) in
-    (c.arena_area.ensures ∙ k.0, k.1, k.2)
+    let k = keeps (world_of a.records.now a.stamps.now a.state) a.ns a.settings (query_of a.c) in
+    (search rules, k.0, k.1)
+
+pub returns-in-ArenaArea : goal.returns-in-ArenaArea
+returns-in-ArenaArea c =
+    let a = c.args in
+    let k = keeps (world_of a.records.now a.stamps.now a.state) a.ns a.settings (query_of a.c) in
+    (search rules, k.0, k.1)

@@ -1,9 +1,8 @@
 -- A claim: rows 4 and 5, then by what the search says. The machine holds the id's bits, and reads back the id that came in.
-use Rattle.std.specs.Prelude.{◌≡◌}
-use Rattle.state.proofs.Prelude.{eq-eqb, ne_eqb, true}
+use Rattle.std.specs.Prelude.{◌≡◌, ◌<◌, Some, None}
+use Rattle.state.proofs.Prelude.{eq-eqb, ne_eqb, arith}
 use Rattle.std.proofs.Math.Facts.{to_z-of_z}
-use Rattle.claiming.specs.Search.{is_run, search_from}
-use Rattle.claiming.proofs.SearchLaws.{some-wanted}
+use Rattle.claiming.specs.Search.{search_from}
 use Rattle.claiming.proofs.RowLaws.{searchable, grantable, zero_row, off-row, granted, missed}
 use Rattle.claiming.proofs.claim.Goals as goal
 
@@ -12,31 +11,31 @@ returns-then-n-eq0 c =
     let a = c.args in
     λ stamps. rw c.refuse.ensures (zero_row a.records.now stamps a.state a.settings a.id a.n a.commits c.requires (eq-eqb a.n 0 c.if-n-eq0.true))
 
-pub returns-then-not-is_allowed : goal.returns-then-not-is_allowed
-returns-then-not-is_allowed c =
+pub returns-then-not-arena_allowed : goal.returns-then-not-arena_allowed
+returns-then-not-arena_allowed c =
     let a = c.args in
-    λ stamps. rw c.refuse-then-not-is_allowed.ensures (off-row a.records.now stamps a.state a.settings a.id a.n a.commits c.requires (ne_eqb a.n 0 c.if-n-eq0.false) (cc (to_z-of_z c.ranges.id)))
+    λ stamps. rw c.refuse-then-not-arena_allowed.ensures
+    (off-row a.records.now stamps a.state a.settings a.id a.n a.commits c.requires (ne_eqb a.n 0 c.if-n-eq0.false) (cc (to_z-of_z c.ranges.id)))
 
-pub search-v-requires : goal.search-v-requires
-search-v-requires c = let a = c.args in (searchable a.records.now a.state c.requires.0, some-wanted a.n (ne_eqb a.n 0 c.if-n-eq0.false))
+pub search-requires : goal.search-requires
+search-requires c = let some : 0 < c.args.n = omega arith in (searchable c.args.records.now c.args.state c.requires.0, some)
 
-pub grant_found-requires : goal.grant_found-requires
-grant_found-requires c =
+pub grant-requires : goal.grant-requires
+grant-requires c =
     let a = c.args in
-    let v : c.search-v.result ≡ search_from a.records.now a.id a.n 0 a.state.count = cc (to_z-of_z c.ranges.id) in
-    let run : is_run (search_from a.records.now a.id a.n 0 a.state.count) ≡ true = cc in
-    rw v (run, grantable a.records.now a.state c.requires.0 a.id a.n run)
+    let found : search_from a.records.now a.id a.n 0 a.state.count ≡ Some c.in-Some.place = cc (to_z-of_z c.ranges.id) in
+    grantable a.records.now a.state c.requires.0 a.id a.n c.in-Some.place found
 
-pub returns-then-is_run : goal.returns-then-is_run
-returns-then-is_run c =
+pub returns-in-Some : goal.returns-in-Some
+returns-in-Some c =
     let a = c.args in
-    let v : c.search-v.result ≡ search_from a.records.now a.id a.n 0 a.state.count = cc (to_z-of_z c.ranges.id) in
-    λ stamps. rw (c.grant_found.ensures.0, c.grant_found.ensures.1, v)
-    (granted a.records.now stamps a.state a.settings a.id a.n a.commits c.requires (ne_eqb a.n 0 c.if-n-eq0.false) (cc (to_z-of_z c.ranges.id)) (cc))
+    let found : search_from a.records.now a.id a.n 0 a.state.count ≡ Some c.in-Some.place = cc (to_z-of_z c.ranges.id) in
+    λ stamps. rw (c.grant.ensures.0, c.grant.ensures.1)
+    (granted a.records.now stamps a.state a.settings a.id a.n a.commits c.requires (ne_eqb a.n 0 c.if-n-eq0.false) (cc (to_z-of_z c.ranges.id)) c.in-Some.place found)
 
-pub returns : goal.returns
-returns c =
+pub returns-in-None : goal.returns-in-None
+returns-in-None c =
     let a = c.args in
-    let v : c.search-v.result ≡ search_from a.records.now a.id a.n 0 a.state.count = cc (to_z-of_z c.ranges.id) in
-    λ stamps. rw (c.miss.ensures, c.chunk_size-size.ensures, to_z-of_z c.ranges.id)
-    (missed a.records.now stamps a.state a.settings a.id a.n a.commits c.requires (ne_eqb a.n 0 c.if-n-eq0.false) (cc (to_z-of_z c.ranges.id)) (cc))
+    let vain : search_from a.records.now a.id a.n 0 a.state.count ≡ None = cc (to_z-of_z c.ranges.id) in
+    λ stamps. rw (c.miss.ensures, c.chunk_size.ensures, to_z-of_z c.ranges.id)
+    (missed a.records.now stamps a.state a.settings a.id a.n a.commits c.requires (ne_eqb a.n 0 c.if-n-eq0.false) (cc (to_z-of_z c.ranges.id)) vain)

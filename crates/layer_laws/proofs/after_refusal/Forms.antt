@@ -1,6 +1,6 @@
 -- Every outcome of a call is of one of six forms: what holds of each of them holds of the call. Assumes nothing.
 use Rattle.std.specs.Prelude.{◌≡◌, ◌∷◌, ◌⊎◌, ◌+◌, ◌-◌, ◌*◌, ◌/◌, ◌%◌, ◌<◌, ◌≤◌}
-use Rattle.layer.proofs.Prelude.{refl, sym, ap, ◌∙◌, subst, Bool, true, false, not, List, [], inl, inr, ⊎_elim, ℕ, zero, suc, arith, eqb-false, eqb, leb, ltb, ℤ, pos, negsuc, set, set-get_or, Refusal, Broken, QuestionOpen, Range, NoRun, by_cond, Found, At, Nothing, and_both, Arena, is_on, Commitment, Untold, Committed, Uncommitted, grown_arena, take_run, give_back_run, commit_run, dirty_run, finish_grant, tell_run, pend_run, release_run, sweep_due, next_asked, disarm, borrow_chunk, unpend_chunk, return_chunk, next_wait, rearm_at, rearm, stamps_of, World, Outcome, blank, state_with, world_of, outcome, after, turn_down, calm, refuse, first_of, at, bad_range, sound, ask_memory, bad_count, with_record, with_stamps, grows, search_of, claim_of, purge_reply, swept_reply, visit_at, visit, sweep_from, is_for, counted, fail_reply, answer_commit, resume, answer_memory, answer_to, answer_of, Call, reserve, manage, adopt, claim, release, sweep, answer, owns, area, sweep_of, step_on, act, query, rules, stays_pending, sweeps_none}
+use Rattle.layer.proofs.Prelude.{refl, sym, ap, ◌∙◌, subst, Bool, true, false, not, List, [], inl, inr, ⊎_elim, ℕ, zero, suc, arith, eqb-false, eqb, leb, ltb, ℤ, pos, negsuc, set, set-get_or, Refusal, Broken, QuestionOpen, Range, NoRun, by_cond, Option, Some, None, and_both, Arena, is_on, Commitment, Untold, Committed, Uncommitted, grown_arena, take_run, give_back_run, commit_run, dirty_run, finish_grant, tell_run, pend_run, release_run, sweep_due, next_asked, disarm, borrow_chunk, unpend_chunk, return_chunk, next_wait, rearm_at, rearm, stamps_of, World, Outcome, blank, state_with, world_of, outcome, after, turn_down, calm, refuse, first_of, at, bad_range, sound, ask_memory, bad_count, with_record, with_stamps, grows, search_of, claim_of, purge_reply, swept_reply, visit_at, visit, sweep_from, is_for, counted, fail_reply, answer_commit, resume, answer_memory, answer_to, answer_of, Call, reserve, manage, adopt, claim, release, sweep, answer, owns, area, sweep_of, step_on, act, query, rules, stays_pending, sweeps_none}
 use Rattle.layer.specs.declared.Settings.{Settings}
 use Rattle.layer.specs.declared.Sweep.{Sweep}
 use Rattle.layer.specs.declared.Question.{Question}
@@ -101,9 +101,9 @@ return-head a j true true = refl
 return-head a j true false = refl
 return-head a j false decommit = refl
 
-rearm-at-head : (a : Arena) (now : ℕ) (f : Found) → head_of (rearm_at a now f) ≡ head_of a
-rearm-at-head a now (At w) = refl
-rearm-at-head a now Nothing = refl
+rearm-at-head : (a : Arena) (now : ℕ) (f : Option ℕ) → head_of (rearm_at a now f) ≡ head_of a
+rearm-at-head a now (Some w) = refl
+rearm-at-head a now None = refl
 
 rearm-head : (a : Arena) (stamps : List ℕ) (force : Bool) (now delay : ℕ) → head_of (rearm a stamps force now delay) ≡ head_of a
 unfolding rearm
@@ -183,9 +183,9 @@ module _ (S : ℕ) (l : List Arena) (stamps : List ℕ) (k : ℕ) (mark : Bool) 
     unfolding visit purge_reply
     visit-forms w m i a from rest stand e on = go (next_asked a (stamps_of stamps i) w.force w.now w.delay from)
       where
-        go : (found : Found) → P (visit_at S stamps k mark w m i a rest found)
-        go (At j) = f.purges _ i j _ w (stand-put l k m k i _ (borrow-head a j ∙ e) stand)
-        go Nothing = on _ (stand-put l k m k i _ (rearm-head a (stamps_of stamps i) w.force w.now w.delay ∙ e) stand)
+        go : (found : Option ℕ) → P (visit_at S stamps k mark w m i a rest found)
+        go (Some j) = f.purges _ i j _ w (stand-put l k m k i _ (borrow-head a j ∙ e) stand)
+        go None = on _ (stand-put l k m k i _ (rearm-head a (stamps_of stamps i) w.force w.now w.delay ∙ e) stand)
 
     sweep-forms : (w : Sweep) (left i : ℕ) (m : List Arena) → Stand l k m k → P (sweep_from S stamps k mark w left i m)
     unfolding sweep_from swept_reply

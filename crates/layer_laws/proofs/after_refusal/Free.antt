@@ -1,6 +1,6 @@
 -- The answers that document 01 leaves free, and that the layer never comes to them. Assumes nothing.
 use Rattle.std.specs.Prelude.{◌≡◌, ◌&&◌, ◌∷◌, ◌+◌, ◌*◌, ◌<◌, ◌≤◌}
-use Rattle.layer.proofs.Prelude.{refl, sym, ap, ap₂, ◌∙◌, subst, Bool, true, false, cond, not, List, [], ⊎_elim, ℕ, zero, suc, arith, leb-false, eqb-true, eqb, negsuc, length, set, set-get_or, NoRun, CommitRefused, lt-or-le, Found, At, Nothing, all, least, First, first_says, Arena, is_on, reserved_arena, free, find_run, run_committed, run_fresh, take_run, give_back_run, commit_run, dirty_run, finish_grant, Rows, never, Outcome, blank, state_with, world_of, outcome, turn_down, calm, Row, first_of, at, is_at, ask_memory, with_record, with_stamps, eligible, serves, asks_commit, grant_arena, grant_reply, grant_found, search_at, search_of, is_for, answer_commit, answer_to}
+use Rattle.layer.proofs.Prelude.{refl, sym, ap, ap₂, ◌∙◌, subst, Bool, true, false, cond, not, List, [], ⊎_elim, ℕ, zero, suc, arith, leb-false, eqb-true, eqb, negsuc, length, set, set-get_or, NoRun, CommitRefused, lt-or-le, Option, Some, None, all, least, First, first_says, Arena, is_on, reserved_arena, free, find_run, run_committed, run_fresh, take_run, give_back_run, commit_run, dirty_run, finish_grant, Rows, never, Outcome, blank, state_with, world_of, outcome, turn_down, calm, Row, first_of, at, is_some, ask_memory, with_record, with_stamps, eligible, serves, asks_commit, grant_arena, grant_reply, grant_found, search_at, search_of, is_for, answer_commit, answer_to}
 use Rattle.bitmap.proofs.runs.LowestLaws.{at-iff}
 use Rattle.arena.specs.Record.{with_used, with_dirty, with_committed}
 use Rattle.arena.proofs.RowLaws.{write_same}
@@ -88,19 +88,19 @@ empty-commit S w ns settings i s granted base lent e =
 -- ---- the claim that waits
 
 -- a run of no chunk is found at once
-found_none : (a : Arena) → find_run a 0 ≡ At 0
+found_none : (a : Arena) → find_run a 0 ≡ Some 0
 unfolding find_run
 found_none a = (at-iff (free a) a.chunks 0 0).1 (record { room = omega arith; all-free = λ j u v. absurd (omega arith) }, λ t h x. absurd (omega arith))
 
 least-same : (p q : ℕ → Bool) → ((j : ℕ) → p j ≡ q j) → (s k : ℕ) → least p s k ≡ least q s k
 unfolding least
 least-same p q h s zero = refl
-least-same p q h s (suc k) = ap₂ (λ (b : Bool) (r : Found). cond b (At s) r) (h s) (least-same p q h (suc s) k)
+least-same p q h s (suc k) = ap₂ (λ (b : Bool) (r : Option ℕ). cond b (Some s) r) (h s) (least-same p q h (suc s) k)
 
 -- so every arena that is not exclusive serves it
 serves-none : (l : List Arena) (j : ℕ) → serves (negsuc 0) 0 l j ≡ not (is_on (at l j).exclusive)
 unfolding serves eligible
-serves-none l j = ap (λ (f : Found). not (is_on (at l j).exclusive) && is_at f) (found_none (at l j)) ∙ and-true (not (is_on (at l j).exclusive))
+serves-none l j = ap (λ (f : Option ℕ). not (is_on (at l j).exclusive) && is_some f) (found_none (at l j)) ∙ and-true (not (is_on (at l j).exclusive))
   where
     and-true : (b : Bool) → b && true ≡ b
     and-true true = refl
@@ -116,15 +116,15 @@ module _ (S : ℕ) (l : List Arena) (stamps : List ℕ) (k : ℕ) (mark : Bool) 
       (put_same l i _ (ap (λ (b : Arena). dirty_run b 0 0) (take_none (at l i) 0 r (omega arith)) ∙ dirty-none (at l i) 0 r (omega arith)))
 
   grant-none : (i : ℕ) (commits : Bool) → i < k
-      → grant_found S l stamps k mark i 0 commits (At 0) ≡ outcome (Claimed (at l i).base true true) (world_of l stamps (calm k mark))
+      → grant_found S l stamps k mark i 0 commits (Some 0) ≡ outcome (Claimed (at l i).base true true) (world_of l stamps (calm k mark))
   unfolding grant_arena grant_reply asks_commit run_committed run_fresh all
   grant-none i true h = granted i h
   grant-none i false h = granted i h
 
-  found : (commits : Bool) (f : Found) → First (λ i. not (is_on (at l i).exclusive)) 0 k f
+  found : (commits : Bool) (f : Option ℕ) → First (λ i. not (is_on (at l i).exclusive)) 0 k f
       → search_at S l stamps k mark 0 commits (turn_down NoRun (calm k mark)) f ≡ empty_run (world_of l stamps (calm k mark)) f
-  found commits (At i) h = ap (grant_found S l stamps k mark i 0 commits) (found_none (at l i)) ∙ grant-none i commits (omega (arith, h.1))
-  found commits Nothing h = refl
+  found commits (Some i) h = ap (grant_found S l stamps k mark i 0 commits) (found_none (at l i)) ∙ grant-none i commits (omega (arith, h.1))
+  found commits None h = refl
 
   search-none : (commits : Bool) → search_of S l stamps k mark (negsuc 0) 0 commits (turn_down NoRun (calm k mark)) ≡ empty_claim (world_of l stamps (calm k mark))
   unfolding search_of

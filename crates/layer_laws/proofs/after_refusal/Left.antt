@@ -1,6 +1,6 @@
 -- What each refusal leaves: one theorem over every call, `refusal-leaves`. Assumes nothing.
 use Rattle.std.specs.Prelude.{◌≡◌, ◌&&◌, ◌⊎◌, ◌+◌, ◌-◌, ◌*◌, ◌%◌}
-use Rattle.layer.proofs.Prelude.{refl, sym, subst, Bool, true, false, not, List, inl, inr, ℕ, zero, suc, eqb, leb, ℤ, negsuc, set, Refusal, Broken, NoSuchQuestion, Range, NotWhole, NoRun, CommitRefused, ChunkCount, TableFull, MemoryRefused, by_cond, Found, At, Nothing, least, Arena, reserved_arena, find_run, sweep_due, next_asked, disarm, return_chunk, stamps_of, World, Outcome, state_with, world_of, after, turn_down, calm, at, bad_range, sound, too_large, ask_memory, bad_count, with_record, with_stamps, serves, asks_commit, grant_arena, grant_reply, is_negative, miss_reply, grant_found, search_at, search_of, claim_of, purge_reply, swept_reply, visit_at, visit, sweep_from, cause_refusal, counted, fail_reply, answer_commit, answer_purge, resume, answer_memory, is_for, answer_to, answer_of, Act, Call, reserve, manage, adopt, claim, release, sweep, answer, owns, area, sweep_of, act, act_on, query, rules, stays_pending, sweeps_none}
+use Rattle.layer.proofs.Prelude.{refl, sym, subst, Bool, true, false, not, List, inl, inr, ℕ, zero, suc, eqb, leb, ℤ, negsuc, set, Refusal, Broken, NoSuchQuestion, Range, NotWhole, NoRun, CommitRefused, ChunkCount, TableFull, MemoryRefused, by_cond, Option, Some, None, least, Arena, reserved_arena, find_run, sweep_due, next_asked, disarm, return_chunk, stamps_of, World, Outcome, state_with, world_of, after, turn_down, calm, at, bad_range, sound, too_large, ask_memory, bad_count, with_record, with_stamps, serves, asks_commit, grant_arena, grant_reply, is_negative, miss_reply, grant_found, search_at, search_of, claim_of, purge_reply, swept_reply, visit_at, visit, sweep_from, cause_refusal, counted, fail_reply, answer_commit, answer_purge, resume, answer_memory, is_for, answer_to, answer_of, Act, Call, reserve, manage, adopt, claim, release, sweep, answer, owns, area, sweep_of, act, act_on, query, rules, stays_pending, sweeps_none}
 use Rattle.layer.specs.declared.Settings.{Settings}
 use Rattle.layer.specs.declared.Sweep.{Sweep}
 use Rattle.layer.specs.declared.Question.{Question}
@@ -37,9 +37,9 @@ module _ (S : ℕ) (stamps : List ℕ) (k : ℕ) (mark : Bool) (w : Sweep) where
   unfolding visit purge_reply
   visit-grants l i from a rest h = go (next_asked a (stamps_of stamps i) w.force w.now w.delay from)
     where
-      go : (f : Found) → Grants (visit_at S stamps k mark w l i a rest f)
-      go (At j) = λ why e. asks-not _ why e
-      go Nothing = h _
+      go : (f : Option ℕ) → Grants (visit_at S stamps k mark w l i a rest f)
+      go (Some j) = λ why e. asks-not _ why e
+      go None = h _
 
   sweep-grants : (f i : ℕ) (l : List Arena) → Grants (sweep_from S stamps k mark w f i l)
   unfolding sweep_from swept_reply
@@ -60,15 +60,15 @@ module _ (S : ℕ) (l : List Arena) (stamps : List ℕ) (k : ℕ) (mark : Bool) 
       T : Outcome → Type 0
       T o = (why : Refusal) → o.answer ≡ Refused why → R why o.world
 
-      run : (i : ℕ) (f : Found) → T (grant_found S l stamps k mark i n commits f)
-      run i (At s) =
+      run : (i : ℕ) (f : Option ℕ) → T (grant_found S l stamps k mark i n commits f)
+      run i (Some s) =
           by_cond (λ (r : Reply). T (after r (set l i (grant_arena (at l i) s n commits)) stamps)) (asks_commit (at l i) s n commits) _ _
           (λ e why f. absurd (asks-not _ why f)) (λ e why f. absurd (claimed-not _ _ _ why f))
-      run i Nothing = λ why e. subst (λ (x : Refusal). R x (world_of l stamps (calm k mark))) (same-refusal why NoRun e) none
+      run i None = λ why e. subst (λ (x : Refusal). R x (world_of l stamps (calm k mark))) (same-refusal why NoRun e) none
 
-      go : (f : Found) → T (search_at S l stamps k mark n commits missed f)
-      go (At i) = run i (find_run (at l i) n)
-      go Nothing = m
+      go : (f : Option ℕ) → T (search_at S l stamps k mark n commits missed f)
+      go (Some i) = run i (find_run (at l i) n)
+      go None = m
 
 -- ---- answers
 

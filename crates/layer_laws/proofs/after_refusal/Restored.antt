@@ -1,7 +1,7 @@
 -- "11 restores the used bits": a grant whose commit is answered no leaves the world as it was before the grant. "11 [may leave] a new arena": the one that
 -- the grant's search was made in. Assumes nothing.
 use Rattle.std.specs.Prelude.{◌≡◌, ◌&&◌, ◌∷◌, ◌*◌, ◌%◌, ◌<◌, ◌≤◌}
-use Rattle.layer.proofs.Prelude.{refl, ap, ◌∙◌, subst, Bool, true, false, not, List, [], ⊎_elim, ℕ, zero, suc, arith, leb-false, ltb-false, eqb, leb, ℤ, negsuc, length, set, length-set, set-get_or, Refusal, NoRun, CommitRefused, unless, by_cond, lt-or-le, Found, At, Nothing, least, First, first_says, page_size_sound, Arena, new_arena, reserved_arena, find_run, take_run, give_back_run, Rows, World, Outcome, blank, state_with, world_of, outcome, after, turn_down, calm, at, bad_range, sound, too_large, ask_memory, bad_count, with_record, with_stamps, serves, asks_commit, grant_arena, grant_reply, miss_reply, is_negative, grant_found, search_at, search_of, claim_of, is_for, resume, answer_of, claim, answer, act, rules}
+use Rattle.layer.proofs.Prelude.{refl, ap, ◌∙◌, subst, Bool, true, false, not, List, [], ⊎_elim, ℕ, zero, suc, arith, leb-false, ltb-false, eqb, leb, ℤ, negsuc, length, set, length-set, set-get_or, Refusal, NoRun, CommitRefused, unless, by_cond, lt-or-le, Option, Some, None, least, First, first_says, page_size_sound, Arena, new_arena, reserved_arena, find_run, take_run, give_back_run, Rows, World, Outcome, blank, state_with, world_of, outcome, after, turn_down, calm, at, bad_range, sound, too_large, ask_memory, bad_count, with_record, with_stamps, serves, asks_commit, grant_arena, grant_reply, miss_reply, is_negative, grant_found, search_at, search_of, claim_of, is_for, resume, answer_of, claim, answer, act, rules}
 use Rattle.arena.proofs.Changes.{grant-give-back}
 use Rattle.layer.specs.declared.Settings.{Settings}
 use Rattle.layer.specs.declared.Question.{Question}
@@ -27,7 +27,7 @@ set-again [] i a b = refl
 set-again (x ∷ l) zero a b = refl
 set-again (x ∷ l) (suc i) a b = ap (λ (m : List Arena). x ∷ m) (set-again l i a b)
 
-undone : (l : List Arena) (i n s : ℕ) → i < length l → Rows (at l i) → (at l i).chunks ≤ 1024 → find_run (at l i) n ≡ At s
+undone : (l : List Arena) (i n s : ℕ) → i < length l → Rows (at l i) → (at l i).chunks ≤ 1024 → find_run (at l i) n ≡ Some s
     → set (set l i (take_run (at l i) s n)) i (give_back_run (at (set l i (take_run (at l i) s n)) i) s n) ≡ l
 undone l i n s h r c e =
     set-again l i (take_run (at l i) s n) _
@@ -59,20 +59,20 @@ module _ (S : ℕ) (later : ℕ) (others : Settings) (base : ℕ) where
         U : Outcome → Type 0
         U = Undone (world_of l stamps (calm k mark))
 
-        grant : (i s : ℕ) → i < k → find_run (at l i) n ≡ At s → (b : Bool) → asks_commit (at l i) s n commits ≡ b → U (grant_found S l stamps k mark i n commits (At s))
+        grant : (i s : ℕ) → i < k → find_run (at l i) n ≡ Some s → (b : Bool) → asks_commit (at l i) s n commits ≡ b → U (grant_found S l stamps k mark i n commits (Some s))
         grant i s h f true e =
             rw e (λ address bytes g t.
             no_step (set l i (take_run (at l i) s n)) stamps k mark i s n t
             ∙ ap (λ (m : List Arena). outcome (Refused CommitRefused) (world_of m stamps (calm k mark))) (undone l i n s (omega (arith, long, few)) (fit i h).0 (fit i h).1 f))
         grant i s h f false e = rw e (λ address bytes g t. claimed-no-commit _ _ _ address bytes g)
 
-        run : (i : ℕ) → i < k → (f : Found) → find_run (at l i) n ≡ f → U (grant_found S l stamps k mark i n commits f)
-        run i h (At s) e = grant i s h e (asks_commit (at l i) s n commits) refl
-        run i h Nothing e = λ address bytes g t. refused-no-commit NoRun address bytes g
+        run : (i : ℕ) → i < k → (f : Option ℕ) → find_run (at l i) n ≡ f → U (grant_found S l stamps k mark i n commits f)
+        run i h (Some s) e = grant i s h e (asks_commit (at l i) s n commits) refl
+        run i h None e = λ address bytes g t. refused-no-commit NoRun address bytes g
 
-        go : (f : Found) → First (serves id n l) 0 k f → U (search_at S l stamps k mark n commits missed f)
-        go (At i) h = run i (omega (arith, h.1)) (find_run (at l i) n) refl
-        go Nothing h = m
+        go : (f : Option ℕ) → First (serves id n l) 0 k f → U (search_at S l stamps k mark n commits missed f)
+        go (Some i) h = run i (omega (arith, h.1)) (find_run (at l i) n) refl
+        go None h = m
 
     claim-undone : (id : ℤ) (n : ℕ) (commits : Bool) (settings : Settings)
         → Undone (world_of l stamps (calm k mark)) (claim_of S l stamps k mark id n commits settings)

@@ -1,6 +1,6 @@
 -- "exclusive arenas serve only those that name them": of a claim, and of one that waited for memory. Assumes nothing.
 use Rattle.std.specs.Prelude.{◌≡◌, ◌+◌, ◌*◌, ◌%◌, ◌<◌, ◌≤◌}
-use Rattle.layer.proofs.Prelude.{refl, sym, ap, ap₂, ◌∙◌, subst, Bool, true, false, true≢false, List, ⊎_elim, ℕ, suc, add-mul, mul-le-mul_right, eq-or-lt_of_le, arith, ℤ, pos, negsuc, NoRun, lt-or-le, At, Nothing, Arena, is_on, reserved_arena, find_run, bytes_of, end_of, found_inside, World, Outcome, turn_down, calm, at, meets, bad_range, sound, ask_memory, with_record, with_stamps, serves, miss_reply, search_of, answer_to, Call, claim, answer, act, rules}
+use Rattle.layer.proofs.Prelude.{refl, sym, ap, ap₂, ◌∙◌, subst, Bool, true, false, true≢false, List, ⊎_elim, ℕ, suc, add-mul, mul-le-mul_right, eq-or-lt_of_le, arith, ℤ, pos, negsuc, NoRun, lt-or-le, Some, None, Arena, is_on, reserved_arena, find_run, bytes_of, end_of, found_inside, World, Outcome, turn_down, calm, at, meets, bad_range, sound, ask_memory, with_record, with_stamps, serves, miss_reply, search_of, answer_to, Call, claim, answer, act, rules}
 use Rattle.layer.specs.declared.Settings.{Settings}
 use Rattle.layer.specs.declared.Question.{Question}
 use Rattle.layer.specs.declared.Question.TheVariants.{Committing, Reserving}
@@ -61,42 +61,42 @@ module _ (S : ℕ) (l : List Arena) (k : ℕ) (id : ℤ) (n address : ℕ) (f : 
       go (negsuc x) g s = not-shared x n l f.arena j e (ap (λ (z : ℤ). serves z n l f.arena) (sym g) ∙ f.serves) s
 
 -- nothing is given
-not-given : {X : Type 0} (address : ℕ) → Nothing ≡ At address → X
+not-given : {X : Type 0} (address : ℕ) → None ≡ Some address → X
 not-given address e = absurd (let z : ◌≡◌ {A = ℕ} 0 1 = cc in omega arith)
 
-search-found : (S : ℕ) (l : List Arena) (stamps : List ℕ) (k : ℕ) (mark : Bool) (id : ℤ) (n : ℕ) (commits : Bool) (missed : Reply) (address : ℕ) → given_at missed.answer ≡ Nothing
-    → given_at (search_of S l stamps k mark id n commits missed).answer ≡ At address → Found-in S l k id n address
+search-found : (S : ℕ) (l : List Arena) (stamps : List ℕ) (k : ℕ) (mark : Bool) (id : ℤ) (n : ℕ) (commits : Bool) (missed : Reply) (address : ℕ) → given_at missed.answer ≡ None
+    → given_at (search_of S l stamps k mark id n commits missed).answer ≡ Some address → Found-in S l k id n address
 search-found S l stamps k mark id n commits missed address m =
     search-cases S l stamps k mark P id n commits missed (λ h e. not-given address (sym m ∙ e))
     (λ i h v. grant-cases S l stamps k mark P i n commits (λ g e. not-given address e) (λ s g e. found i h v s g e) (λ s g e. found i h v s g e))
   where
     P : Outcome → Type 0
-    P o = given_at o.answer ≡ At address → Found-in S l k id n address
+    P o = given_at o.answer ≡ Some address → Found-in S l k id n address
 
-    same : (x y : ℕ) → At x ≡ At y → x ≡ y
+    same : (x y : ℕ) → Some x ≡ Some y → x ≡ y
     same x y e = cc
 
-    found : (i : ℕ) → i < k → serves id n l i ≡ true → (s : ℕ) → find_run (at l i) n ≡ At s → At ((at l i).base + s * S) ≡ At address → Found-in S l k id n address
+    found : (i : ℕ) → i < k → serves id n l i ≡ true → (s : ℕ) → find_run (at l i) n ≡ Some s → Some ((at l i).base + s * S) ≡ Some address → Found-in S l k id n address
     found i h v s g e = record { arena = i; start = s; low = h; serves = v; room = found_inside (at l i) n s g; is = same _ address e }
 
 -- ---- a claim
 
 claim-found : (S : ℕ) (w : World) (ns : ℕ) (settings : Settings) (id : ℤ) (n : ℕ) (commits : Bool) (address : ℕ)
-    → given_at (rules S w ns settings (act (claim id n commits))).answer ≡ At address → Found-in S w.records w.state.count id n address
+    → given_at (rules S w ns settings (act (claim id n commits))).answer ≡ Some address → Found-in S w.records w.state.count id n address
 claim-found S w ns settings id n commits address =
     act-cases S w ns settings P (λ why. not-given address) (claim id n commits)
     (λ p idle. claim-cases S w.records w.stamps w.state.count w.state.mark P id n commits settings (λ e. not-given address) (λ e f. not-given address)
     (λ e f. search-found S w.records w.stamps w.state.count w.state.mark id n commits _ address missed))
   where
     P : Outcome → Type 0
-    P o = given_at o.answer ≡ At address → Found-in S w.records w.state.count id n address
+    P o = given_at o.answer ≡ Some address → Found-in S w.records w.state.count id n address
 
-    missed : given_at (miss_reply S w.state.count w.state.mark id n commits settings).answer ≡ Nothing
+    missed : given_at (miss_reply S w.state.count w.state.mark id n commits settings).answer ≡ None
     missed =
-        miss-cases S w.records w.stamps w.state.count w.state.mark (λ (o : Outcome). given_at o.answer ≡ Nothing) id n commits settings refl refl (unfold ask_memory in refl)
+        miss-cases S w.records w.stamps w.state.count w.state.mark (λ (o : Outcome). given_at o.answer ≡ None) id n commits settings refl refl (unfold ask_memory in refl)
 
 pub claim-only-named : (S : ℕ) (w : World) (ns : ℕ) (settings : Settings) (id : ℤ) (n : ℕ) (commits : Bool) (address : ℕ) → Words w → sound S w settings.page ≡ true
-    → given_at (rules S w ns settings (act (claim id n commits))).answer ≡ At address → OnlyNamed S w id n address × InNamed S w id n address
+    → given_at (rules S w ns settings (act (claim id n commits))).answer ≡ Some address → OnlyNamed S w id n address × InNamed S w id n address
 claim-only-named S w ns settings id n commits address words passed e =
     let l = w.records in
     let k = w.state.count in
@@ -122,7 +122,7 @@ module _ (S : ℕ) (l : List Arena) (stamps : List ℕ) (k : ℕ) (mark : Bool) 
 
 pub resumed-only-named : (S : ℕ) (w : World) (ns : ℕ) (settings : Settings) (chunks many : ℕ) (commit exclusive : Bool) (n : ℕ) (commits : Bool) (base address : ℕ) → Words w
     → sound S w settings.page ≡ true → w.state.question ≡ Reserving chunks many commit exclusive (Claim n commits)
-    → given_at (rules S w ns settings (answer ForMemory true base)).answer ≡ At address → OnlyNamed S w (negsuc 0) n address
+    → given_at (rules S w ns settings (answer ForMemory true base)).answer ≡ Some address → OnlyNamed S w (negsuc 0) n address
 resumed-only-named S w ns settings chunks many commit exclusive n commits base address words passed q =
     yes-cases S w ns settings P (λ why. not-given address) chunks many commit exclusive (Claim n commits) base q (λ cause. not-given address)
     (λ p range count whole room e j h x d.
@@ -139,7 +139,7 @@ resumed-only-named S w ns settings chunks many commit exclusive n commits base a
     new = reserved_arena base chunks commit exclusive
 
     P : Outcome → Type 0
-    P o = given_at o.answer ≡ At address → OnlyNamed S w (negsuc 0) n address
+    P o = given_at o.answer ≡ Some address → OnlyNamed S w (negsuc 0) n address
 
     made : k < 32 → bad_range S l k base (chunks * S) ≡ false → (1 ≤ chunks) × (chunks ≤ 1024) → base % S ≡ 0 → SoundTable S (with_record l k new) (suc k)
     made h r c whole =
@@ -191,5 +191,5 @@ asked-is-granted S w ns later settings others c address many base x fresh commit
     P : Outcome → Type 0
     P o = o.answer ≡ Claimed x fresh committed → x ≡ address
 
-    same : (y : ℕ) → At y ≡ At x → x ≡ y
+    same : (y : ℕ) → Some y ≡ Some x → x ≡ y
     same y f = cc

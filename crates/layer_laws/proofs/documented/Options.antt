@@ -1,6 +1,6 @@
 -- Options 23 and 27: the default reserve, and arenas off. Assumes nothing.
 use Rattle.std.specs.Prelude.{◌≡◌, ◌&&◌, ◌↔◌, ◌+◌, ◌*◌, ◌/◌, ◌%◌, ◌^◌, ◌<◌, ◌≤◌}
-use Rattle.layer.proofs.Prelude.{refl, sym, ap, ap₂, ◌∙◌, subst, Bool, true, false, cond, not, true≢false, List, ⊎_elim, ℕ, suc, suc-mul, mul-mod_left, div-add-mod', mul-le-mul_right, arith, eqb-true, leb-true, le-leb, eqb, leb, ℤ, pos, negsuc, Refusal, ArenasOff, by_cond, when, unless, lt-or-le, Found, At, Nothing, Starts, and_both, arena_allowed, Arena, is_on, free, find_run, never, found_inside, World, Outcome, outcome, at, is_at, sound, chunks_for, too_large, bytes_asked, ask_memory, eligible, serves, miss_reply, search_of, claim_of, claim, act, rules}
+use Rattle.layer.proofs.Prelude.{refl, sym, ap, ap₂, ◌∙◌, subst, Bool, true, false, cond, not, true≢false, List, ⊎_elim, ℕ, suc, suc-mul, mul-mod_left, div-add-mod', mul-le-mul_right, arith, eqb-true, leb-true, le-leb, eqb, leb, ℤ, pos, negsuc, Refusal, ArenasOff, by_cond, when, unless, lt-or-le, Option, Some, None, Starts, and_both, arena_allowed, Arena, is_on, free, find_run, never, found_inside, World, Outcome, outcome, at, is_some, sound, chunks_for, too_large, bytes_asked, ask_memory, eligible, serves, miss_reply, search_of, claim_of, claim, act, rules}
 use Rattle.bitmap.proofs.runs.LowestLaws.{nothing-iff}
 use Rattle.arena.proofs.Changes.{found-free}
 use Rattle.layer.specs.declared.Settings.{Settings}
@@ -68,27 +68,27 @@ arenas-off S w ns settings id n commits passed idle some = (
 -- ---- 23, arena_reserve
 
 -- an arena serves a claim that names none where it is not exclusive and has room
-has_room : (a : Arena) (n s : ℕ) → find_run a n ≡ At s → HasRoom n a
+has_room : (a : Arena) (n s : ℕ) → find_run a n ≡ Some s → HasRoom n a
 has_room a n s e = (s, found_inside a n s e, found-free a n s e)
 
-room-found : (a : Arena) (n : ℕ) → HasRoom n a → is_at (find_run a n) ≡ true
+room-found : (a : Arena) (n : ℕ) → HasRoom n a → is_some (find_run a n) ≡ true
 unfolding find_run
 room-found a n r = go (find_run a n) refl
   where
     starts : Starts (free a) a.chunks n r.0
     starts = record { room = r.1; all-free = λ j u v. ap not (r.2 j u v) }
 
-    go : (f : Found) → find_run a n ≡ f → is_at f ≡ true
-    go (At s) e = refl
-    go Nothing e = absurd ((nothing-iff (free a) a.chunks n).0 e r.0 starts)
+    go : (f : Option ℕ) → find_run a n ≡ f → is_some f ≡ true
+    go (Some s) e = refl
+    go None e = absurd ((nothing-iff (free a) a.chunks n).0 e r.0 starts)
 
 serves-room : (x n : ℕ) (l : List Arena) (i : ℕ) → serves (negsuc x) n l i ≡ true → (is_exclusive (at l i) ≡ false) × HasRoom n (at l i)
 unfolding serves
 serves-room x n l i e = (never (is_on (at l i).exclusive) (λ f. not-shared x n l i i f e refl), go (find_run (at l i) n) refl)
   where
-    go : (f : Found) → find_run (at l i) n ≡ f → HasRoom n (at l i)
-    go (At s) g = has_room (at l i) n s g
-    go Nothing g = absurd (true≢false (sym (and_both (eligible (negsuc x) i (at l i)) _ e).1 ∙ ap is_at g))
+    go : (f : Option ℕ) → find_run (at l i) n ≡ f → HasRoom n (at l i)
+    go (Some s) g = has_room (at l i) n s g
+    go None g = absurd (true≢false (sym (and_both (eligible (negsuc x) i (at l i)) _ e).1 ∙ ap is_some g))
 
 room-serves : (x n : ℕ) (l : List Arena) (i : ℕ) → is_exclusive (at l i) ≡ false → HasRoom n (at l i) → serves (negsuc x) n l i ≡ true
 unfolding serves eligible

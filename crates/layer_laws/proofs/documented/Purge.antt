@@ -1,6 +1,6 @@
 -- Option 5: a sweep's questions say whether to decommit as the option said at its first call, and a yes does what is documented. Assumes nothing.
 use Rattle.std.specs.Prelude.{◌≡◌, ◌∷◌, ◌+◌, ◌-◌, ◌<◌}
-use Rattle.layer.proofs.Prelude.{refl, sym, ap, ◌∙◌, subst, Bool, true, false, true≢false, List, [], ℕ, zero, suc, arith, ℕ_discrete, set, bit_at, within, by_cond, Stands, before, inside, stands, within-before, within-after, Found, At, Nothing, Arena, take_run, give_back_run, tell_run, sweep_due, disarm, next_asked, borrow_chunk, unpend_chunk, return_chunk, next_wait, rearm_at, rearm, stamps_of, Rows, bit_in, bit-out, World, Outcome, at, sound, ask_memory, purge_reply, swept_reply, visit_at, visit, sweep_from, is_for, counted, answer_to, Call, sweep, answer, act, rules}
+use Rattle.layer.proofs.Prelude.{refl, sym, ap, ◌∙◌, subst, Bool, true, false, true≢false, List, [], ℕ, zero, suc, arith, ℕ_discrete, set, bit_at, within, by_cond, Stands, before, inside, stands, within-before, within-after, Option, Some, None, Arena, take_run, give_back_run, tell_run, sweep_due, disarm, next_asked, borrow_chunk, unpend_chunk, return_chunk, next_wait, rearm_at, rearm, stamps_of, Rows, bit_in, bit-out, World, Outcome, at, sound, ask_memory, purge_reply, swept_reply, visit_at, visit, sweep_from, is_for, counted, answer_to, Call, sweep, answer, act, rules}
 use Rattle.bitmap.proofs.words.RowLaws.{beyond}
 use Rattle.layer.specs.declared.Settings.{Settings}
 use Rattle.layer.specs.declared.Sweep.{Sweep}
@@ -74,9 +74,9 @@ borrow-committed : (a : Arena) (j : ℕ) → (borrow_chunk a j).committed ≡ a.
 unfolding borrow_chunk take_run
 borrow-committed a j = refl
 
-rearm-at-committed : (a : Arena) (now : ℕ) (f : Found) → (rearm_at a now f).committed ≡ a.committed
-rearm-at-committed a now (At x) = refl
-rearm-at-committed a now Nothing = refl
+rearm-at-committed : (a : Arena) (now : ℕ) (f : Option ℕ) → (rearm_at a now f).committed ≡ a.committed
+rearm-at-committed a now (Some x) = refl
+rearm-at-committed a now None = refl
 
 rearm-committed : (a : Arena) (stamps : List ℕ) (force : Bool) (now delay : ℕ) → (rearm a stamps force now delay).committed ≡ a.committed
 unfolding rearm
@@ -96,9 +96,9 @@ module _ (S : ℕ) (stamps : List ℕ) (k : ℕ) (mark : Bool) (w : Sweep) (m : 
   unfolding visit purge_reply
   visit-committed l i a from rest on = go (next_asked a (stamps_of stamps i) w.force w.now w.delay from)
     where
-      go : (f : Found) → committed (at (visit_at S stamps k mark w l i a rest f).world.records m) ≡ committed (at (set l i a) m)
-      go (At j) = set-as committed l i (borrow_chunk a j) a m (borrow-committed a j)
-      go Nothing = on _ ∙ set-as committed l i (rearm a (stamps_of stamps i) w.force w.now w.delay) a m (rearm-committed a (stamps_of stamps i) w.force w.now w.delay)
+      go : (f : Option ℕ) → committed (at (visit_at S stamps k mark w l i a rest f).world.records m) ≡ committed (at (set l i a) m)
+      go (Some j) = set-as committed l i (borrow_chunk a j) a m (borrow-committed a j)
+      go None = on _ ∙ set-as committed l i (rearm a (stamps_of stamps i) w.force w.now w.delay) a m (rearm-committed a (stamps_of stamps i) w.force w.now w.delay)
 
   sweep-committed : (f i : ℕ) (l : List Arena) → committed (at (sweep_from S stamps k mark w f i l).world.records m) ≡ committed (at l m)
   unfolding sweep_from swept_reply

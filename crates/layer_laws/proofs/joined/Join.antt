@@ -1,5 +1,5 @@
 -- Wish 1 of the rules' join: the order of its refusals, by addresses, and what it leaves. Assumes nothing.
-use Rattle.std.specs.Prelude.{◌≡◌, ◌&&◌, ◌↔◌, ◌+◌, ◌-◌, ◌*◌, ◌<◌, ◌≤◌}
+use Rattle.std.specs.Prelude.{◌≡◌, ◌&&◌, ◌↔◌, ◌+◌, ◌-◌, ◌*◌, ◌<◌, ◌≤◌, Result, Ok, Err}
 use Rattle.layer.proofs.Prelude.{refl, sym, ap, ap₂, ◌∙◌, subst, Bool, true, false, cond, not, true≢false, List, ⊎_elim, ℕ, arith, ltb-true, lt-ltb, leb-true, eqb-true, leb, ltb, eqb, length, get_or, take, drop, lt-or-le, when, unless, and_both, never, Refusal, Broken, QuestionOpen, page_size_sound, bytes_of, end_of, stamps_of, overwritten, World, empty, blank, at, sound, sound_lent, sound_table, meets, is_idle, begin, JoinOutcome, join, join_outcome, joined_world, join_on, join_rules, tables_overlap, is_broken_join, is_joined}
 use lib.Seq.{length-take-le, ext_get_or, get_or-take, get_or-drop, drop-drop, drop-paste}
 use lib.ListN.{length-drop}
@@ -8,8 +8,6 @@ use Rattle.refusals.specs.Number.{number}
 use Rattle.arena.proofs.MovingLaws.{overwritten-length, before-written, where-written, past-written}
 use Rattle.layer.specs.declared.Settings.{Settings}
 use Rattle.layer.specs.declared.Question.{Question}
-use Rattle.layer.specs.declared.JoinAnswer.{JoinAnswer}
-use Rattle.layer.specs.declared.JoinAnswer.TheVariants.{NotJoined, Joined}
 use Rattle.layer.specs.World.{size_of}
 use Rattle.layer.proofs.Plain.{some-chunk}
 use Rattle.layer.proofs.Kept.{SoundWorld}
@@ -21,12 +19,12 @@ use Rattle.layer_laws.specs.joined.Join.{Sound, Calm, Overlap, OneTable, GrantLe
 
 -- ---- an answer by its number; 0 if it is a grant
 
-abbrev number_of : JoinAnswer → ℕ
-number_of (NotJoined why) = number why
-number_of (Joined rise) = 0
+abbrev number_of : Result ℕ Refusal → ℕ
+number_of (Err why) = number why
+number_of (Ok rise) = 0
 
 -- two answers of other numbers
-differ : {A : Type 0} (a b : JoinAnswer) → a ≡ b → (number_of a ≡ number_of b → ⊥) → A
+differ : {A : Type 0} (a b : Result ℕ Refusal) → a ≡ b → (number_of a ≡ number_of b → ⊥) → A
 differ a b e d = absurd (d (ap number_of e))
 
 module _ (w v : World) where
@@ -42,7 +40,7 @@ module _ (w v : World) where
   unfolding join_rules
   past_one ns settings h = unless (not (sound S w settings.page && sound S v settings.page)) _ _ (ap not (both_true settings h))
 
-  one : (ns : ℕ) (settings : Settings) → ((join w v ns settings).answer ≡ NotJoined Broken) ↔ (Sound w v settings → ⊥)
+  one : (ns : ℕ) (settings : Settings) → ((join w v ns settings).answer ≡ Err Broken) ↔ (Sound w v settings → ⊥)
   unfolding join_rules
   one ns settings = (
     (λ e h. true≢false (sym (ap is_broken_join e) ∙ broken-join S w v settings ∙ ap not (both_true settings h))),
@@ -51,7 +49,7 @@ module _ (w v : World) where
   )
 
   -- what is joined was sound
-  joined-sound : (ns : ℕ) (settings : Settings) (rise : ℕ) → (join w v ns settings).answer ≡ Joined rise → Sound w v settings
+  joined-sound : (ns : ℕ) (settings : Settings) (rise : ℕ) → (join w v ns settings).answer ≡ Ok rise → Sound w v settings
   joined-sound ns settings rise e = and_both (sound S w settings.page) (sound S v settings.page) (turned _ (sym (broken-join S w v settings) ∙ ap is_broken_join e))
     where
       turned : (b : Bool) → not b ≡ false → b ≡ true
@@ -62,8 +60,8 @@ module _ (w v : World) where
 
   abbrev later : JoinOutcome
   later =
-      cond (tables_overlap S w.records w.state.count v.records v.state.count) (join_outcome (NotJoined TablesOverlap) w v)
-      (cond (ltb 32 (w.state.count + v.state.count)) (join_outcome (NotJoined TooManyArenas) w v) (join_outcome (Joined w.state.count) (joined_world w v) empty))
+      cond (tables_overlap S w.records w.state.count v.records v.state.count) (join_outcome (Err TablesOverlap) w v)
+      (cond (ltb 32 (w.state.count + v.state.count)) (join_outcome (Err TooManyArenas) w v) (join_outcome (Ok w.state.count) (joined_world w v) empty))
 
   past_two : Calm w v → join_on S w v ≡ later
   unfolding join_on
@@ -74,12 +72,12 @@ module _ (w v : World) where
   later-number : number_of later.answer ≡ 2 → ⊥
   later-number = go (tables_overlap S w.records w.state.count v.records v.state.count) (ltb 32 (w.state.count + v.state.count))
     where
-      go : (a b : Bool) → number_of (cond a (join_outcome (NotJoined TablesOverlap) w v) (cond b (join_outcome (NotJoined TooManyArenas) w v) (join_outcome (Joined w.state.count) (joined_world w v) empty))).answer ≡ 2 → ⊥
+      go : (a b : Bool) → number_of (cond a (join_outcome (Err TablesOverlap) w v) (cond b (join_outcome (Err TooManyArenas) w v) (join_outcome (Ok w.state.count) (joined_world w v) empty))).answer ≡ 2 → ⊥
       go true b e = omega (arith, e)
       go false true e = omega (arith, e)
       go false false e = omega (arith, e)
 
-  two : (ns : ℕ) (settings : Settings) → Sound w v settings → ((join w v ns settings).answer ≡ NotJoined QuestionOpen) ↔ (Calm w v → ⊥)
+  two : (ns : ℕ) (settings : Settings) → Sound w v settings → ((join w v ns settings).answer ≡ Err QuestionOpen) ↔ (Calm w v → ⊥)
   unfolding join_on
   two ns settings h = (
     (λ e c. later-number (ap (λ (o : JoinOutcome). number_of o.answer) (sym (past_one ns settings h ∙ past_two c)) ∙ ap number_of e)),
@@ -140,36 +138,36 @@ module _ (w v : World) where
   none_found : (settings : Settings) → Sound w v settings → (Overlap w v → ⊥) → tables_overlap S w.records w.state.count v.records v.state.count ≡ false
   none_found settings sounds h = never _ (λ e. h (overlap-found settings sounds e))
 
-  past-seventeen : (settings : Settings) → Sound w v settings → (Overlap w v → ⊥) → later ≡ cond (ltb 32 (w.state.count + v.state.count)) (join_outcome (NotJoined TooManyArenas) w v) (join_outcome (Joined w.state.count) (joined_world w v) empty)
+  past-seventeen : (settings : Settings) → Sound w v settings → (Overlap w v → ⊥) → later ≡ cond (ltb 32 (w.state.count + v.state.count)) (join_outcome (Err TooManyArenas) w v) (join_outcome (Ok w.state.count) (joined_world w v) empty)
   past-seventeen settings sounds h = unless (tables_overlap S w.records w.state.count v.records v.state.count) _ _ (none_found settings sounds h)
 
-  seventeen : (ns : ℕ) (settings : Settings) → Sound w v settings → Calm w v → ((join w v ns settings).answer ≡ NotJoined TablesOverlap) ↔ Overlap w v
+  seventeen : (ns : ℕ) (settings : Settings) → Sound w v settings → Calm w v → ((join w v ns settings).answer ≡ Err TablesOverlap) ↔ Overlap w v
   seventeen ns settings h c = (
     (λ e. go (tables_overlap S w.records w.state.count v.records v.state.count) refl (ap (λ (o : JoinOutcome). o.answer) (sym (past_one ns settings h ∙ past_two c)) ∙ e)),
     (λ o. ap (λ (x : JoinOutcome). x.answer) (past_one ns settings h ∙ past_two c ∙ when (tables_overlap S w.records w.state.count v.records v.state.count) _ _ (found-overlap o))),
   )
     where
-      no : (b : Bool) → number_of (cond b (join_outcome (NotJoined TooManyArenas) w v) (join_outcome (Joined w.state.count) (joined_world w v) empty)).answer ≡ 17 → ⊥
+      no : (b : Bool) → number_of (cond b (join_outcome (Err TooManyArenas) w v) (join_outcome (Ok w.state.count) (joined_world w v) empty)).answer ≡ 17 → ⊥
       no true e = omega (arith, e)
       no false e = omega (arith, e)
 
-      go : (b : Bool) → tables_overlap S w.records w.state.count v.records v.state.count ≡ b → later.answer ≡ NotJoined TablesOverlap → Overlap w v
+      go : (b : Bool) → tables_overlap S w.records w.state.count v.records v.state.count ≡ b → later.answer ≡ Err TablesOverlap → Overlap w v
       go true f e = overlap-found settings h f
       go false f e = absurd (no (ltb 32 (w.state.count + v.state.count)) (ap (λ (o : JoinOutcome). number_of o.answer) (sym (unless (tables_overlap S w.records w.state.count v.records v.state.count) _ _ f)) ∙ ap number_of e))
 
   -- ---- row 18, and the grant
 
-  eighteen : (ns : ℕ) (settings : Settings) → Sound w v settings → Calm w v → (Overlap w v → ⊥) → ((join w v ns settings).answer ≡ NotJoined TooManyArenas) ↔ (32 < w.state.count + v.state.count)
+  eighteen : (ns : ℕ) (settings : Settings) → Sound w v settings → Calm w v → (Overlap w v → ⊥) → ((join w v ns settings).answer ≡ Err TooManyArenas) ↔ (32 < w.state.count + v.state.count)
   eighteen ns settings h c n = (
     (λ e. go (ltb 32 (w.state.count + v.state.count)) refl (ap (λ (o : JoinOutcome). o.answer) (sym (past_one ns settings h ∙ past_two c ∙ past-seventeen settings h n)) ∙ e)),
     (λ f. ap (λ (x : JoinOutcome). x.answer) (past_one ns settings h ∙ past_two c ∙ past-seventeen settings h n ∙ when (ltb 32 (w.state.count + v.state.count)) _ _ (lt-ltb 32 (w.state.count + v.state.count) f))),
   )
     where
-      go : (b : Bool) → ltb 32 (w.state.count + v.state.count) ≡ b → (cond b (join_outcome (NotJoined TooManyArenas) w v) (join_outcome (Joined w.state.count) (joined_world w v) empty)).answer ≡ NotJoined TooManyArenas → 32 < w.state.count + v.state.count
+      go : (b : Bool) → ltb 32 (w.state.count + v.state.count) ≡ b → (cond b (join_outcome (Err TooManyArenas) w v) (join_outcome (Ok w.state.count) (joined_world w v) empty)).answer ≡ Err TooManyArenas → 32 < w.state.count + v.state.count
       go true f e = ltb-true 32 (w.state.count + v.state.count) f
       go false f e = absurd (let z : ◌≡◌ {A = ℕ} 0 18 = ap number_of e in omega (arith, z))
 
-  granted : (ns : ℕ) (settings : Settings) → Sound w v settings → Calm w v → (Overlap w v → ⊥) → w.state.count + v.state.count ≤ 32 → (join w v ns settings).answer ≡ Joined w.state.count
+  granted : (ns : ℕ) (settings : Settings) → Sound w v settings → Calm w v → (Overlap w v → ⊥) → w.state.count + v.state.count ≤ 32 → (join w v ns settings).answer ≡ Ok w.state.count
   granted ns settings h c n few =
       ap (λ (x : JoinOutcome). x.answer)
       (past_one ns settings h ∙ past_two c ∙ past-seventeen settings h n
@@ -177,10 +175,10 @@ module _ (w v : World) where
 
   -- ---- what is left
 
-  stays : (ns : ℕ) (settings : Settings) (why : Refusal) → (join w v ns settings).answer ≡ NotJoined why → ((join w v ns settings).first ≡ w) × ((join w v ns settings).second ≡ v)
+  stays : (ns : ℕ) (settings : Settings) (why : Refusal) → (join w v ns settings).answer ≡ Err why → ((join w v ns settings).first ≡ w) × ((join w v ns settings).second ≡ v)
   stays ns settings why e = go (join w v ns settings) (join-comes S w v settings) e
     where
-      go : (o : JoinOutcome) → Comes S w v o → o.answer ≡ NotJoined why → (o.first ≡ w) × (o.second ≡ v)
+      go : (o : JoinOutcome) → Comes S w v o → o.answer ≡ Err why → (o.first ≡ w) × (o.second ≡ v)
       go o (both-stay a x y) e = (x, y)
       go o (one_table u is) e = absurd (true≢false (ap is_joined (sym (ap (λ (z : JoinOutcome). z.answer) is) ∙ e)))
 
@@ -277,7 +275,7 @@ grant-leaves w v ns settings rise e = go (join w v ns settings) (join-comes (siz
     both : Sound w v settings
     both = joined-sound w v ns settings rise e
 
-    go : (o : JoinOutcome) → Comes (size_of w.state) w v o → o.answer ≡ Joined rise → OneTable w v o.first × (o.second ≡ empty)
+    go : (o : JoinOutcome) → Comes (size_of w.state) w v o → o.answer ≡ Ok rise → OneTable w v o.first × (o.second ≡ empty)
     go o (both-stay a x y) f = absurd (true≢false (sym (ap is_joined f) ∙ a))
     go o (one_table u is) f =
         subst (λ (z : JoinOutcome). OneTable w v z.first × (z.second ≡ empty)) (sym is)

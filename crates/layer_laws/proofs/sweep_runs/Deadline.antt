@@ -1,6 +1,6 @@
 -- The deadline that is armed at an arena's end is the earliest stamp + delay counted from now. Assumes nothing.
 use Rattle.std.specs.Prelude.{◌≡◌, ◌&&◌, ◌+◌, ◌-◌, ◌^◌, ◌<◌, ◌≤◌}
-use Rattle.layer.proofs.Prelude.{refl, sym, ap, ap₂, ◌∙◌, subst, Bool, true, false, cond, true≢false, List, ⊎_elim, ℕ, zero, suc, eq-or-lt_of_le, arith, ltb-true, lt-ltb, get_or, bit_at, lt-or-le, Found, At, Nothing, and_both, or_one, keeps, armed, age_of, Arena, young, next_wait, rearm_at, rearm}
+use Rattle.layer.proofs.Prelude.{refl, sym, ap, ap₂, ◌∙◌, subst, Bool, true, false, cond, true≢false, List, ⊎_elim, ℕ, zero, suc, eq-or-lt_of_le, arith, ltb-true, lt-ltb, get_or, bit_at, lt-or-le, Option, Some, None, and_both, or_one, keeps, armed, age_of, Arena, young, next_wait, rearm_at, rearm}
 use Prim.Native.Nat.{min}
 use Rattle.clock.specs.Clock.{minus, plus, due_at}
 use Rattle.arena.specs.Sweeping.{nearer, nearest, wait}
@@ -18,13 +18,13 @@ module _ (p : ℕ → Bool) (f : ℕ → ℕ) where
     pub is : f place ≡ x
     pub least : (i : ℕ) → s ≤ i → i < s + k → p i ≡ true → x ≤ f i
 
-  abbrev pub Nearest : ℕ → ℕ → Found → Type 0
-  Nearest s k (At x) = Least s k x
-  Nearest s k Nothing = (i : ℕ) → s ≤ i → i < s + k → p i ≡ false
+  abbrev pub Nearest : ℕ → ℕ → Option ℕ → Type 0
+  Nearest s k (Some x) = Least s k x
+  Nearest s k None = (i : ℕ) → s ≤ i → i < s + k → p i ≡ false
 
   -- one place more, in front
-  ahead : (s k : ℕ) (b : Bool) → p s ≡ b → (r : Found) → Nearest (suc s) k r → Nearest s (suc k) (cond b (nearer (f s) r) r)
-  ahead s k true e (At y) h = ⊎_elim (λ (u : f s < y). mine u) (λ (u : y ≤ f s). theirs u) (lt-or-le (f s) y)
+  ahead : (s k : ℕ) (b : Bool) → p s ≡ b → (r : Option ℕ) → Nearest (suc s) k r → Nearest s (suc k) (cond b (nearer (f s) r) r)
+  ahead s k true e (Some y) h = ⊎_elim (λ (u : f s < y). mine u) (λ (u : y ≤ f s). theirs u) (lt-or-le (f s) y)
     where
       -- the place in front has the lesser number, or it has not
       mine : f s < y → Least s (suc k) (min (f s) y)
@@ -46,7 +46,7 @@ module _ (p : ℕ → Bool) (f : ℕ → ℕ) where
         is = h.is ∙ (let z : y ≡ min (f s) y = omega arith in z);
         least = λ i v w t. ⊎_elim (λ (x : s ≡ i). subst (λ (j : ℕ). min (f s) y ≤ f j) x (omega arith)) (λ (x : s < i). let z : y ≤ f i = h.least i x (omega arith) t in omega arith) (eq-or-lt_of_le v);
       }
-  ahead s k true e Nothing h = record {
+  ahead s k true e None h = record {
     place = s;
     low = omega arith;
     high = omega arith;
@@ -54,7 +54,7 @@ module _ (p : ℕ → Bool) (f : ℕ → ℕ) where
     is = refl;
     least = λ i v w t. ⊎_elim (λ (x : s ≡ i). subst (λ (j : ℕ). f s ≤ f j) x (omega arith)) (λ (x : s < i). absurd (true≢false (sym t ∙ h i x (omega arith)))) (eq-or-lt_of_le v);
   }
-  ahead s k false e (At y) h = record {
+  ahead s k false e (Some y) h = record {
     place = h.place;
     low = omega (arith, h.low);
     high = omega (arith, h.high);
@@ -62,7 +62,7 @@ module _ (p : ℕ → Bool) (f : ℕ → ℕ) where
     is = h.is;
     least = λ i v w t. ⊎_elim (λ (x : s ≡ i). absurd (true≢false (sym t ∙ ap p (sym x) ∙ e))) (λ (x : s < i). h.least i x (omega arith) t) (eq-or-lt_of_le v);
   }
-  ahead s k false e Nothing h = λ i v w. ⊎_elim (λ (x : s ≡ i). ap p (sym x) ∙ e) (λ (x : s < i). h i x (omega arith)) (eq-or-lt_of_le v)
+  ahead s k false e None h = λ i v w. ⊎_elim (λ (x : s ≡ i). ap p (sym x) ∙ e) (λ (x : s < i). h i x (omega arith)) (eq-or-lt_of_le v)
 
   pub nearest-says : (s k : ℕ) → Nearest s k (nearest p f s k)
   unfolding nearest
@@ -109,14 +109,14 @@ module _ (a : Arena) (stamps : List ℕ) (now delay : ℕ) (c : Clocked stamps n
   unfolding wait
   falls-due j g = due-is (get_or stamps j 0) now delay (c.2 j) c.0 c.1 g.younger
 
-  next : (f : Found) → Nearest looks (wait stamps now delay) 0 a.chunks f → Next a stamps now delay (rearm_at a now f).deadline
-  next (At x) h =
+  next : (f : Option ℕ) → Nearest looks (wait stamps now delay) 0 a.chunks f → Next a stamps now delay (rearm_at a now f).deadline
+  next (Some x) h =
       let g : Gives a stamps now delay h.place = looked h.place (omega (arith, h.high)) h.holds in
       subst (Next a stamps now delay)
       (sym (ap (λ (d : ℕ). armed d (due_at now x)) z ∙ armed-over-none (due_at now x) ∙ ap (λ (y : ℕ). or_one (due_at now y)) (sym h.is) ∙ ap or_one (falls-due h.place g)))
       (earliest h.place g
       (λ i k. let u : x ≤ wait stamps now delay i = h.least i (omega arith) (omega (arith, k.here)) (gives-looked i k) in omega (arith, counts h.place g, counts i k, h.is)))
-  next Nothing h = subst (Next a stamps now delay) (sym z) (none (λ j g. true≢false (sym (gives-looked j g) ∙ h j (omega arith) (omega (arith, g.here)))))
+  next None h = subst (Next a stamps now delay) (sym z) (none (λ j g. true≢false (sym (gives-looked j g) ∙ h j (omega arith) (omega (arith, g.here)))))
 
 -- "a next deadline of stamp + delay, wrapping, the earliest counted from now being rearmed after the arena"
 pub rearmed : Rearmed

@@ -1,6 +1,6 @@
 -- Where a sweep goes from a place on: to a question about a pending chunk, or to its end. It leaves every pending bit. Assumes nothing.
 use Rattle.std.specs.Prelude.{◌≡◌, ◌+◌, ◌-◌, ◌*◌, ◌<◌, ◌≤◌}
-use Rattle.layer.proofs.Prelude.{refl, sym, ap, ap₂, ◌∙◌, subst, Bool, true, false, List, ℕ, zero, suc, arith, length, set, length-set, bit_at, by_cond, clear_run, Stands, before, inside, stands, within-before, within-after, Found, At, Nothing, least, First, first_says, and_both, Arena, take_run, give_back_run, tell_run, sweep_due, to_ask, next_asked, disarm, borrow_chunk, unpend_chunk, return_chunk, next_wait, rearm_at, rearm, stamps_of, Rows, bit_in, bit-out, Outcome, state_with, world_of, outcome, calm, at, purge_reply, swept_reply, visit_at, visit, sweep_from}
+use Rattle.layer.proofs.Prelude.{refl, sym, ap, ap₂, ◌∙◌, subst, Bool, true, false, List, ℕ, zero, suc, arith, length, set, length-set, bit_at, by_cond, clear_run, Stands, before, inside, stands, within-before, within-after, Option, Some, None, least, First, first_says, and_both, Arena, take_run, give_back_run, tell_run, sweep_due, to_ask, next_asked, disarm, borrow_chunk, unpend_chunk, return_chunk, next_wait, rearm_at, rearm, stamps_of, Rows, bit_in, bit-out, Outcome, state_with, world_of, outcome, calm, at, purge_reply, swept_reply, visit_at, visit, sweep_from}
 use Rattle.bitmap.proofs.words.RowLaws.{beyond}
 use Rattle.layer.specs.declared.Sweep.{Sweep}
 use Rattle.layer.specs.declared.Question.TheVariants.{Purging}
@@ -25,9 +25,9 @@ borrow-pending : (a : Arena) (j : ℕ) → (borrow_chunk a j).pending ≡ a.pend
 unfolding borrow_chunk take_run
 borrow-pending a j = refl
 
-rearm-at-pending : (a : Arena) (now : ℕ) (f : Found) → (rearm_at a now f).pending ≡ a.pending
-rearm-at-pending a now (At w) = refl
-rearm-at-pending a now Nothing = refl
+rearm-at-pending : (a : Arena) (now : ℕ) (f : Option ℕ) → (rearm_at a now f).pending ≡ a.pending
+rearm-at-pending a now (Some w) = refl
+rearm-at-pending a now None = refl
 
 rearm-pending : (a : Arena) (stamps : List ℕ) (force : Bool) (now delay : ℕ) → (rearm a stamps force now delay).pending ≡ a.pending
 unfolding rearm
@@ -91,14 +91,14 @@ module _ (S : ℕ) (stamps : List ℕ) (k : ℕ) (mark : Bool) (w : Sweep) where
           let t : pending_in b ≡ pending_in a = in-as b a x y in
           omega (arith, s, t, p)
 
-      go : (f : Found) → First (to_ask a (stamps_of stamps i) w.force w.now w.delay) from (a.chunks - from) f → Goes bits (visit_at S stamps k mark w l i a rest f)
-      go (At j) f =
+      go : (f : Option ℕ) → First (to_ask a (stamps_of stamps i) w.force w.now w.delay) from (a.chunks - from) f → Goes bits (visit_at S stamps k mark w l i a rest f)
+      go (Some j) f =
           let same : at (set l i (borrow_chunk a j)) i ≡ borrow_chunk a j = at_same l i (borrow_chunk a j) there in
           asks (set l i (borrow_chunk a j)) i j (a.base + j * S) w.decommit h
           (subst (λ (b : Arena). j < b.chunks) (sym same) (omega (arith, f.0, f.1, (borrow-range a j).1)))
           (ap (λ (b : Arena). bit_at b.pending j) same ∙ ap (λ (ws : List ℕ). bit_at ws j) (borrow-pending a j) ∙ (and_both (bit_at a.pending j) _ f.2).0)
           (stored (borrow_chunk a j) (borrow-pending a j) (borrow-range a j).1) refl
-      go Nothing f =
+      go None f =
           let b = rearm a (stamps_of stamps i) w.force w.now w.delay in
           on (set l i b) (omega (arith, long, length-set l i b))
           (stored b (rearm-pending a (stamps_of stamps i) w.force w.now w.delay) (rearm-range a (stamps_of stamps i) w.force w.now w.delay).1)

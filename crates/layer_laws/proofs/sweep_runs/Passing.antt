@@ -1,7 +1,7 @@
 -- A sweep from its first call to its end: the deadline that it leaves each arena is the one that the arena's pending chunks gave at its start.
 -- Assumes nothing.
 use Rattle.std.specs.Prelude.{◌≡◌, ◌&&◌, ◌∷◌, ◌⊎◌, ◌↔◌, ◌+◌, ◌-◌, ◌*◌, ◌/◌, ◌%◌, ◌^◌, ◌<◌, ◌≤◌}
-use Rattle.layer.proofs.Prelude.{refl, sym, ap, ap₂, ◌∙◌, subst, Bool, true, false, cond, not, true≢false, List, [], inl, inr, ⊎_elim, ℕ, zero, suc, arith, ℕ_discrete, lt-ltb, not-true, ltb, ℤ, pos, negsuc, length, set, get_or, take, drop, length-set, bit_at, clear_run, by_cond, Stands, before, inside, stands, within-before, within-after, lt-or-le, Found, At, Nothing, least, First, first_says, and_both, or_one, now_ms, delay_ms, age_of, Arena, take_run, give_back_run, tell_run, sweep_due, young, to_ask, next_asked, disarm, borrow_chunk, unpend_chunk, return_chunk, rearm, stamps_of, Rows, bit_in, bit-out, World, Outcome, state_with, world_of, calm, at, sound, purge_reply, swept_reply, visit_at, visit, sweep_from, is_for, answer_purge, answer_of, Call, reserve, manage, adopt, claim, release, sweep, answer, owns, area, sweep_of, step_on, act, query, rules, sweeps_none, unless}
+use Rattle.layer.proofs.Prelude.{refl, sym, ap, ap₂, ◌∙◌, subst, Bool, true, false, cond, not, true≢false, List, [], inl, inr, ⊎_elim, ℕ, zero, suc, arith, ℕ_discrete, lt-ltb, not-true, ltb, ℤ, pos, negsuc, length, set, get_or, take, drop, length-set, bit_at, clear_run, by_cond, Stands, before, inside, stands, within-before, within-after, lt-or-le, Option, Some, None, least, First, first_says, and_both, or_one, now_ms, delay_ms, age_of, Arena, take_run, give_back_run, tell_run, sweep_due, young, to_ask, next_asked, disarm, borrow_chunk, unpend_chunk, return_chunk, rearm, stamps_of, Rows, bit_in, bit-out, World, Outcome, state_with, world_of, calm, at, sound, purge_reply, swept_reply, visit_at, visit, sweep_from, is_for, answer_purge, answer_of, Call, reserve, manage, adopt, claim, release, sweep, answer, owns, area, sweep_of, step_on, act, query, rules, sweeps_none, unless}
 use lib.Seq.{get_or-drop}
 use Rattle.bitmap.proofs.words.RowLaws.{beyond}
 use Rattle.layer.specs.declared.Settings.{Settings}
@@ -168,8 +168,8 @@ module _ (S : ℕ) (l₀ : List Arena) (stamps : List ℕ) (k : ℕ) (mark : Boo
       there : i < length l
       there = omega (arith, h, long)
 
-      go : (f : Found) → First (to_ask a (stamps_of stamps i) v.force v.now v.delay) from (a.chunks - from) f → Goes (visit_at S stamps k mark v l i a rest f)
-      go (At j) f =
+      go : (f : Option ℕ) → First (to_ask a (stamps_of stamps i) v.force v.now v.delay) from (a.chunks - from) f → Goes (visit_at S stamps k mark v l i a rest f)
+      go (Some j) f =
           let b = borrow_chunk a j in
           let same : at (set l i b) i ≡ b = at_same l i b there in
           let p = and_both (bit_at a.pending j) _ f.2 in
@@ -179,7 +179,7 @@ module _ (S : ℕ) (l₀ : List Arena) (stamps : List ℕ) (k : ℕ) (mark : Boo
             under = subst (Under l₀ stamps k v.force v.now v.delay i) (sym same) (under-as l₀ stamps k v.force v.now v.delay i a b (borrowed a j).0 (borrowed a j).1 (borrowed a j).2 u);
             old = λ e g. true≢false (sym (ap₂ (λ (x y : Bool). not x && y) e (lt-ltb (age_of v.now (get_or (stamps_of stamps i) j 0)) v.delay g.younger)) ∙ not-true (not v.force && ltb (age_of v.now (get_or (stamps_of stamps i) j 0)) v.delay) (and_both (not (not v.force && ltb (age_of v.now (get_or (stamps_of stamps i) j 0)) v.delay)) _ p.1).0);
           }) refl
-      go Nothing f =
+      go None f =
           let b = rearm a (stamps_of stamps i) v.force v.now v.delay in
           on (set l i b) (omega (arith, long, length-set l i b))
           (around-past l₀ stamps k v.force v.now v.delay i (set l i b) (around-put l₀ stamps k v.force v.now v.delay i l b around)

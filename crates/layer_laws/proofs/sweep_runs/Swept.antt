@@ -1,7 +1,7 @@
 -- A sweep puts at most as many questions as bits were pending at its start, and counts its yes answers. Each answer clears one pending bit that was set and
 -- sets none, so the questions put and the bits still pending, the asked chunk's left out, are never more than the bits at the start. Assumes nothing.
 use Rattle.std.specs.Prelude.{◌≡◌, ◌&&◌, ◌∷◌, ◌+◌, ◌-◌, ◌<◌, ◌≤◌}
-use Rattle.layer.proofs.Prelude.{refl, sym, ap, ◌∙◌, subst, Bool, true, false, cond, not, true≢false, List, [], ℕ, suc, arith, ltb, ℤ, pos, negsuc, length, bit_at, by_cond, when, unless, Refusal, Broken, QuestionOpen, NoSuchQuestion, Arena, return_chunk, World, Outcome, state_with, world_of, outcome, at, is_at, find_arena, sound, sweep_from, is_for, counted, answer_purge, answer_of, Call, reserve, manage, adopt, claim, release, sweep, answer, owns, area, area_of, sweep_of, step_on, act, query, rules, sweeps_none, act_on}
+use Rattle.layer.proofs.Prelude.{refl, sym, ap, ◌∙◌, subst, Bool, true, false, cond, not, true≢false, List, [], ℕ, suc, arith, ltb, ℤ, pos, negsuc, length, bit_at, by_cond, when, unless, Refusal, Broken, QuestionOpen, NoSuchQuestion, Arena, return_chunk, World, Outcome, state_with, world_of, outcome, at, is_some, find_arena, sound, sweep_from, is_for, counted, answer_purge, answer_of, Call, reserve, manage, adopt, claim, release, sweep, answer, owns, area, area_of, sweep_of, step_on, act, query, rules, sweeps_none, act_on}
 use native.Mathlib.Nat.{zero-add}
 use Rattle.layer.specs.declared.Settings.{Settings}
 use Rattle.layer.specs.declared.Sweep.{Sweep}
@@ -133,7 +133,7 @@ module _ (first : Sweep) (S bits : ℕ) (some : 0 < S) (l : List Arena) (stamps 
   during (answer ForMemory granted base) x = refused (answer ForMemory granted base) NoSuchQuestion
   during (answer ForGiveBack granted base) x = refused (answer ForGiveBack granted base) NoSuchQuestion
   during (answer ForNone granted base) x = refused (answer ForNone granted base) NoSuchQuestion
-  during (query (owns address)) x = stays (query (owns address)) (Owns (is_at (find_arena S l k address))) refl refl
+  during (query (owns address)) x = stays (query (owns address)) (Owns (is_some (find_arena S l k address))) refl refl
   during (query (area id)) x = stays (query (area id)) (area_of S l k id) (no-purge id) refl
 
   called : (call : Call) → After call (rules S (world_of l stamps (state_with k mark (Purging i j w))) ns settings call)

@@ -1,9 +1,7 @@
 -- Answers that document 01 leaves free: "an answer that these papers leave free is named, with what holds of it". They are those to a question about no
 -- chunk. Row 1 lets a state with such a question pass; the layer makes none. Assumes nothing.
-use Rattle.std.specs.Prelude.{◌≡◌, Bool, true, false, not, ℕ, ◌+◌, ◌*◌, ◌<◌, eqb}
+use Rattle.std.specs.Prelude.{◌≡◌, Bool, true, false, not, ℕ, ◌+◌, ◌*◌, ◌<◌, eqb, Option, Some, None}
 use Rattle.refusals.specs.declared.Refusal.TheVariants.{NoRun, CommitRefused}
-use Rattle.bitmap.specs.declared.runs.Found.{Found}
-use Rattle.bitmap.specs.declared.runs.Found.TheVariants.{At, Nothing}
 use Rattle.bitmap.specs.Lowest.{least}
 use Rattle.arena.specs.Flags.{is_on}
 use Rattle.arena.specs.Registering.{reserved_arena}
@@ -52,9 +50,9 @@ EmptyCommit S =
 -- The claim of no chunk that waits for memory. A no is answered as to every claim: 10, and the mark (`Left`). A yes goes through the same rows as
 -- for every claim; where the memory is registered, the claim is granted the empty run at the base of the lowest arena that is not exclusive, fresh
 -- and committed, or refused with 10 if there is none. The new arena stands, and nothing else changes.
-abbrev pub empty_run : World → Found → Outcome
-empty_run v (At i) = outcome (Claimed (at v.records i).base true true) v
-empty_run v Nothing = outcome (Refused NoRun) v
+abbrev pub empty_run : World → Option ℕ → Outcome
+empty_run v (Some i) = outcome (Claimed (at v.records i).base true true) v
+empty_run v None = outcome (Refused NoRun) v
 
 abbrev pub empty_claim : World → Outcome
 empty_claim v = empty_run v (least (λ i. not (is_on (at v.records i).exclusive)) 0 v.state.count)

@@ -1,9 +1,7 @@
 -- What mimalloc.h documents of memory areas (version 2.4), in its words and not read off the layer's rules. Its arena unit is a chunk of S bytes
 -- here. proofs/ holds the layer's `step` against it. Assumes nothing.
-use Rattle.std.specs.Prelude.{◌≡◌, Bool, true, false, ℕ, ◌+◌, ◌*◌, ◌%◌, ◌<◌, ◌≤◌, ℤ, pos}
+use Rattle.std.specs.Prelude.{◌≡◌, Bool, true, false, ℕ, ◌+◌, ◌*◌, ◌%◌, ◌<◌, ◌≤◌, ℤ, pos, Option, Some, None}
 use Rattle.bitmap.specs.Bits.{bit_at}
-use Rattle.bitmap.specs.declared.runs.Found.{Found}
-use Rattle.bitmap.specs.declared.runs.Found.TheVariants.{At, Nothing}
 use Rattle.arena.specs.declared.Arena.{Arena}
 use Rattle.arena.specs.Flags.{is_on}
 use Rattle.layer.specs.declared.Question.TheVariants.{Reserving}
@@ -98,18 +96,18 @@ TakenAsUsed a = (j : ℕ) → j < a.chunks → (bit_at a.committed j ≡ true) �
 -- ---- "exclusive arenas serve only those that name them"
 
 -- where the chunks lie that an answer grants, or asks to commit before they are granted
-abbrev pub given_at : Answer → Found
-given_at (Refused why) = Nothing
-given_at (Asks (AskCommit address many)) = At address
-given_at (Asks (AskPurge address many decommit)) = Nothing
-given_at (Asks (AskMemory many align commit large)) = Nothing
-given_at (Asks (AskGiveBack address many)) = Nothing
-given_at (Registered id) = Nothing
-given_at (Claimed address fresh committed) = At address
-given_at Released = Nothing
-given_at (Swept count) = Nothing
-given_at (Owns whether) = Nothing
-given_at (Area base many) = Nothing
+abbrev pub given_at : Answer → Option ℕ
+given_at (Refused why) = None
+given_at (Asks (AskCommit address many)) = Some address
+given_at (Asks (AskPurge address many decommit)) = None
+given_at (Asks (AskMemory many align commit large)) = None
+given_at (Asks (AskGiveBack address many)) = None
+given_at (Registered id) = None
+given_at (Claimed address fresh committed) = Some address
+given_at Released = None
+given_at (Swept count) = None
+given_at (Owns whether) = None
+given_at (Area base many) = None
 
 -- what a claim at an id is given lies in no exclusive arena, but in one that it names
 abbrev pub OnlyNamed : ℕ → World → ℤ → ℕ → ℕ → Type 0

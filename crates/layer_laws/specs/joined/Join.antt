@@ -1,5 +1,5 @@
 -- What wish 1 of document 02 says of a join, of anything that joins two tables: when it is turned down, by which number, and what it leaves. 17 is stated by addresses. Assumes nothing.
-use Rattle.std.specs.Prelude.{◌≡◌, true, ◌&&◌, ◌↔◌, ℕ, ◌+◌, ◌<◌, ◌≤◌}
+use Rattle.std.specs.Prelude.{◌≡◌, true, ◌&&◌, ◌↔◌, ℕ, ◌+◌, ◌<◌, ◌≤◌, Ok, Err}
 use Rattle.refusals.specs.declared.Refusal.{Refusal}
 use Rattle.refusals.specs.declared.Refusal.TheVariants.{Broken, QuestionOpen, TablesOverlap, TooManyArenas}
 use Rattle.options.specs.Options.{page_size_sound}
@@ -7,7 +7,6 @@ use Rattle.arena.specs.Rows.{Rows}
 use Rattle.arena.specs.Stamps.{stamps_of}
 use Rattle.layer.specs.declared.Settings.{Settings}
 use Rattle.layer.specs.declared.Question.TheVariants.{Idle}
-use Rattle.layer.specs.declared.JoinAnswer.TheVariants.{NotJoined, Joined}
 use Rattle.layer.specs.World.{World, size_of, empty}
 use Rattle.layer.specs.Table.{at, sound}
 use Rattle.layer.specs.Joining.{JoinOutcome}
@@ -38,32 +37,32 @@ pub record Overlap (w v : World) : Type 0 where
 -- ---- the order: 1, 2, 17, 18
 
 abbrev pub OneExactly : Join → Type 0
-OneExactly J = (w v : World) (ns : ℕ) (settings : Settings) → ((J w v ns settings).answer ≡ NotJoined Broken) ↔ (Sound w v settings → ⊥)
+OneExactly J = (w v : World) (ns : ℕ) (settings : Settings) → ((J w v ns settings).answer ≡ Err Broken) ↔ (Sound w v settings → ⊥)
 
 abbrev pub TwoExactly : Join → Type 0
-TwoExactly J = (w v : World) (ns : ℕ) (settings : Settings) → Sound w v settings → ((J w v ns settings).answer ≡ NotJoined QuestionOpen) ↔ (Calm w v → ⊥)
+TwoExactly J = (w v : World) (ns : ℕ) (settings : Settings) → Sound w v settings → ((J w v ns settings).answer ≡ Err QuestionOpen) ↔ (Calm w v → ⊥)
 
 abbrev pub SeventeenExactly : Join → Type 0
 SeventeenExactly J =
-    (w v : World) (ns : ℕ) (settings : Settings) → Sound w v settings → Calm w v → ((J w v ns settings).answer ≡ NotJoined TablesOverlap) ↔ Overlap w v
+    (w v : World) (ns : ℕ) (settings : Settings) → Sound w v settings → Calm w v → ((J w v ns settings).answer ≡ Err TablesOverlap) ↔ Overlap w v
 
 abbrev pub EighteenExactly : Join → Type 0
 EighteenExactly J =
     (w v : World) (ns : ℕ) (settings : Settings) → Sound w v settings → Calm w v → (Overlap w v → ⊥)
-    → ((J w v ns settings).answer ≡ NotJoined TooManyArenas) ↔ (32 < w.state.count + v.state.count)
+    → ((J w v ns settings).answer ≡ Err TooManyArenas) ↔ (32 < w.state.count + v.state.count)
 
 -- else they are joined, and the answer is by how much the second's ids rise
 abbrev pub Otherwise : Join → Type 0
 Otherwise J =
     (w v : World) (ns : ℕ) (settings : Settings) → Sound w v settings → Calm w v → (Overlap w v → ⊥) → w.state.count + v.state.count ≤ 32
-    → (J w v ns settings).answer ≡ Joined w.state.count
+    → (J w v ns settings).answer ≡ Ok w.state.count
 
 -- ---- what it leaves
 
 -- a refusal leaves both tables
 abbrev pub RefusalLeaves : Join → Type 0
 RefusalLeaves J =
-    (w v : World) (ns : ℕ) (settings : Settings) (why : Refusal) → (J w v ns settings).answer ≡ NotJoined why
+    (w v : World) (ns : ℕ) (settings : Settings) (why : Refusal) → (J w v ns settings).answer ≡ Err why
     → ((J w v ns settings).first ≡ w) × ((J w v ns settings).second ≡ v)
 
 -- of tables w and v the first becomes u
@@ -84,7 +83,7 @@ pub record OneTable (w v u : World) : Type 0 where
 -- "The second is left empty"
 abbrev pub GrantLeaves : Join → Type 0
 GrantLeaves J =
-    (w v : World) (ns : ℕ) (settings : Settings) (rise : ℕ) → (J w v ns settings).answer ≡ Joined rise
+    (w v : World) (ns : ℕ) (settings : Settings) (rise : ℕ) → (J w v ns settings).answer ≡ Ok rise
     → OneTable w v (J w v ns settings).first × ((J w v ns settings).second ≡ empty)
 
 -- the maps are of machine words, as the types of lent records say

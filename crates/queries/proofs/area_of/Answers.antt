@@ -1,24 +1,18 @@
--- The head of a registered arena, read where it lies. The machine holds the id's bits, and reads back the id that came in.
-use Rattle.std.proofs.Common.{◌≡◌, true, ◌∙◌, sym, w32, to_z, of_z}
-use Rattle.std.proofs.lemmas.Int.{to_z-of_z}
-use Rattle.state.proofs.Entry.{size_fits}
-use Rattle.queries.specs.Registered.{is_registered}
-use Rattle.queries.proofs.QueryLaws.{few-chunks, area-is}
+-- A registered arena is read where it lies. The machine holds the id's bits, and reads back the id that came in.
+use Rattle.std.specs.Prelude.{◌≡◌, Some}
+use Rattle.std.proofs.Math.Facts.{to_z-of_z}
+use Rattle.queries.specs.Registered.{registered}
+use Rattle.queries.proofs.QueryLaws.{bytes-fit, area-is}
 use Rattle.queries.proofs.area_of.Goals as goal
 
-pub area_answer-requires : goal.area_answer-requires
-area_answer-requires c =
+pub overflow_mul-result : goal.overflow_mul-result
+overflow_mul-result c =
     let a = c.args in
-    let z : to_z w32 (of_z w32 a.id) ≡ a.id = to_z-of_z w32 a.id c.ranges.id in
-    let says = rw z at c.is_registered.ensures in
-    let r : is_registered a.state.count a.id ≡ true = sym says ∙ c.if-not-is_registered.false in
-    rw (c.head_at-h.ensures, c.place_of-i.ensures, c.chunk_size-size.ensures, z) (few-chunks a.records.now a.state c.requires a.id r, size_fits a.state)
+    let is : registered a.state.count a.id ≡ Some c.in-Some.i = cc (to_z-of_z c.ranges.id) in
+    record { fits = bytes-fit a.records.now a.state c.requires a.id c.in-Some.i is _ c.chunk_size.ensures _ }
 
-pub returns : goal.returns
-returns c =
+pub returns-in-Some : goal.returns-in-Some
+returns-in-Some c =
     let a = c.args in
-    let z : to_z w32 (of_z w32 a.id) ≡ a.id = to_z-of_z w32 a.id c.ranges.id in
-    let says = rw z at c.is_registered.ensures in
-    let r : is_registered a.state.count a.id ≡ true = sym says ∙ c.if-not-is_registered.false in
-    let is = rw (c.head_at-h.ensures, c.place_of-i.ensures, c.chunk_size-size.ensures, z) at c.area_answer.ensures in
-    is ∙ area-is a.records.now a.state c.requires a.id r
+    let is : registered a.state.count a.id ≡ Some c.in-Some.i = cc (to_z-of_z c.ranges.id) in
+    area-is a.records.now a.state c.requires a.id c.in-Some.i is _ c.chunk_size.ensures _

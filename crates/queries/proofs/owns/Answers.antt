@@ -1,27 +1,22 @@
 -- Row 1, then the core.
-use Rattle.std.proofs.Common.{◌≡◌, true, false, length, ◌∙◌}
-use Rattle.layer.specs.World.{size_of}
-use Rattle.layer.specs.Table.{sound_lent}
-use Rattle.layer.specs.Step.{owns, query}
-use Rattle.state.proofs.Entry.{standing, broken-row}
-use Rattle.queries.proofs.QueryLaws.{answered-row}
+use Rattle.std.proofs.Common.{◌∙◌}
+use Rattle.layer.specs.Step.{owns}
+use Rattle.queries.proofs.QueryLaws.{turned-down, handed, answered}
 use Rattle.queries.proofs.owns.Goals as goal
 
 pub returns-then-not-row_one : goal.returns-then-not-row_one
 returns-then-not-row_one c =
     let a = c.args in
-    let e : sound_lent (size_of a.state) a.records.now (length a.stamps.now) a.state a.settings.page ≡ false = cc in
-    c.refuse.ensures ∙ (broken-row a.records.now a.stamps.now a.state a.ns a.settings e (query (owns a.address))).0
+    c.refuse.ensures
+    ∙ turned-down a.records.now a.stamps.now a.state a.ns a.settings _ _ c.chunk_size-chunk_size.ensures c.row_one.ensures c.if-not-row_one.true (owns a.address)
 
-pub lies_in_arena-whether-requires : goal.lies_in_arena-whether-requires
-lies_in_arena-whether-requires c =
+pub lies_in_arena-requires : goal.lies_in_arena-requires
+lies_in_arena-requires c =
     let a = c.args in
-    let e : sound_lent (size_of a.state) a.records.now (length a.stamps.now) a.state a.settings.page ≡ true = cc in
-    standing a.records.now a.stamps.now a.state a.ns a.settings e
+    handed a.records.now a.stamps.now a.state a.ns a.settings _ _ c.chunk_size-chunk_size.ensures c.row_one.ensures c.if-not-row_one.false
 
 pub returns : goal.returns
 returns c =
     let a = c.args in
-    let e : sound_lent (size_of a.state) a.records.now (length a.stamps.now) a.state a.settings.page ≡ true = cc in
-    let says = rw (c.owns_answer-answer.ensures, c.lies_in_arena-whether.ensures) at c.answered.ensures in
-    says ∙ answered-row a.records.now a.stamps.now a.state a.ns a.settings (owns a.address) e
+    rw c.lies_in_arena.ensures
+    (answered a.records.now a.stamps.now a.state a.ns a.settings _ _ c.chunk_size-chunk_size.ensures c.row_one.ensures c.if-not-row_one.false (owns a.address))

@@ -1,22 +1,20 @@
--- Rows 1 and 2, then a reserve.
-use Rattle.state.proofs.Prelude.{act}
+-- Rows 1 and 2, then a reserve, which writes nothing.
+use Rattle.state.proofs.Prelude.{refl, sym, ◌∙◌}
+use Rattle.layer.specs.Registering.{reserve_of}
 use Rattle.layer.specs.Step.{reserve}
-use Rattle.state.proofs.Entry.{broken-row, open_row, acted}
-use Rattle.registering.proofs.ReserveLaws.{reserve-leaves}
+use Rattle.state.proofs.Entry.{turned-down, let-act}
 use Rattle.registering.proofs.reserve_os_memory_ex.Goals as goal
 
-pub returns-then-not-row_one : goal.returns-then-not-row_one
-returns-then-not-row_one c =
+pub returns-in-Err : goal.returns-in-Err
+returns-in-Err c =
     let a = c.args in
-    rw c.refuse.ensures (broken-row a.records.now a.stamps.now a.state a.ns a.settings (cc) (act (reserve a.size a.commit a.allow_large a.exclusive)))
-
-pub returns-then-not-is_idle : goal.returns-then-not-is_idle
-returns-then-not-is_idle c =
-    let a = c.args in
-    rw c.refuse-then-not-is_idle.ensures (open_row a.records.now a.stamps.now a.state a.ns a.settings (cc) (cc) (reserve a.size a.commit a.allow_large a.exclusive))
+    rw c.refuse.ensures
+    (turned-down a.records.now a.stamps.now a.state a.ns a.settings c.in-Err.why (sym c.rows_one_and_two.ensures ∙ c.in-Err.is)
+    (reserve a.size a.commit a.allow_large a.exclusive))
 
 pub returns : goal.returns
+unfolding reserve_of
 returns c =
     let a = c.args in
-    acted a.records.now a.stamps.now a.state a.ns a.settings (cc) (cc) (reserve a.size a.commit a.allow_large a.exclusive) _ _ _
-    (rw c.reserve.ensures (reserve-leaves a.records.now a.stamps.now a.state a.size a.commit a.allow_large a.exclusive a.settings.page))
+    let-act a.records.now a.stamps.now a.state a.ns a.settings _ (sym c.rows_one_and_two.ensures ∙ c.in_default.is)
+    (reserve a.size a.commit a.allow_large a.exclusive) _ _ _ (c.reserve.ensures, refl, refl)

@@ -1,5 +1,5 @@
 -- Item after item.
-use Rattle.std.proofs.Common.{◌∙◌, arith}
+use Rattle.std.proofs.Common.{◌∙◌}
 use Rattle.release_lists.proofs.ListLaws.{turns}
 use Rattle.release_lists.proofs.release_each.Goals as goal
 
@@ -7,7 +7,5 @@ pub loop-j-preserved : goal.loop-j-preserved
 loop-j-preserved c =
     let a = c.args in
     let l = c.loop-j in
-    let says = rw (c.address_at-address.ensures, c.count_at-count.ensures) at c.release_item-number.ensures in
-    rw c.put_number.ensures
-    (turns a.records.now a.stamps.now a.addresses.now a.counts.now a.answers.now a.state a.ns a.settings a.pending l.j l.records l.stamps l.answers l.invariant (omega arith) c.requires.2 (l.auto.answers ∙ c.requires.3)
-    c.release_item-number.result c.release_item-number.new.records c.release_item-number.new.stamps says)
+    turns a.records.now a.stamps.now a.addresses.now a.counts.now a.answers.now a.state a.ns a.settings a.pending l.j l.records l.stamps l.answers l.invariant c.loop-j-test.true c.requires.1 (l.auto.answers ∙ c.requires.2)
+    c.release_item.result c.release_item.new.records c.release_item.new.stamps c.release_item.ensures

@@ -9,6 +9,5 @@ release-r-requires c = let a = c.args in core-ready a.records.now a.stamps.now a
 pub returns : goal.returns
 returns c =
     let a = c.args in
-    let says = rw (c.untold-told.ensures, c.as_number-n.ensures) at c.release-r.ensures in
-    let w = item-left a.records.now a.stamps.now a.state a.ns a.settings a.address a.count a.pending c.requires c.release-r.result c.release-r.new.records c.release-r.new.stamps says in
+    let w = item-left a.records.now a.stamps.now a.state a.ns a.settings a.address a.count a.pending c.requires c.release-r.result c.release-r.new.records c.release-r.new.stamps c.release-r.ensures in
     (c.number_of.ensures ∙ w.0, w.1, w.2)

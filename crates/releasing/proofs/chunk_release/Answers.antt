@@ -1,37 +1,20 @@
 -- Rows 1 and 2, then the core.
-use Rattle.std.proofs.Common.{◌≡◌, true, false, length, ◌∙◌}
-use Rattle.layer.specs.World.{size_of}
-use Rattle.layer.specs.Table.{sound_lent}
-use Rattle.layer.specs.Answering.{is_idle}
-use Rattle.layer.specs.Step.{release, act}
-use Rattle.state.proofs.Entry.{ready, stamps-lent, broken-row, open_row, acted}
+use Rattle.std.proofs.Common.{◌∙◌, sym}
+use Rattle.layer.specs.Step.{release}
+use Rattle.state.proofs.Entry.{turned-down, handed, let-act}
 use Rattle.releasing.proofs.chunk_release.Goals as goal
 
-pub returns-then-not-row_one : goal.returns-then-not-row_one
-returns-then-not-row_one c =
+pub returns-in-Err : goal.returns-in-Err
+returns-in-Err c =
     let a = c.args in
-    let e : sound_lent (size_of a.state) a.records.now (length a.stamps.now) a.state a.settings.page ≡ false = cc in
-    let w = broken-row a.records.now a.stamps.now a.state a.ns a.settings e (act (release a.address a.n a.told a.pending)) in
+    let w = turned-down a.records.now a.stamps.now a.state a.ns a.settings c.in-Err.why (sym c.rows_one_and_two.ensures ∙ c.in-Err.is) (release a.address a.n a.told a.pending) in
     (c.refuse.ensures ∙ w.0, w.1, w.2)
 
-pub returns-then-not-is_idle : goal.returns-then-not-is_idle
-returns-then-not-is_idle c =
-    let a = c.args in
-    let e : sound_lent (size_of a.state) a.records.now (length a.stamps.now) a.state a.settings.page ≡ true = cc in
-    let i : is_idle a.state.question ≡ false = cc in
-    let w = open_row a.records.now a.stamps.now a.state a.ns a.settings e i (release a.address a.n a.told a.pending) in
-    (c.refuse-then-not-is_idle.ensures ∙ w.0, w.1, w.2)
-
 pub release-requires : goal.release-requires
-release-requires c =
-    let a = c.args in
-    let e : sound_lent (size_of a.state) a.records.now (length a.stamps.now) a.state a.settings.page ≡ true = cc in
-    let i : is_idle a.state.question ≡ true = cc in
-    (ready a.records.now a.stamps.now a.state a.ns a.settings e i, stamps-lent a.records.now a.stamps.now a.state a.ns a.settings e)
+release-requires c = let a = c.args in handed a.records.now a.stamps.now a.state a.ns a.settings c.in_default.field-0 (sym c.rows_one_and_two.ensures ∙ c.in_default.is)
 
 pub returns : goal.returns
 returns c =
     let a = c.args in
-    let e : sound_lent (size_of a.state) a.records.now (length a.stamps.now) a.state a.settings.page ≡ true = cc in
-    let i : is_idle a.state.question ≡ true = cc in
-    acted a.records.now a.stamps.now a.state a.ns a.settings e i (release a.address a.n a.told a.pending) c.release.result c.release.new.records c.release.new.stamps c.release.ensures
+    let-act a.records.now a.stamps.now a.state a.ns a.settings c.in_default.field-0 (sym c.rows_one_and_two.ensures ∙ c.in_default.is)
+    (release a.address a.n a.told a.pending) c.release.result c.release.new.records c.release.new.stamps c.release.ensures

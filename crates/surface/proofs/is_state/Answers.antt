@@ -1,17 +1,16 @@
--- Field by field, by the question: what the parts answer is what a state's numbers are.
-use Rattle.std.proofs.Common.{ap, ◌∙◌, ◌&&◌}
-use Rattle.state.proofs.Prelude.{leb}
-use Rattle.surface.proofs.FieldLaws.{calm-says, placed-says, asks-says}
+-- Where the question is open, a comparison of numbers says which test of `state_by_fields` it comes to.
+use Rattle.state.proofs.Prelude.{ne_eqb, le-leb, lt-leb}
+use Rattle.surface.proofs.FieldLaws.{state_by_fields}
 use Rattle.surface.proofs.is_state.Goals as goal
-
-pub returns-then-kind-eq0 : goal.returns-then-kind-eq0
-returns-then-kind-eq0 c = let f = c.args.f in ap (◌&&◌ (leb f.mark 1)) c.is_calm-calm.ensures ∙ calm-says f c.if-kind-eq0.true
 
 pub returns-then-kind-le2 : goal.returns-then-kind-le2
 returns-then-kind-le2 c =
-    let f = c.args.f in ap (◌&&◌ (leb f.mark 1)) c.is_placed-placed.ensures ∙ placed-says f c.if-kind-eq0.false c.if-kind-le2.true
+    let f = c.args.f in
+    let n = ne_eqb f.question 0 c.if-kind-eq0.false in
+    let l = le-leb f.question 2 c.if-kind-le2.true in search (state_by_fields f, n, l, c.is_placed-placed.ensures)
 
 pub returns : goal.returns
 returns c =
     let f = c.args.f in
-    (λ i. leb f.mark 1 && (leb f.question 4 && c.is_of_memory-asks.ensures i)) ∙ asks-says f c.if-kind-eq0.false c.if-kind-le2.false
+    let n = ne_eqb f.question 0 c.if-kind-eq0.false in
+    let l = lt-leb f.question 2 c.if-kind-le2.false in search (state_by_fields f, n, l, c.is_of_memory-asks.ensures)

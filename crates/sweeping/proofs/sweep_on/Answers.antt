@@ -1,48 +1,33 @@
 -- Each arena, until a chunk of one is asked about.
-use Rattle.std.proofs.Common.{◌≡◌, true, false, ◌∙◌, length, arith, set}
-use Rattle.arena.specs.Stamps.{stamps_of}
+use Rattle.std.proofs.Common.{◌∙◌, sym, arith}
 use Rattle.layer.specs.World.{size_of}
-use Rattle.layer.specs.Table.{at, is_at}
-use Rattle.sweeping.specs.Visit.{asked_at, visited}
-use Rattle.sweeping.proofs.SweepLaws.{is-lent, question-fits, goes_on, asks-there, asks_none}
+use Rattle.sweeping.proofs.SweepLaws.{question-fits, goes_on, asks-there, asks_none}
 use Rattle.sweeping.proofs.sweep_on.Goals as goal
 
-pub question_at-requires : goal.question_at-requires
-question_at-requires c =
+pub purge_question-requires : goal.purge_question-requires
+purge_question-requires c =
     let a = c.args in
     let l = c.loop-i in
-    let f : c.visit-f.result ≡ asked_at a.w (at l.records l.i) (stamps_of a.stamps.now l.i) = cc in
-    let m : c.visit-f.new.records ≡ set l.records l.i (visited a.w (at l.records l.i) (stamps_of a.stamps.now l.i)) = cc in
-    let e : is_at (asked_at a.w (at l.records l.i) (stamps_of a.stamps.now l.i)) ≡ true = cc in
-    let lent = is-lent a.state.count l.i (length a.records.now) (length l.records) c.requires.0.1 l.auto.records (omega arith) in
-    rw (m, c.chunk_of-j.ensures, f)
-    (question-fits (size_of a.state) a.stamps.now a.state.count a.state.mark a.w l.records l.i l.invariant.going.0 (omega arith) lent e)
+    rw c.visit.ensures.1
+    (question-fits (size_of a.state) a.stamps.now a.state.count a.state.mark a.w l.records l.i c.in-Some.j (sym c.visit.ensures.0 ∙ c.in-Some.is) l.invariant.0 c.loop-i-test.true (omega (arith, c.requires.0.1, l.auto.records, c.loop-i-test.true)))
 
-pub returns-then-is_at : goal.returns-then-is_at
-returns-then-is_at c =
+pub returns-in-Some : goal.returns-in-Some
+returns-in-Some c =
     let a = c.args in
     let l = c.loop-i in
-    let f : c.visit-f.result ≡ asked_at a.w (at l.records l.i) (stamps_of a.stamps.now l.i) = cc in
-    let m : c.visit-f.new.records ≡ set l.records l.i (visited a.w (at l.records l.i) (stamps_of a.stamps.now l.i)) = cc in
-    let e : is_at (asked_at a.w (at l.records l.i) (stamps_of a.stamps.now l.i)) ≡ true = cc in
-    let lent = is-lent a.state.count l.i (length a.records.now) (length l.records) c.requires.0.1 l.auto.records (omega arith) in
-    let g = asks-there (size_of a.state) a.stamps.now a.state.count a.state.mark a.w a.from a.records.now l.i l.records l.invariant.going (omega arith) lent e in
-    (cc, cc, cc)
+    let g = asks-there (size_of a.state) a.stamps.now a.state.count a.state.mark a.w a.from a.records.now l.i l.records l.invariant c.in-Some.j (sym c.visit.ensures.0 ∙ c.in-Some.is) c.loop-i-test.true (omega (arith, c.requires.0.1, l.auto.records, c.loop-i-test.true)) in
+    (cc, cc, g.2)
 
 pub loop-i-preserved : goal.loop-i-preserved
 loop-i-preserved c =
     let a = c.args in
     let l = c.loop-i in
-    let m : c.visit-f.new.records ≡ set l.records l.i (visited a.w (at l.records l.i) (stamps_of a.stamps.now l.i)) = cc in
-    let e : is_at (asked_at a.w (at l.records l.i) (stamps_of a.stamps.now l.i)) ≡ false = cc in
-    record {
-      going = rw m (goes_on (size_of a.state) a.stamps.now a.state.count a.state.mark a.w a.from a.records.now l.i l.records l.invariant.going (omega arith) c.requires.0.1 l.auto.records e);
-      stays = cc;
-    }
+    rw c.visit.ensures.1
+    (goes_on (size_of a.state) a.stamps.now a.state.count a.state.mark a.w a.from a.records.now l.i l.records l.invariant c.loop-i-test.true c.requires.0.1 l.auto.records (sym c.visit.ensures.0 ∙ c.in_default.is))
 
 pub returns : goal.returns
 returns c =
     let a = c.args in
     let l = c.loop-i in
-    let g = asks_none (size_of a.state) a.stamps.now a.state.count a.state.mark a.w a.from a.records.now l.i l.records l.invariant.going (omega arith) in
-    (c.swept.ensures ∙ g.0, g.1, l.invariant.stays ∙ g.2)
+    let g = asks_none (size_of a.state) a.stamps.now a.state.count a.state.mark a.w a.from a.records.now l.i l.records l.invariant c.loop-i-test.false in
+    (c.swept.ensures ∙ g.0, g.1, g.2)

@@ -1,26 +1,18 @@
--- The arena at hand is judged by its head, and the first that holds the address is the answer.
-use Rattle.std.proofs.Common.{true, false, arith, ◌∙◌}
-use Rattle.table.proofs.TurnLaws.{passed-more}
-use Rattle.table.proofs.TableLaws.{head-range, inside, inside-by-head, arena-at, no-arena}
+-- The range of a sound record tells whether the address lies in it.
+use Rattle.std.proofs.Common.{rules}
+use Rattle.arena.specs.Place.{bytes_of, end_of, is_inside}
+use Rattle.layer.specs.Table.{at, find_arena}
+use Rattle.table.proofs.TableLaws.{range-there}
+use Rattle.table.proofs.SearchLaws.{first-is-least}
 use Rattle.table.proofs.find_arena.Goals as goal
 
-pub holds-requires : goal.holds-requires
-holds-requires c = head-range c.args.chunk_size c.args.records.now c.args.k c.requires.1 c.loop-i.i (omega arith) _ c.head_at-h.ensures
-
-pub returns-then-holds : goal.returns-then-holds
-returns-then-holds c =
+pub first_arena-requires : goal.first_arena-requires
+first_arena-requires c =
     let a = c.args in
-    c.found.ensures
-    ∙ arena-at a.chunk_size a.records.now a.address a.k c.loop-i.i (omega arith) c.loop-i.invariant
-    (inside-by-head a.chunk_size a.records.now a.address c.loop-i.i _ true c.head_at-h.ensures c.if-holds.ensures)
-
-pub loop-i-preserved : goal.loop-i-preserved
-loop-i-preserved c =
-    let a = c.args in
-    passed-more false (inside a.chunk_size a.records.now a.address) c.loop-i.i c.loop-i.invariant
-    (inside-by-head a.chunk_size a.records.now a.address c.loop-i.i _ false c.head_at-h.ensures c.if-holds.ensures)
+    (c.requires.0, λ i h x e. search (rules, range-there a.chunk_size.bytes a.records.now a.k c.requires i h x.now e))
 
 pub returns : goal.returns
+unfolding find_arena is_inside end_of bytes_of
 returns c =
     let a = c.args in
-    c.nothing.ensures ∙ no-arena a.chunk_size a.records.now a.address a.k (λ j h. c.loop-i.invariant j (omega arith))
+    first-is-least a.records.now a.k _ _ (λ i. is_inside a.chunk_size.bytes (at a.records.now i) a.address) (λ i b h m. search rules) _ c.first_arena.ensures

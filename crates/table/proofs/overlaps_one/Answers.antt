@@ -1,23 +1,19 @@
--- The arena at hand is judged by its head, and one that meets the range decides.
-use Rattle.std.proofs.Common.{true, false, arith}
-use Rattle.table.proofs.TurnLaws.{passed-more}
-use Rattle.table.proofs.TableLaws.{head-range, met, met-by-head, overlap-at, no-overlap}
+-- The range of a sound record tells whether it meets the other.
+use Rattle.std.proofs.Common.{rules, ap, ◌∙◌}
+use Rattle.std.specs.Prelude.{is_some}
+use Rattle.arena.specs.Place.{bytes_of, end_of}
+use Rattle.layer.specs.Table.{at, meets, overlaps}
+use Rattle.table.proofs.TableLaws.{range-there}
+use Rattle.table.proofs.SearchLaws.{first-is-least}
 use Rattle.table.proofs.overlaps_one.Goals as goal
 
-pub meets_range-requires : goal.meets_range-requires
-meets_range-requires c = head-range c.args.chunk_size c.args.records.now c.args.k c.requires.1 c.loop-i.i (omega arith) _ c.head_at-h.ensures
-
-pub returns-then-meets_range : goal.returns-then-meets_range
-returns-then-meets_range c =
+pub first_arena-requires : goal.first_arena-requires
+first_arena-requires c =
     let a = c.args in
-    overlap-at a.chunk_size a.records.now a.base a.bytes a.k c.loop-i.i (omega arith) c.loop-i.invariant
-    (met-by-head a.chunk_size a.records.now a.base a.bytes c.loop-i.i _ true c.head_at-h.ensures c.if-meets_range.ensures)
-
-pub loop-i-preserved : goal.loop-i-preserved
-loop-i-preserved c =
-    let a = c.args in
-    passed-more false (met a.chunk_size a.records.now a.base a.bytes) c.loop-i.i c.loop-i.invariant
-    (met-by-head a.chunk_size a.records.now a.base a.bytes c.loop-i.i _ false c.head_at-h.ensures c.if-meets_range.ensures)
+    (c.requires.0, λ i h x e. search (rules, range-there a.chunk_size.bytes a.records.now a.k c.requires i h x.now e))
 
 pub returns : goal.returns
-returns c = let a = c.args in no-overlap a.chunk_size a.records.now a.base a.bytes a.k (λ j h. c.loop-i.invariant j (omega arith))
+unfolding overlaps meets end_of bytes_of
+returns c =
+    let a = c.args in
+    c.is_some.ensures ∙ ap is_some (first-is-least a.records.now a.k _ _ (λ i. meets a.chunk_size.bytes (at a.records.now i) a.base a.bytes) (λ i b h m. search rules) _ c.first_arena.ensures)

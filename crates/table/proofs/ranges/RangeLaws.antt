@@ -30,8 +30,8 @@ module _ (S : ℕ) (a : Arena) (base bytes : ℕ) where
   pub meets-iff : (meets S a base bytes ≡ true) ↔ Meeting
   meets-iff = (meets-facts, meets-test)
 
-  pub no-meeting : (Meeting → ⊥) → false ≡ meets S a base bytes
-  no-meeting h = sym (never (meets S a base bytes) (λ e. h (meets-facts e)))
+  pub no-meeting : (base < a.base + a.chunks * S → a.base < base + bytes → ⊥) → meets S a base bytes ≡ false
+  no-meeting h = never (meets S a base bytes) (λ e. let m = meets-facts e in h m.before m.after)
 
 -- ---- a block that continues an arena
 
@@ -63,6 +63,3 @@ module _ (S : ℕ) (a : Arena) (address n : ℕ) where
 
   pub grows-iff : (grows S a address n ≡ true) ↔ Growing
   grows-iff = (grows-facts, grows-test)
-
-  pub no-growth : (Growing → ⊥) → false ≡ grows S a address n
-  no-growth h = sym (never (grows S a address n) (λ e. h (grows-facts e)))

@@ -5,24 +5,28 @@ use Rattle.table.proofs.row_one.Goals as goal
 
 pub returns-then-not-lent_sound : goal.returns-then-not-lent_sound
 returns-then-not-lent_sound c =
-    let a = c.args in lengths-wrong a.chunk_size a.records.now a.stamps a.state a.page (sym c.if-not-lent_sound.ensures)
-
-pub returns-then-not-arenas_sound : goal.returns-then-not-arenas_sound
-returns-then-not-arenas_sound c =
-    let a = c.args in
-    arenas-wrong a.chunk_size a.records.now a.stamps a.state a.page (sym c.if-not-lent_sound.ensures) (sym c.if-not-arenas_sound.ensures)
+    let a = c.args in lengths-wrong a.chunk_size.bytes a.records.now a.stamps a.state a.page (sym c.lent_sound.ensures ∙ c.if-not-lent_sound.true)
 
 pub question_sound-requires : goal.question_sound-requires
 question_sound-requires c =
     let a = c.args in
-    let right = sym c.if-not-lent_sound.ensures in (
-      (lent-32 a.chunk_size a.records.now a.stamps a.state a.page right).1,
-      all-lent a.chunk_size a.records.now a.stamps a.state a.page right,
-      few-each a.chunk_size a.records.now a.stamps a.state a.page right (sym c.if-not-arenas_sound.ensures),
+    let S = a.chunk_size.bytes in
+    let right = sym c.lent_sound.ensures ∙ c.if-not-lent_sound.false in (
+      (lent-32 S a.records.now a.stamps a.state a.page right).1,
+      all-lent S a.records.now a.stamps a.state a.page right,
+      few-each S a.records.now a.stamps a.state a.page right (sym c.arenas_sound.ensures ∙ c.if-arenas_sound.true),
     )
 
-pub returns : goal.returns
-returns c =
+pub returns-then-arenas_sound : goal.returns-then-arenas_sound
+returns-then-arenas_sound c =
     let a = c.args in
-    (rw c.question_of-question.ensures at c.question_sound.ensures)
-    ∙ question-decides a.chunk_size a.records.now a.stamps a.state a.page (sym c.if-not-lent_sound.ensures) (sym c.if-not-arenas_sound.ensures)
+    let right = sym c.lent_sound.ensures ∙ c.if-not-lent_sound.false in
+    c.question_sound.ensures
+    ∙ question-decides a.chunk_size.bytes a.records.now a.stamps a.state a.page right (sym c.arenas_sound.ensures ∙ c.if-arenas_sound.true)
+
+pub returns-else-arenas_sound : goal.returns-else-arenas_sound
+returns-else-arenas_sound c =
+    let a = c.args in
+    let right = sym c.lent_sound.ensures ∙ c.if-not-lent_sound.false in
+    c.if-arenas_sound.false
+    ∙ arenas-wrong a.chunk_size.bytes a.records.now a.stamps a.state a.page right (sym c.arenas_sound.ensures ∙ c.if-arenas_sound.false)

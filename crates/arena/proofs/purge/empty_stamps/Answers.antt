@@ -1,7 +1,6 @@
--- All stamps written 0.
-use Rattle.std.proofs.Common.{◌∙◌, arith}
-use Rattle.arena.proofs.purge.StampLaws.{stamp-all}
+-- As many as the slice has are written 0.
+use Rattle.std.proofs.Common.{ℕ, replicate, ap, ◌∙◌}
 use Rattle.arena.proofs.purge.empty_stamps.Goals as goal
 
 pub returns : goal.returns
-returns c = c.stamp_run.ensures ∙ stamp-all c.args.stamps.now 32768 0 (omega arith)
+returns c = c.fill.ensures.after (λ y e. e) ∙ ap (λ (k : ℕ). replicate k 0) c.requires

@@ -1,20 +1,17 @@
--- A turn of the loop ors one word more; at its end all are ored.
-use Rattle.std.proofs.Common.{◌+◌, ◌/◌, ℕ, sym, subst, arith}
-use Rattle.arena.proofs.soundness.TailLaws.{Ored, ored-more, ored-all, last_word}
+-- At the loop's end all words behind the last chunk's are ored.
+use Rattle.std.proofs.Common.{◌≡◌, ◌+◌, ◌-◌, ◌/◌, List, ℕ, length, take, drop, fold, bit_or, nat_eq, rules, ap, length-drop, ◌∙◌, arith}
+use Rattle.std.proofs.Math.Seq.{take_all}
+use Rattle.arena.proofs.soundness.TailLaws.{last_word, tail-ored}
 use Rattle.arena.proofs.soundness.tail_is_clear.Goals as goal
-
-pub loop-i-preserved : goal.loop-i-preserved
-loop-i-preserved c =
-    let row = c.args.row.now in
-    let first = last_word row c.args.chunks in
-    let k = c.args.chunks / 32 + 1 in
-    let l = c.loop-i in (
-      omega arith,
-      omega arith,
-      subst (λ (x : ℕ). Ored row first k (l.i + 1) x) (sym c.with_word-acc.ensures.0) (ored-more row first k l.i l.acc l.invariant.0 c.with_word-acc.ensures.1 l.invariant.2),
-    )
 
 pub returns : goal.returns
 returns c =
-    let l = c.loop-i in
-    ored-all c.args.row.now c.args.chunks c.from_bit-acc.ensures.1 (omega arith) l.i l.acc (omega arith) l.invariant.2
+    let row = c.args.row.now in
+    let l = c.loop-w in
+    let k : ℕ = c.args.chunks / 32 + 1 in
+    let rest : List ℕ = drop k row in
+    let long : length rest ≡ 32 - k = simp length-drop (omega arith) in
+    let part : take (32 - k) rest ≡ rest = take_all (32 - k) rest (omega arith) in
+    let whole : take l.w-index (take (32 - k) rest) ≡ rest = ap (take l.w-index) part ∙ take_all l.w-index rest (omega (arith, ap (length {A = ℕ}) part)) in
+    ap (λ (x : ℕ). nat_eq x 0) (l.invariant ∙ ap (fold bit_or (last_word row c.args.chunks)) whole)
+    ∙ tail-ored row c.args.chunks (record { long = c.told-row; small = λ i. search rules }) c.requires

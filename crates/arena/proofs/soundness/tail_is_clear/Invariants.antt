@@ -1,11 +1,7 @@
--- What the words that are ored so far say, and how many are left.
-use Rattle.std.proofs.Common.{◌+◌, ◌-◌, ◌/◌, ◌≤◌}
-use Rattle.arena.proofs.soundness.TailLaws.{Ored, last_word}
+-- The words ored so far.
+use Rattle.std.proofs.Common.{◌≡◌, take, fold, bit_or}
+use Rattle.arena.proofs.soundness.TailLaws.{last_word}
 use Rattle.arena.proofs.soundness.tail_is_clear.Given as goal
 
-abbrev pub invariant-loop-i : goal.invariant-loop-i
-invariant-loop-i l =
-    (l.chunks / 32 + 1 ≤ l.i) × (l.i ≤ 32) × Ored l.row (last_word l.row l.chunks) (l.chunks / 32 + 1) l.i l.acc
-
-abbrev pub decreases-loop-i : goal.decreases-loop-i
-decreases-loop-i l = 32 - l.i
+abbrev pub invariant-loop-w : goal.invariant-loop-w
+invariant-loop-w l = l.tail ≡ fold bit_or (last_word l.row l.chunks) (take l.w-index l.w-items)

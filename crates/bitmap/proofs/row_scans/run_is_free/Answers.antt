@@ -10,15 +10,15 @@ loop-at-init c =
 
 pub returns-then-not-word_is_free : goal.returns-then-not-word_is_free
 returns-then-not-word_is_free c =
-    sym (all-fails (free_in c.args.lent.now c.args.used) c.args.start c.args.n c.loop-at.at c.least-m.result c.loop-at.invariant.0 (omega arith)
-    (word-run c.args.lent.now c.args.used c.loop-at.at c.least-m.result c.in_sense-w.result (omega arith) c.in_sense-w.ensures
+    sym (all-fails (free_in c.args.lent.now c.args.used) c.args.start c.args.n c.loop-at.at c.min-m.result c.loop-at.invariant.0 (omega arith)
+    (word-run c.args.lent.now c.args.used c.loop-at.at c.min-m.result c.in_sense-w.result (omega arith) c.in_sense-w.ensures
     ∙ sym c.word_is_free.ensures ∙ c.if-not-word_is_free.true))
 
 pub loop-at-preserved : goal.loop-at-preserved
 loop-at-preserved c = (
   omega arith,
   omega arith,
-  all_more (free_in c.args.lent.now c.args.used) c.args.start c.loop-at.at c.least-m.result c.loop-at.invariant.0 c.loop-at.invariant.2
-      (word-run c.args.lent.now c.args.used c.loop-at.at c.least-m.result c.in_sense-w.result (omega arith) c.in_sense-w.ensures
+  all_more (free_in c.args.lent.now c.args.used) c.args.start c.loop-at.at c.min-m.result c.loop-at.invariant.0 c.loop-at.invariant.2
+      (word-run c.args.lent.now c.args.used c.loop-at.at c.min-m.result c.in_sense-w.result (omega arith) c.in_sense-w.ensures
       ∙ sym c.word_is_free.ensures ∙ c.if-not-word_is_free.false),
 )

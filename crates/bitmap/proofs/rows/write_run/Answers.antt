@@ -19,7 +19,7 @@ loop-at-preserved c =
       omega arith,
       simp length-set (omega arith),
       set_words (2 ^ 32) l.lent (l.at / 32) c.write_word.result (omega arith) l.invariant.6,
-      turn c.args.on c.args.lent.now l.lent c.args.start l.at c.least-m.result c.write_word.result
+      turn c.args.on c.args.lent.now l.lent c.args.start l.at c.min-m.result c.write_word.result
           l.invariant.0 (omega arith) (omega arith) c.write_word.ensures l.invariant.7,
     )
 

@@ -12,4 +12,4 @@ returns-then-m-eq0 c = none-longer c.args.w c.loop-have.m c.loop-have.have c.arg
 
 pub loop-have-preserved : goal.loop-have-preserved
 loop-have-preserved c =
-    (omega arith, omega arith, omega arith, shift_and c.args.w c.loop-have.m c.loop-have.have c.least-s.result (omega arith) c.loop-have.invariant.3)
+    (omega arith, omega arith, omega arith, shift_and c.args.w c.loop-have.m c.loop-have.have c.min-s.result (omega arith) c.loop-have.invariant.3)

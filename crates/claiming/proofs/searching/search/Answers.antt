@@ -1,22 +1,23 @@
 -- The search: the first arena with a run, or none. The machine holds the id's bits, and reads back the id that came in.
-use Rattle.std.specs.Prelude.{◌≡◌}
-use Rattle.state.proofs.Prelude.{sym, ◌∙◌, arith, at}
+use Rattle.state.proofs.Prelude.{sym, ◌∙◌}
 use Rattle.std.proofs.Math.Facts.{to_z-of_z}
-use Rattle.claiming.specs.Search.{verdict_of}
-use Rattle.claiming.proofs.TurnLaws.{run-found, none_found}
+use Rattle.claiming.proofs.SearchLaws.{ends-here, goes-on, none-left}
 use Rattle.claiming.proofs.searching.search.Goals as goal
 
-pub returns-then-is_run : goal.returns-then-is_run
-returns-then-is_run c =
+pub returns-in-Some : goal.returns-in-Some
+returns-in-Some c =
     let a = c.args in
-    let i = c.loop-i.i in
-    let v : c.verdict_at-v.result ≡ verdict_of a.id a.n i (at a.records.now i) = rw (to_z-of_z c.ranges.id) at c.verdict_at-v.ensures in
-    v
-    ∙ run-found a.records.now a.id a.n a.k i c.loop-i-test.true (rw (to_z-of_z c.ranges.id) at c.loop-i.invariant.1)
-    (rw v at (sym c.is_run.ensures ∙ c.if-is_run.true))
+    let e = rw (to_z-of_z c.ranges.id) at c.run_in.ensures in
+    ends-here a.records.now a.id a.n a.k c.loop-i.i _ c.loop-i-test.true c.in-Some.start (sym e ∙ c.in-Some.is) ∙ rw (to_z-of_z c.ranges.id) at c.loop-i.invariant
+
+pub loop-i-preserved : goal.loop-i-preserved
+loop-i-preserved c =
+    let a = c.args in
+    let e = rw (to_z-of_z c.ranges.id) at c.run_in.ensures in
+    rw (to_z-of_z c.ranges.id)
+    (goes-on a.records.now a.id a.n a.k c.loop-i.i _ c.loop-i-test.true (sym e ∙ c.in_default.is) ∙ rw (to_z-of_z c.ranges.id) at c.loop-i.invariant)
 
 pub returns : goal.returns
 returns c =
     let a = c.args in
-    let over : c.loop-i.i ≡ a.k = omega arith in
-    c.without_run.ensures ∙ none_found a.records.now a.id a.n a.k (rw (to_z-of_z c.ranges.id, over) at c.loop-i.invariant.1)
+    none-left a.records.now a.id a.n a.k c.loop-i.i c.loop-i-test.false c.requires.0.0 ∙ rw (to_z-of_z c.ranges.id) at c.loop-i.invariant

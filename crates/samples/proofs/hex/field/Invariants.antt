@@ -1,10 +1,7 @@
--- Before each turn the number stands for the digits that were read.
-use Rattle.std.proofs.Common.{◌≡◌, ◌-◌, ◌≤◌}
+-- Before each turn the number is that of the digits that were read.
+use Rattle.std.specs.Prelude.{◌≡◌, Some}
 use Rattle.samples.specs.Hex.{digits_at}
 use Rattle.samples.proofs.hex.field.Given as goal
 
 abbrev pub invariant-loop-i : goal.invariant-loop-i
-invariant-loop-i l = (l.i ≤ 16) × (l.high ≡ digits_at l.text l.at l.i)
-
-abbrev pub decreases-loop-i : goal.decreases-loop-i
-decreases-loop-i l = 16 - l.i
+invariant-loop-i l = Some l.high ≡ digits_at l.text l.at l.i

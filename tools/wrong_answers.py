@@ -124,7 +124,8 @@ def grouped(edits):
 
 
 def public(name):
-    """The public functions of a crate, as the prover calls them: a method by its type, and that by the module in which it stands."""
+    """The public functions of a crate, as the prover calls them: a method by its type, and that by the module in which it stands. A
+    conversion is named after both types and stands where it is written."""
     src = ROOT / "crates" / name / "src"
     texts = {}
     for path in sorted(src.rglob("*.rt")):
@@ -139,6 +140,10 @@ def public(name):
                 of = block.group(1)
             elif line == "}":
                 of = None
+            made = re.match(r"impl (From|TryFrom)<(\w+)> for (\w+) \{", line)
+            if made:
+                trait, source, target = made.groups()
+                yield f"{inside}{target[0].upper()}{target[1:]}{trait}{source}::{'from' if trait == 'From' else 'try_from'}"
             function = re.match(r' *pub (?:extern "C" )?fn (\w+)', line)
             if function:
                 yield f"{home.get(of, inside)}{of}::{function.group(1)}" if of else inside + function.group(1)

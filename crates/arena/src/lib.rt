@@ -91,7 +91,9 @@ fn each_bit(chunks: usize, on: bool) -> [u32; 32]
 }
 
 impl Arena {
-    // A new arena: the whole record is written, with no chunk used or pending and no deadline.
+    // A new arena: the whole record is written, with no chunk used or pending and no deadline. Inlined, and `adopted` too, so that it is
+    // made where it is stored: of a call LLVM copies what comes back, by a name that the archive would need from outside.
+    #[inline(always)]
     #[tactic(auto, unfolding(crate::specs::Registering::new_arena))]
     fn new(
         base: u64,
@@ -138,6 +140,7 @@ impl Arena {
     }
 
     // A block that was in use before.
+    #[inline(always)]
     #[tactic(auto, unfolding(crate::specs::Registering::adopted_arena))]
     pub fn adopted(base: u64, chunks: usize) -> Arena
         requires { chunks ≤ 1024 }

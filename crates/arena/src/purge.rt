@@ -16,7 +16,7 @@ pub fn stamps_of(stamps: &[u32], id: usize) -> &[u32]
 }
 
 // The n stamps from s on made `at`.
-fn stamp_run(stamps: &mut [u32], s: usize, n: usize, at: u32)
+pub fn stamp_run(stamps: &mut [u32], s: usize, n: usize, at: u32)
     requires { s + n ≤ length stamps.old }
     ensures { stamps.new ≡ stamp_run stamps.old s n at }
 {

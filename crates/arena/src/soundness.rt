@@ -20,7 +20,7 @@ pub fn range_is_sound(base: u64, chunks: usize, chunk_size: ChunkSize) -> bool
 
 // Whether no bit of a map is set at or past the last chunk. The words from the last chunk's on are ored
 // together, with no branch in the loop.
-fn tail_is_clear(row: &[u32; 32], chunks: usize) -> bool
+pub fn tail_is_clear(row: &[u32; 32], chunks: usize) -> bool
     requires { chunks < 1024 }
     ensures { result ≡ clear_past chunks row.now }
 {
@@ -35,7 +35,7 @@ fn tail_is_clear(row: &[u32; 32], chunks: usize) -> bool
 impl Arena {
     // Whether no bit of the four maps is set at or past the last chunk.
     #[tactic(auto, unfolding(crate::specs::Soundness::clear_past_all))]
-    fn tails_are_clear(&self) -> bool
+    pub fn tails_are_clear(&self) -> bool
         requires { self.now.chunks < 1024 }
         ensures { result ≡ clear_past_all self.now }
     {

@@ -91,7 +91,7 @@ fn tables_overlap(
     ensures { result ≡ tables_overlap chunk_size.bytes records.now k second_records.now c }
 {
     for a in &second_records[..c] {
-        let range = Range::of(a, chunk_size);
+        let range = Range::of(a, chunk_size.bytes);
         if table::overlaps_one(records, k, chunk_size, range.base, range.bytes) {
             return true;
         }

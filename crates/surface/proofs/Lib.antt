@@ -1,4 +1,5 @@
 pub mod NumberLaws
 mod FieldLaws
 pub mod CallLaws
+pub mod ReadLaws
 pub mod Exported

@@ -1,6 +1,6 @@
 -- The searches over the table and row 1, by what their loops know. S is the size of a chunk. Assumes nothing.
 use Rattle.std.specs.Prelude.{◌≡◌, ◌&&◌, ◌||◌, ◌+◌, ◌*◌, ◌<◌, ◌≤◌}
-use Rattle.state.proofs.Prelude.{refl, sym, ap, ap₂, subst, ◌∙◌, Bool, true, false, not, List, ℕ, arith, ltb-true, ltb-false, leb-true, eqb-true, eqb, leb, ltb, length, Option, all, all-free-of, least-none, and_both, page_size_sound, Arena, bytes_of, end_of, sound_arena, range-facts, State, at, is_some, meets, overlaps, asked_id, sound_question, sound_lent}
+use Rattle.state.proofs.Prelude.{refl, sym, ap, ap₂, subst, ◌∙◌, Bool, true, false, not, List, ℕ, arith, ltb-true, ltb-false, leb-true, eqb-true, eqb, leb, ltb, length, Option, all, all-free-of, least-none, and_both, page_size_sound, Arena, bytes_of, end_of, is_inside, sound_arena, range-facts, State, at, is_some, meets, grows, overlaps, asked_id, sound_question, sound_lent}
 use Rattle.arena.specs.Soundness.{sound_range}
 use Rattle.layer.specs.Table.{apart, sound_table}
 use Rattle.state.specs.Ready.{SoundArenas}
@@ -36,6 +36,22 @@ module _ (S : ℕ) (l : List Arena) where
   pub range-there : (k : ℕ) → SoundArenas S l k → (i : ℕ) → i < k → (x : Arena) → x ≡ at l i → sound_range S x.base x.chunks ≡ true
   range-there k arenas i h x e = subst (λ (a : Arena). sound_range S a.base a.chunks ≡ true) (sym e) (range_at k arenas i h)
 
+  -- what is said of a record that was read is said of the table's
+  pub range-by-head : (i : ℕ) (a : Arena) → a ≡ at l i → sound i ≡ true → sound_range S a.base a.chunks ≡ true
+  range-by-head i a same e = subst (λ (x : Arena). sound_range S x.base x.chunks ≡ true) (sym same) (range-in S (at l i) e)
+
+  pub head-range : (k : ℕ) → SoundArenas S l k → (i : ℕ) → i < k → (a : Arena) → a ≡ at l i → sound_range S a.base a.chunks ≡ true
+  head-range = range-there
+
+  pub inside-by-head : (address i : ℕ) (a : Arena) (b : Bool) → a ≡ at l i → b ≡ is_inside S a address → is_inside S (at l i) address ≡ b
+  inside-by-head address i a b same e = subst (λ (x : Arena). is_inside S x address ≡ b) same (sym e)
+
+  pub met-by-head : (base bytes i : ℕ) (a : Arena) (b : Bool) → a ≡ at l i → b ≡ meets S a base bytes → meets S (at l i) base bytes ≡ b
+  met-by-head base bytes i a b same e = subst (λ (x : Arena). meets S x base bytes ≡ b) same (sym e)
+
+  pub continued-by-head : (address n i : ℕ) (a : Arena) (b : Bool) → a ≡ at l i → b ≡ grows S a address n → grows S (at l i) address n ≡ b
+  continued-by-head address n i a b same e = subst (λ (x : Arena). grows S x address n ≡ b) same (sym e)
+
   pub few-at : (k : ℕ) → all sound 0 k ≡ true → (i : ℕ) → i < k → (at l i).chunks ≤ 1024
   few-at k e i h = (range-facts S (at l i).base (at l i).chunks (range-in S (at l i) (all-free-of sound 0 k e i (omega arith) (omega (arith, h))))).few
 
@@ -44,6 +60,9 @@ module _ (S : ℕ) (l : List Arena) where
   -- record j meets none before it
   abbrev pub alone : ℕ → Bool
   alone j = not (overlaps S l j (at l j).base ((at l j).chunks * S))
+
+  pub alone-by-head : (j : ℕ) (a : Arena) (b : Bool) → a ≡ at l j → b ≡ not (overlaps S l j a.base (a.chunks * S)) → alone j ≡ b
+  alone-by-head j a b same e = subst (λ (x : Arena). not (overlaps S l j x.base (x.chunks * S)) ≡ b) same (sym e)
 
   apart-is : (k : ℕ) → all alone 0 k ≡ apart S l k
   unfolding apart bytes_of

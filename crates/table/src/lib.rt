@@ -48,7 +48,11 @@ pub fn find_arena(records: &[Arena], k: usize, chunk_size: ChunkSize, address: u
     requires { SoundArenas chunk_size.bytes records.now k }
     ensures { result ≡ find_arena chunk_size.bytes records.now k address }
 {
-    first_arena(records, k, |a| Range::of(a, chunk_size).holds(address))
+    first_arena(
+        records,
+        k,
+        |a| Range::of(a, chunk_size.bytes).holds(address),
+    )
 }
 
 // Whether the range of so many bytes from base on overlaps an arena.
@@ -62,7 +66,12 @@ pub fn overlaps_one(
     requires { SoundArenas chunk_size.bytes records.now k }
     ensures { result ≡ overlaps chunk_size.bytes records.now k base bytes }
 {
-    first_arena(records, k, |a| Range::of(a, chunk_size).meets(base, bytes)).is_some()
+    first_arena(
+        records,
+        k,
+        |a| Range::of(a, chunk_size.bytes).meets(base, bytes),
+    )
+    .is_some()
 }
 
 // The arena that an adopted block of n chunks at an address continues.
@@ -79,7 +88,7 @@ pub fn find_growing(
     first_arena(
         records,
         k,
-        |a| crate::ranges::grows_at(a, chunk_size, address, n),
+        |a| crate::ranges::grows_at(a, chunk_size.bytes, address, n),
     )
 }
 
@@ -105,7 +114,7 @@ fn arenas_sound(records: &[Arena], k: usize, chunk_size: ChunkSize) -> bool
         if !a.is_sound(chunk_size) {
             return false;
         }
-        let range = Range::of(a, chunk_size);
+        let range = Range::of(a, chunk_size.bytes);
         if !meets_none(records, i, chunk_size, span, range) {
             return false;
         }
@@ -138,7 +147,7 @@ fn question_sound(records: &[Arena], count: usize, question: Question) -> bool
 }
 
 // Whether the lengths, the page size and the count are sound.
-fn lent_sound(len: usize, stamps: usize, page: u64, count: usize) -> bool
+pub fn lent_sound(len: usize, stamps: usize, page: u64, count: usize) -> bool
     ensures { result ≡ (eqb len 32 && (eqb stamps 32768 && (page_size_sound page && leb count 32))) }
 {
     len == RECORDS && stamps == STAMPS && options::page_size_sound(page) && count <= RECORDS

@@ -5,7 +5,6 @@ ghost use Rattle.arena.specs.Place.{bytes_of};
 ghost use Rattle.arena.specs.Soundness.{sound_range};
 ghost use Rattle.layer.specs.Registering.{grows};
 
-use arena::chunk_size::ChunkSize;
 use arena::{Arena, MOST_CHUNKS};
 
 #[derive(Clone, Copy)]
@@ -18,13 +17,13 @@ pub struct Range {
 impl Range {
     // The range of an arena.
     #[tactic(auto, unfolding(arena::specs::Soundness::sound_range, arena::specs::Place::bytes_of))]
-    pub fn of(a: &Arena, chunk_size: ChunkSize) -> Range
-        requires { sound_range chunk_size.bytes a.now.base a.now.chunks ≡ true }
-        ensures { (result.base ≡ a.now.base) × (result.bytes ≡ bytes_of chunk_size.bytes a.now) }
+    pub fn of(a: &Arena, chunk_size: u64) -> Range
+        requires { sound_range chunk_size a.now.base a.now.chunks ≡ true }
+        ensures { (result.base ≡ a.now.base) × (result.bytes ≡ bytes_of chunk_size a.now) }
     {
         Range {
             base: a.base,
-            bytes: (a.chunks as u64) * chunk_size.bytes,
+            bytes: (a.chunks as u64) * chunk_size,
         }
     }
 
@@ -60,9 +59,9 @@ impl Range {
 // Whether a block of n chunks at an address continues the arena: "the owned, non-exclusive arena that ends at the
 // block [..] if at most 1,024 result".
 #[tactic(auto, unfolding(layer::specs::Registering::grows, arena::specs::Soundness::sound_range, arena::specs::Place::end_of, arena::specs::Place::bytes_of))]
-pub fn grows_at(a: &Arena, chunk_size: ChunkSize, address: u64, n: u64) -> bool
-    requires { sound_range chunk_size.bytes a.now.base a.now.chunks ≡ true }
-    ensures { result ≡ grows chunk_size.bytes a.now address n }
+pub fn grows_at(a: &Arena, chunk_size: u64, address: u64, n: u64) -> bool
+    requires { sound_range chunk_size a.now.base a.now.chunks ≡ true }
+    ensures { result ≡ grows chunk_size a.now address n }
 {
     arena::is_on(a.owned)
         && !arena::is_on(a.exclusive)

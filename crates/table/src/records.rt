@@ -28,7 +28,8 @@ pub fn load(records: &[Arena], i: usize) -> Arena
     requires { i < length records.now }
     ensures { result ≡ get_or records.now i blank }
 {
-    records[i]
+    let at = i;
+    records[at]
 }
 
 // The record at an id of the table is written.
@@ -36,7 +37,8 @@ pub fn store(records: &mut [Arena], id: usize, v: Arena)
     requires { id < length records.old }
     ensures { records.new ≡ set records.old id v }
 {
-    records[id] = v;
+    let at = id;
+    records[at] = v;
 }
 
 // The record at an id; a blank one past the end.

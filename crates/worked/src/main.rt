@@ -79,7 +79,10 @@ fn heading(rt: &impl Print, paper: &[u8]) -> io::Result<()> {
 }
 
 fn total(rt: &impl Print, t: Tally) -> io::Result<()> {
-    println!(rt; "{} cases, {} differ", t.cases, t.differ)
+    rt.print(t.cases)?;
+    rt.print(" cases, ")?;
+    rt.print(t.differ)?;
+    rt.println(" differ")
 }
 
 // The end of a case's line, and the case counted.
@@ -1631,8 +1634,12 @@ fn row(rt: &impl Print, pool: &[u32]) -> io::Result<()>
 
 // Takes a run of so many slices, and says where.
 fn take(rt: &impl Print, pool: &mut [u32], slices: u64) -> io::Result<()> {
+    rt.print("a run of ")?;
+    rt.print(slices)?;
     let at = numbers::address_of(slice_pool::alloc_run(pool, slices));
-    println!(rt; "a run of {slices}: slice {}", at / 65536)
+    rt.print(": slice ")?;
+    rt.print(at / 65536)?;
+    rt.println("")
 }
 
 // A pool at work: runs taken, one freed, and a shorter one taken from where it was.

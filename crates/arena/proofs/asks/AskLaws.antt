@@ -1,7 +1,8 @@
 -- A bit of a row by a mask; and the next chunk to ask about, from one pending chunk to the next. Assumes nothing.
 use Rattle.std.specs.Prelude.{◌≡◌, ◌&&◌, ◌+◌, ◌-◌, ◌/◌, ◌%◌, ◌^◌}
-use Rattle.arena.proofs.Prelude.{refl, sym, ap, ◌∙◌, Bool, true, false, cond, not, List, ℕ, bit_and, eqb, get_or, bit, bit_at, Some, None, least, Arena, young}
+use Rattle.arena.proofs.Prelude.{refl, sym, ap, ◌∙◌, subst, Bool, true, false, cond, not, List, ℕ, bit_and, eqb, get_or, bit, bit_at, Option, Some, None, least, First, Arena, young}
 use lib.Bits.{and_mask}
+use Rattle.bitmap.proofs.runs.LowestLaws.{first_says}
 use Rattle.arena.specs.Sweeping.{to_ask, next_asked}
 use Rattle.arena.proofs.ScanLaws.{scan-found, scan-none}
 
@@ -10,6 +11,10 @@ use Rattle.arena.proofs.ScanLaws.{scan-found, scan-none}
 pub bit_by_mask : (ws : List ℕ) (j : ℕ) → eqb (bit_and (get_or ws (j / 32) 0 / 2 ^ (j % 32)) 1) 1 ≡ bit_at ws j
 unfolding bit_at bit
 bit_by_mask ws j = ap (λ (x : ℕ). eqb x 1) (and_mask (get_or ws (j / 32) 0 / 2 ^ (j % 32)) 1)
+
+-- what it says that a place is the lowest
+pub least-means : (p : ℕ → Bool) (s k : ℕ) (r : Option ℕ) → r ≡ least p s k → First p s k r
+least-means p s k r e = subst (First p s k) (sym e) (first_says p s k)
 
 -- ---- the next chunk to ask about
 

@@ -27,6 +27,10 @@ if command -v g++ >/dev/null; then
     "$out/misuse_cpp"
 fi
 
+# From outside the archive needs these two names of the C library, and no other.
+needed=$(nm -u "$library" | awk '$1 == "U" { print $2 }' | sort -u | xargs)
+[ "$needed" = "memmove memset" ] || { echo "c/run.sh: the archive needs $needed" >&2; exit 1; }
+
 # A reply that is thrown away is an error for whoever asks for errors.
 thrown='#include "sirqobal.h"
 void thrown(struct sirqobal_table *table) { sirqobal_table_claim(table, 0, 1); }'

@@ -45,15 +45,16 @@ prove() {
 }
 
 # The code is many small functions in many crates, of which LLVM by default leaves too many as calls: it is told to inline
-# more (docs/DECISIONS.md), by a toolchain folder whose clang passes the word on, a folder outside the checkout, since it is made of
-# links. `rt lib` takes no such word, so `rattle build` is called here with those that it would pass.
+# more, and to keep jumps within blocks of 32 bytes (docs/DECISIONS.md), by a toolchain folder whose clang passes the words on, a
+# folder outside the checkout, since it is made of links. `rt lib` takes no such words, so `rattle build` is called here with those
+# that it would pass.
 build_archive() {
     local uses=(--extern "std=$kit/rlibs/std.rlib") name
     toolchain=$(mktemp -d)
     trap 'rm -rf "$toolchain"' EXIT
     cp -rs "$kit/toolchain/." "$toolchain"
     rm "$toolchain/bin/clang"
-    printf '#!/bin/sh\nexec "%s" "$@" -mllvm -inline-threshold=5000\n' "$kit/toolchain/bin/clang" >"$toolchain/bin/clang"
+    printf '#!/bin/sh\nexec "%s" "$@" -mllvm -inline-threshold=5000 -mllvm -x86-branches-within-32B-boundaries\n' "$kit/toolchain/bin/clang" >"$toolchain/bin/clang"
     chmod +x "$toolchain/bin/clang"
 
     for name in $(sed -n "s/^$crate staticlib: *//p" crates.txt); do

@@ -33,7 +33,9 @@ pub fn tail_is_clear(row: &[u32; 32], chunks: usize) -> bool
 }
 
 impl Arena {
-    // Whether no bit of the four maps is set at or past the last chunk.
+    // Whether no bit of the four maps is set at or past the last chunk. Not inlined: its loops would take the registers of row 1's
+    // loop over the arenas.
+    #[inline(never)]
     #[tactic(auto, unfolding(crate::specs::Soundness::clear_past_all))]
     pub fn tails_are_clear(&self) -> bool
         requires { self.now.chunks < 1024 }

@@ -58,7 +58,8 @@ fn timing_of(w: Sweep) -> Timing
     }
 }
 
-// The sweep comes to arena i. The chunk that is to be asked about, if there is one, is borrowed; else the deadline is armed anew.
+// The sweep comes to arena i. The chunk that is to be asked about, if there is one, is borrowed; else the deadline is armed anew. It is
+// looked for where the record lies, so that not all of the record is copied.
 fn visit(records: &mut [Arena], stamps: &[u32], i: usize, w: Sweep) -> Option<usize>
     requires { (i < length records.old) × (i < 32) × ((at records.old i).chunks ≤ 1024) × Stamped stamps.now }
     ensures { (result ≡ asked_at w (at records.old i) (stamps_of stamps.now i))
@@ -69,12 +70,13 @@ fn visit(records: &mut [Arena], stamps: &[u32], i: usize, w: Sweep) -> Option<us
     }
     let timing = timing_of(w);
     let own = arena::purge::stamps_of(stamps, i);
-    let a = table::records::load(records, i);
-    let Some(j) = a.next_asked(own, timing, 0) else {
+    let Some(j) = records[i].next_asked(own, timing, 0) else {
+        let a = table::records::load(records, i);
         let due = arena::waits::next_deadline(0, &a.pending, a.chunks, own, timing);
         table::records::store(records, i, a.armed_anew(due));
         return None;
     };
+    let a = table::records::load(records, i);
     table::records::store(records, i, a.first_borrowed(j));
     Some(j)
 }

@@ -16,6 +16,7 @@ returns-then-not-is_due c =
 pub first_borrowed-requires : goal.first_borrowed-requires
 first_borrowed-requires c =
     let a = c.args in
+    let n = rw (get_or_default a.records.now a.i _ blank c.requires.0) at c.next_asked.ensures in
     let f : next a.w (at a.records.now a.i) (stamps_of a.stamps.now a.i) 0 ≡ Some c.in-Some.j = cc in
     omega (arith, next-inside a.w (at a.records.now a.i) (stamps_of a.stamps.now a.i) 0 c.in-Some.j f, c.requires.2)
 
@@ -23,6 +24,7 @@ pub returns-in_default : goal.returns-in_default
 returns-in_default c =
     let a = c.args in
     let e = rw (get_or_default a.records.now a.i _ blank c.requires.0) at c.is_due.ensures in
+    let n = rw (get_or_default a.records.now a.i _ blank c.requires.0) at c.next_asked.ensures in
     let f : next a.w (at a.records.now a.i) (stamps_of a.stamps.now a.i) 0 ≡ None = cc in
     let p = armed a.records.now a.stamps.now a.i a.w (cc) f in
     (p.0, cc)
@@ -31,6 +33,7 @@ pub returns : goal.returns
 returns c =
     let a = c.args in
     let e = rw (get_or_default a.records.now a.i _ blank c.requires.0) at c.is_due.ensures in
+    let n = rw (get_or_default a.records.now a.i _ blank c.requires.0) at c.next_asked.ensures in
     let f : next a.w (at a.records.now a.i) (stamps_of a.stamps.now a.i) 0 ≡ Some c.in-Some.j = cc in
     let p = borrowed a.records.now a.stamps.now a.i a.w (cc) c.in-Some.j f in
     (p.0, cc)

@@ -1,6 +1,6 @@
 -- A sweep at one arena, case by case. Assumes nothing.
 use Rattle.std.specs.Prelude.{◌≡◌, ◌+◌, ◌-◌, ◌*◌, ◌^◌, ◌<◌, ◌≤◌}
-use Rattle.state.proofs.Prelude.{refl, sym, ap, ◌∙◌, subst, true, false, List, ℕ, arith, set, set-get_or, when, unless, by_cond, Option, Some, None, First, first_says, Arena, with_deadline, sweep_due, disarm, borrow_chunk, stamps_of, next_deadline, Sweep, blank, at}
+use Rattle.state.proofs.Prelude.{refl, sym, ap, ◌∙◌, subst, Bool, true, false, List, ℕ, arith, set, set-get_or, when, unless, by_cond, Option, Some, None, First, first_says, Arena, with_deadline, sweep_due, disarm, borrow_chunk, stamps_of, next_deadline, Sweep, blank, at}
 use native.Mathlib.Nat.{mul-le-mul_right}
 use Rattle.arena.specs.Sweeping.{to_ask, next_asked}
 use Rattle.arena.proofs.purge.MapLaws.{next-disarmed, rearm-disarmed}
@@ -10,6 +10,11 @@ use Rattle.sweeping.specs.Visit.{asked_at, left_by, visited}
 -- the next chunk to ask about
 abbrev pub next : Sweep → Arena → List ℕ → ℕ → Option ℕ
 next w a stamps from = next_asked a stamps w.force w.now w.delay from
+
+-- by what a search of the code had before it, and what it found
+pub next-found : {v : Sweep} {a b : Arena} {stamps own : List ℕ} {force : Bool} {now delay : ℕ} {r found : Option ℕ} (w : Sweep) (from : ℕ)
+    → v ≡ w → b ≡ a → own ≡ stamps → (force ≡ v.force) × (now ≡ v.now) × (delay ≡ v.delay) → r ≡ next_asked b own force now delay from → r ≡ found → next w a stamps from ≡ found
+next-found w from v b own t r found = let n = rw (b, own, t.0, t.1, t.2, v) at r in sym n ∙ found
 
 -- it lies inside its arena
 pub next-inside : (w : Sweep) (a : Arena) (stamps : List ℕ) (from j : ℕ) → next w a stamps from ≡ Some j → j < a.chunks
